@@ -1,7 +1,8 @@
 -- Functions with their bodies.
-use Rattle.std.proofs.Common.{◌≡◌, ℕ, ◌+◌, ◌<◌, ◌≤◌, drop, get_or, Bool, true, false, not, ◌&&◌, ◌||◌, nat_lt, List, [], ◌∷◌, ◌++◌, length, map, is_some, Option, Some, None, Result, Ok, Err, refl, ap, sym, ◌∙◌, subst}
+use Rattle.std.proofs.Common.{◌≡◌, ℕ, ◌+◌, ◌<◌, ◌≤◌, drop, get_or, Bool, true, false, not, ◌&&◌, ◌||◌, nat_lt, List, [], ◌∷◌, ◌++◌, length, map, is_some, Option, Some, None, Result, Ok, Err, refl, ap, sym, ◌∙◌, subst, arith}
 use Rattle.std.specs.Option.{option_map}
 use Rattle.std.specs.Result.{IsErrAnd}
+use Rattle.std.proofs.lemmas.Bool.Decides.{nat_tests}
 use Rattle.std.proofs.lemmas.Result.{err_from_is_err_and}
 use Rattle.std.proofs.lemmas.List.{length-map, length-append, map-append}
 use Rattle.ckc_text.specs.declared.place.Span.{Span}
@@ -20,7 +21,9 @@ use Rattle.region_typing_rules.specs.Verdicts.{Stop, Broken, Nameless, Verdict, 
 use Rattle.region_typing_rules.specs.Scopes.{Scope, Signature, Variable, Visible, function_named}
 use Rattle.region_typing_rules.specs.Expressions.{Places, is_tainted}
 use Rattle.region_typing_rules.specs.Statements.{statements, is_unchecked, with_local}
-use Rattle.region_typing_rules.specs.Items.{Walk, with_parameters, inside, core_function, function_body, listed, parameter_types, result_type, signature_of, agrees, all_scalar, scalar_result, with_function, is_defined, function_rules, function}
+use Rattle.bounds_flow.specs.Flows.{Knowledge, at_entry}
+use Rattle.region_typing_rules.specs.Knowing.{all_declared}
+use Rattle.region_typing_rules.specs.Items.{Walk, with_parameters, variables_in, inside, core_function, function_body, listed, parameter_types, result_type, signature_of, agrees, all_scalar, scalar_result, with_function, is_defined, function_rules, function}
 use Rattle.region_typing_scope.specs.declared.scope as code
 use Rattle.region_typing_scope.specs.declared.signature.Signature as code_signature
 use Rattle.region_typing_scope.specs.Views.{scope, signature, variable}
@@ -33,36 +36,62 @@ use Rattle.region_typing.specs.Signatures.{declared_function}
 use Rattle.region_typing_statements.proofs.Verdicts.{same_behind, in_parts}
 use Rattle.region_typing_scope.proofs.Steps.{parts_at, no_parts}
 
+-- ---- a function is entered
+
+limited_so : (limit n : ℕ) (test : Bool) → nat_lt limit n ≡ test → (picked test limit n ≤ limit) × ((k : ℕ) → k ≤ limit → k ≤ n → k ≤ picked test limit n)
+limited_so limit n true e = (omega arith, λ k h h'. h)
+limited_so limit n false e = (grind (arith, nat_tests), λ k h h'. h')
+
+-- its flow has 256 variables at most
+pub few_variables : (n : ℕ) (body : Statements) → variables_in n body ≤ 256
+few_variables n body = (limited_so 256 (n + all_declared body) (nat_lt 256 (n + all_declared body)) refl).0
+
+-- and one for each parameter
+pub for_parameters : (n : ℕ) (body : Statements) → n ≤ 16 → n ≤ variables_in n body
+for_parameters n body few = (limited_so 256 (n + all_declared body) (nat_lt 256 (n + all_declared body)) refl).1 n (omega arith) (omega arith)
+
+-- what is known where its body begins
+pub entered : (f : Signature) (ps : List code.Variable.Variable) (body : Statements) (n : ℕ) (g mid new : Scope) → n ≡ variables_in (length ps) body
+    → mid ≡ record g { locals = []; visible = []; result = f.result; in_loop = false; flow = at_entry n; breaks = None; continues = None } → new ≡ with_parameters (map variable ps) mid → new ≡ inside f (map variable ps) body g
+entered f ps body n g mid new count start is =
+    let all : n ≡ variables_in (length (map variable ps)) body = count ∙ ap (λ (k : ℕ). variables_in k body) (sym (length-map ps variable)) in
+    is ∙ ap (with_parameters (map variable ps)) (start ∙ ap (λ (k : ℕ). record g { locals = []; visible = []; result = f.result; in_loop = false; flow = at_entry k; breaks = None; continues = None }) all)
+
 -- ---- a function is left
 
 -- parameters are added to the locals alone
 pub record Added (g h : Scope) : Type 0 where
   pub types : List CType
   pub names : List Visible
-  pub same : h ≡ record g { locals = types; visible = names }
+  pub flow : Knowledge
+  pub same : h ≡ record g { locals = types; visible = names; flow = flow }
 
 parameters_added : (ps : List Variable) (g : Scope) → Added g (with_parameters ps g)
-parameters_added [] g = record { types = g.locals; names = g.visible; same = refl }
-parameters_added (p ∷ ps) g = let rest = parameters_added ps (with_local p.name p.type g) in record { types = rest.types; names = rest.names; same = rest.same }
+parameters_added [] g = record { types = g.locals; names = g.visible; flow = g.flow; same = refl }
+parameters_added (p ∷ ps) g = let rest = parameters_added ps (with_local p.name p.type g) in record { types = rest.types; names = rest.names; flow = rest.flow; same = rest.same }
+
+-- a scope in which no function is walked
+abbrev pub left_scope : Scope → Scope
+left_scope g = record g { locals = []; visible = []; result = None; in_loop = false; flow = at_entry 0; breaks = None; continues = None }
 
 -- what was known before a function is known behind it
-pub left_function : (f : Signature) (ps : List Variable) (old entered walked new : code.Scope.Scope) → Outside (scope old) → scope entered ≡ inside f ps (scope old) → Grows entered walked
-    → scope new ≡ record (scope walked) { locals = []; visible = []; result = None; in_loop = false } → scope new ≡ scope old
-left_function f ps old entered walked new outside inside_is grows known =
-    let added = parameters_added ps (record (scope old) { locals = []; visible = []; result = f.result; in_loop = false }) in
+pub left_function : (f : Signature) (ps : List Variable) (body : Statements) (old entered walked new : code.Scope.Scope) → Outside (scope old) → scope entered ≡ inside f ps body (scope old) → Grows entered walked → scope new ≡ left_scope (scope walked) → scope new ≡ scope old
+left_function f ps body old entered walked new outside inside_is grows known =
+    let start : Scope = record (scope old) { locals = []; visible = []; result = f.result; in_loop = false; flow = at_entry (variables_in (length ps) body); breaks = None; continues = None } in
+    let added = parameters_added ps start in
     known
-    ∙ ap (λ (g : Scope). record g { locals = []; visible = []; result = None; in_loop = false }) (grows.file ∙ ap (λ (g : Scope). record g { locals = grows.types; visible = grows.names; in_loop = grows.loop }) (inside_is ∙ added.same))
+    ∙ ap left_scope (grows.file ∙ ap (λ (g : Scope). record g { locals = grows.types; visible = grows.names; in_loop = grows.loop; flow = grows.flow; breaks = grows.breaks; continues = grows.continues }) (inside_is ∙ added.same))
     ∙ sym outside
 
 -- the core of a function whose statements break no rule
-pub body_built : (at : Places) (f : Signature) (ps : List Variable) (body : Statements) (xs : core.Statements) (b : core.Function) (old entered walked new : code.Scope.Scope) → scope entered ≡ inside f ps (scope old) → scope new ≡ scope old
+pub body_built : (at : Places) (f : Signature) (ps : List Variable) (body : Statements) (xs : core.Statements) (b : core.Function) (old entered walked new : code.Scope.Scope) → scope entered ≡ inside f ps body (scope old) → scope new ≡ scope old
     → statements at (scope entered) body ≡ Passes (xs, scope walked) → b ≡ core_function f ps xs (scope walked) → body_core at (scope old) f ps body ≡ Passes (b, scope new)
 body_built at f ps body xs b old entered walked new inside_is same passes b_is =
     ap (λ g. passing (statements at g body) (λ x. Passes (core_function f ps x.0 x.1, scope old))) (sym inside_is) ∙ rw (passes, same, b_is) refl
 
 -- a body behind which its function is left
 pub function_body_parts : (at : Places) (w : Walk) (f : Signature) (ps : List Variable) (b : i.Body) → function_body at w f ps (Some b) ≡ passing (body_core at w.scope f ps b.statements) (λ x. needs (not (is_unchecked b.mark || w.scope.is_off)) E15 b.span (Passes (record w { bodies = w.bodies ++ record { name = f.name; function = x.0 } ∷ [] })))
-function_body_parts at w f ps b = sym (in_parts (statements at (inside f ps w.scope) b.statements) (λ x. Passes (core_function f ps x.0 x.1, w.scope)) (λ x. needs (not (is_unchecked b.mark || w.scope.is_off)) E15 b.span (Passes (record w { bodies = w.bodies ++ record { name = f.name; function = x.0 } ∷ [] }))))
+function_body_parts at w f ps b = sym (in_parts (statements at (inside f ps b.statements w.scope) b.statements) (λ x. Passes (core_function f ps x.0 x.1, w.scope)) (λ x. needs (not (is_unchecked b.mark || w.scope.is_off)) E15 b.span (Passes (record w { bodies = w.bodies ++ record { name = f.name; function = x.0 } ∷ [] }))))
 
 -- ---- a declaration, its body, and its rules
 
@@ -105,15 +134,15 @@ pub declared_name : (g : Scope) (d : i.Function) (x : Signature × List Variable
 declared_name g d x is = named_so (result_type g d.result d.stars) (parameter_types g (listed d.parameters) []) (λ r ps. signature_of d r ps) d.name.number x (λ r ps. refl) is
 
 -- a body in which a rule is broken
-broken_body : (at : Places) (f : Signature) (ps : List Variable) (body : Statements) (g : Scope) (h : Scope) (stop : Stop) → h ≡ inside f ps g → statements at h body ≡ Stops stop → body_core at g f ps body ≡ Stops stop
+broken_body : (at : Places) (f : Signature) (ps : List Variable) (body : Statements) (g : Scope) (h : Scope) (stop : Stop) → h ≡ inside f ps body g → statements at h body ≡ Stops stop → body_core at g f ps body ≡ Stops stop
 broken_body at f ps body g h stop is breaks = ap (λ k. passing (statements at k body) (λ x. Passes (core_function f ps x.0 x.1, g))) (sym is) ∙ rw breaks refl
 
-body_refused_so : {C D : Type 0} (view : C → core.Statements) (view' : D → core.Function × Scope) (at : Places) (f : Signature) (ps : List Variable) (body : Statements) (old entered mid : code.Scope.Scope) (e : CheckError) → scope entered ≡ inside f ps (scope old) → Walks view (statements at (scope entered) body) entered (Err e) mid → Answers view' (body_core at (scope old) f ps body) (Err e)
+body_refused_so : {C D : Type 0} (view : C → core.Statements) (view' : D → core.Function × Scope) (at : Places) (f : Signature) (ps : List Variable) (body : Statements) (old entered mid : code.Scope.Scope) (e : CheckError) → scope entered ≡ inside f ps body (scope old) → Walks view (statements at (scope entered) body) entered (Err e) mid → Answers view' (body_core at (scope old) f ps body) (Err e)
 body_refused_so view view' at f ps body old entered mid (Source fault) is first = record { so = broken_body at f ps body (scope old) (scope entered) (Broken fault) is first.so }
 body_refused_so view view' at f ps body old entered mid Unnamed is first = record { so = broken_body at f ps body (scope old) (scope entered) Nameless is first.so }
 body_refused_so view view' at f ps body old entered mid NoMemory is first = record { so = tt }
 
-pub body_refused : {C D : Type 0} {view : C → core.Statements} {view' : D → core.Function × Scope} {mid : code.Scope.Scope} {e : CheckError} (at : Places) (f : Signature) (ps : List Variable) (body : Statements) (old entered : code.Scope.Scope) (r : Result D CheckError) → scope entered ≡ inside f ps (scope old) → IsErrAnd r (λ y. y ≡ e) → Walks view (statements at (scope entered) body) entered (Err e) mid → Answers view' (body_core at (scope old) f ps body) r
+pub body_refused : {C D : Type 0} {view : C → core.Statements} {view' : D → core.Function × Scope} {mid : code.Scope.Scope} {e : CheckError} (at : Places) (f : Signature) (ps : List Variable) (body : Statements) (old entered : code.Scope.Scope) (r : Result D CheckError) → scope entered ≡ inside f ps body (scope old) → IsErrAnd r (λ y. y ≡ e) → Walks view (statements at (scope entered) body) entered (Err e) mid → Answers view' (body_core at (scope old) f ps body) r
 body_refused {view = view} {view' = view'} {mid = mid} {e = e} at f ps body old entered r is err first =
     let p = err_from_is_err_and r err in
     rw (p.1, p.2) (body_refused_so view view' at f ps body old entered mid e is first)
@@ -146,7 +175,7 @@ scope_of_core (Passes x) f ps g b h is = let same : (core_function f ps x.0 x.1,
 scope_of_core (Stops stop) f ps g b h is = absurd (cc)
 
 pub scope_kept : (at : Places) (g : Scope) (f : Signature) (ps : List Variable) (body : Statements) (b : core.Function) (h : Scope) → body_core at g f ps body ≡ Passes (b, h) → h ≡ g
-scope_kept at g f ps body b h is = scope_of_core (statements at (inside f ps g) body) f ps g b h is
+scope_kept at g f ps body b h is = scope_of_core (statements at (inside f ps body g) body) f ps g b h is
 
 pub bodies_more : (w : Walk) (g : Scope) (bs new : List code_walk.Defined.Defined) (b : code_walk.Defined.Defined) → g ≡ w.scope → new ≡ bs ++ b ∷ [] → ◌≡◌ {A = Verdict Walk} (Passes (record w { bodies = map defined bs ++ defined b ∷ [] })) (Passes (record w { scope = g; bodies = map defined new }))
 bodies_more w g bs new b same are =

@@ -67,7 +67,7 @@ declared_outside known f g h is o = rw is (known_outside known f g o)
 body_outside : (at : Places) (w : Walk) (f : Signature) (ps : List Variable) (body : Option i.Body) → Outside w.scope → Promises OutsideBehind (function_body at w f ps body)
 body_outside at w f ps None o = o
 body_outside at w f ps (Some body) o =
-    passing_promises (λ _. Unit {0}) OutsideBehind (statements at (inside f ps w.scope) body.statements) _ (anything_promised (statements at (inside f ps w.scope) body.statements))
+    passing_promises (λ _. Unit {0}) OutsideBehind (statements at (inside f ps body.statements w.scope) body.statements) _ (anything_promised (statements at (inside f ps body.statements w.scope) body.statements))
     (λ x _. needs_promises OutsideBehind (not (is_unchecked body.mark || w.scope.is_off)) E15 body.span _ (λ _. o))
 
 rules_outside : (all : List Item) (d : i.Function) (f : Signature) (known : Option Signature) (w : Walk) → Outside w.scope → Promises OutsideBehind (function_rules all d f known w)

@@ -17,6 +17,7 @@ use Rattle.region_typing_rules.specs.Statements.{statements, is_unchecked}
 use Rattle.region_typing_rules.specs.Items.{Defined, Walk, with_variable, room_for, initializer, inside, core_function, function_body}
 use Rattle.region_typing_rules.specs.Items.{with_function, agrees, all_scalar, scalar_result, is_defined, in_checked_region}
 use Rattle.region_typing_scope.specs.Views.{scope}
+use Rattle.bounds_flow.specs.Flows.{at_entry}
 use Rattle.region_typing.specs.declared.walk as code
 use Rattle.region_typing.specs.declared.initials.Judged as code_judged
 use Rattle.region_typing.specs.Initials.{Judged, judged, judged_as, judged_cells}
@@ -29,7 +30,7 @@ walk w = record { scope = scope w.scope; objects = map object w.objects.items; t
 
 -- no function is walked
 abbrev pub Outside : Scope → Type 0
-Outside g = g ≡ record g { locals = []; visible = []; result = None; in_loop = false }
+Outside g = g ≡ record g { locals = []; visible = []; result = None; in_loop = false; flow = at_entry 0; breaks = None; continues = None }
 
 -- a member more (E08)
 abbrev pub one_member : Scope → i.Member → List types.Member → Verdict (List types.Member)
@@ -83,7 +84,7 @@ judged_objects span (v ∷ vs) w = passing (one_object span v w) (λ x. judged_o
 
 -- the core of a function with a body, whose locals are gone behind it
 abbrev pub body_core : Places → Scope → Signature → List Variable → Statements → Verdict (core.Function × Scope)
-body_core at g f parameters body = passing (statements at (inside f parameters g) body) (λ x. Passes (core_function f parameters x.0 x.1, g))
+body_core at g f parameters body = passing (statements at (inside f parameters body g) body) (λ x. Passes (core_function f parameters x.0 x.1, g))
 
 -- what is asked of a function whose body was walked (E13, E10, E15)
 abbrev pub kept_rules : List i.Item → i.Function → Bool → Scope → Verdict (Unit {0})

@@ -19,6 +19,7 @@ use ckc_text::fault::NoMemory;
 use ckc_tree::item::{Block, Parameter, Parameters, ResultForm};
 use ckc_tree::stmt;
 use pointer_modes::ctype::CType;
+use region_typing_flow::counts::variables_in;
 use region_typing_scope::context::Context;
 use region_typing_scope::refusals::{CheckError, needs};
 use region_typing_scope::scope::{Scope, Variable};
@@ -116,7 +117,7 @@ fn add_parameters(
     parameters: &[Variable],
 ) -> Result<(), NoMemory>
     requires none { scope.old.locals.items ≡ [] }
-    requires few { length parameters.now ≤ 16 }
+    requires few { length parameters.now ≤ scope.old.flow.vars }
     ensures { IfOk result (λ _. scope_of scope.new ≡ with_parameters (map variable_of parameters.now) (scope_of scope.old)) }
 {
     for p in parameters {
@@ -132,12 +133,14 @@ fn enter(
     scope: &mut Scope,
     f: &Signature,
     parameters: &[Variable],
+    body: &[stmt::Stmt],
 ) -> Result<(), NoMemory>
     requires few { length parameters.now ≤ 16 }
-    ensures { IfOk result (λ _. scope_of scope.new ≡ inside (signature f.now) (map variable_of parameters.now) (scope_of scope.old)) }
+    ensures { IfOk result (λ _. scope_of scope.new ≡ inside (signature f.now) (map variable_of parameters.now) (statement_list body.now) (scope_of scope.old)) }
 {
     let result = copied_result(context, &f.result)?;
-    scope.enter(context, result);
+    let variables = variables_in(parameters.len() as u32, body);
+    scope.enter(context, result, variables)?;
     add_parameters(context, scope, parameters)
 }
 
@@ -167,10 +170,10 @@ fn body_of(
     requires outside { Outside (scope_of scope.old) }
     ensures { Answers (λ c. (function_of c, scope_of scope.new)) (body_core (place_at context.now) (scope_of scope.old) (signature f.now) (map variable_of parameters.now) (statement_list body.now)) result }
 {
-    enter(context, scope, f, parameters)?;
+    enter(context, scope, f, parameters, body)?;
     let built = statements(context, scope, body)?;
     let heading = copied_signature(context, f)?;
-    let locals = scope.exit(context);
+    let locals = scope.exit(context)?;
     Ok(core_function(heading, parameters.len(), locals, built))
 }
 

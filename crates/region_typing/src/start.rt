@@ -16,7 +16,7 @@ impl Walk {
         ensures { IfOk result (λ walk. walk_of walk.value ≡ start given) }
     {
         let walk = Walk {
-            scope: Scope::new(context, given),
+            scope: Scope::new(context, given)?,
             objects: Vec::new(context.alloc()),
             taken: 0,
             bodies: Vec::new(context.alloc()),

@@ -46,8 +46,8 @@ module _ (n : ℕ) where
   body_light : (at : Places) (w : Walk) (f : Signature) (parameters : List Variable) (body : Option i.Body) → 5 * tree.optional_body_weight body ≤ n → HasLight w → Promises HasLight (function_body at w f parameters body)
   body_light at w f parameters None le h = h
   body_light at w f parameters (Some body) le h =
-      passing_promises (λ (x : core.Statements × Scope). statements_weight x.0 ≤ 5 * tree.statements_weight body.statements) HasLight (statements at (inside f parameters w.scope) body.statements) (behind_body w f parameters body)
-      (statements_light at (inside f parameters w.scope) body.statements)
+      passing_promises (λ (x : core.Statements × Scope). statements_weight x.0 ≤ 5 * tree.statements_weight body.statements) HasLight (statements at (inside f parameters body.statements w.scope) body.statements) (behind_body w f parameters body)
+      (statements_light at (inside f parameters body.statements w.scope) body.statements)
       (λ x light. needs_promises HasLight (not (is_unchecked body.mark || w.scope.is_off)) E15 body.span (Passes (record w { bodies = w.bodies ++ record { name = f.name; function = core_function f parameters x.0 x.1 } ∷ [] }))
       (λ e. all_append (HasLightBody n) w.bodies (record { name = f.name; function = core_function f parameters x.0 x.1 }) h (omega arith)))
 

@@ -39,7 +39,7 @@ behind_body w f parameters body x = is_checked w.scope body.mark body.span (Pass
 body_few : (at : Places) (w : Walk) (f : Signature) (parameters : List Variable) (body : Option i.Body) → HasFew w → Promises HasFew (function_body at w f parameters body)
 body_few at w f parameters None h = h
 body_few at w f parameters (Some body) h =
-    passing_any HasFew (statements at (inside f parameters w.scope) body.statements) (behind_body w f parameters body) (λ x.
+    passing_any HasFew (statements at (inside f parameters body.statements w.scope) body.statements) (behind_body w f parameters body) (λ x.
     needs_promises HasFew (not (is_unchecked body.mark || w.scope.is_off)) E15 body.span (Passes (record w { bodies = w.bodies ++ record { name = f.name; function = core_function f parameters x.0 x.1 } ∷ [] })) (λ e. h))
 
 function_few : (at : Places) (all : List Item) (w : Walk) (d : i.Function) → HasFew w → Promises HasFew (function at all w d)

@@ -2,6 +2,7 @@
 use Rattle.std.proofs.Common.{◌≡◌, ℕ, suc, ◌+◌, ◌*◌, ◌<◌, ◌≤◌, Bool, true, false, List, [], ◌∷◌, ◌++◌, map, take, length, Option, Some, None, refl, sym, ap, ◌∙◌, subst, append_assoc, ⊎_elim, arith}
 use Rattle.std.specs.Prelude.{◌==◌, bytes_eq, nat_lt, nat_le, not, ◌&&◌, ◌||◌, is_some, is_none}
 use Rattle.std.specs.List.{AllByRecursion, list_all, list_any}
+use Rattle.std.proofs.lemmas.Bool.Decides.{nat_tests}
 use Rattle.std.proofs.lemmas.Bool.{and_parts, or_cases, eqb-true, ltb-true, leb-true}
 use Rattle.std.proofs.lemmas.List.{length-append, length-map, append-nil}
 use Rattle.ckc_text.specs.declared.place.Span.{Span}
@@ -32,8 +33,10 @@ use Rattle.region_typing_rules.specs.Scopes.{Scope, Signature, Variable, struct_
 use Rattle.region_typing_rules.specs.Types.{base_type, without_stars, type_named}
 use Rattle.region_typing_rules.specs.Expressions.{Places, Typed, typed, is_import, is_tainted}
 use Rattle.region_typing_rules.specs.Statements.{statements, with_local, is_unchecked}
+use Rattle.bounds_flow.specs.Flows.{at_entry}
+use Rattle.region_typing_rules.specs.Knowing.{all_declared}
 use Rattle.region_typing_rules.specs.Items as items
-use Rattle.region_typing_rules.specs.Items.{Walk, in_checked_region, is_struct, member_types, scalar_members, with_struct, member_names, signed_constant, structure, Walked, initializer, object_cells, with_variable, WalkedVariable, written_size, few_bytes, room_for, room_for_first, variables, with_objects, global, listed, parameter_types, result_type, with_function, with_parameters, inside, core_function, function_body, is_defined, agrees, all_scalar, scalar_result, function_rules, signature_of, function, item}
+use Rattle.region_typing_rules.specs.Items.{Walk, in_checked_region, is_struct, member_types, scalar_members, with_struct, member_names, signed_constant, structure, Walked, initializer, object_cells, with_variable, WalkedVariable, written_size, few_bytes, room_for, room_for_first, variables, with_objects, global, listed, parameter_types, result_type, with_function, with_parameters, limited, variables_in, inside, core_function, function_body, is_defined, agrees, all_scalar, scalar_result, function_rules, signature_of, function, item}
 use Rattle.region_typing_rules.specs.Typed.{Frame, HasRow, IsScalar, IsScalarResult, AreStatements, IsNumberResult}
 use Rattle.region_typing_rules.specs.Lowerable.{cells_size, objects_size, IsRoomy}
 use Rattle.region_typing_rules.proofs.Verdicts.{Promises, passing_promises, needs_promises, anything_promised, promised_so, both_promise, later_promises, all_promised, Extends, extends_append}
@@ -473,11 +476,15 @@ module _ (height entry : ℕ) where
 
   -- ---- the body of a function
 
-  parameters_grow : (ps : List Variable) (g : Scope) → length g.locals + length ps ≤ 256 → AllByRecursion IsScalar (map (λ (p : Variable). p.type) ps) → AllByRecursion (λ (v : Variable). IsKnown g.structs v.type) ps → Grows g (with_parameters ps g)
+  parameters_grow : (ps : List Variable) (g : Scope) → length g.locals + length ps ≤ g.flow.vars → AllByRecursion IsScalar (map (λ (p : Variable). p.type) ps) → AllByRecursion (λ (v : Variable). IsKnown g.structs v.type) ps → Grows g (with_parameters ps g)
   parameters_grow [] g few all known = stays g
   parameters_grow (p ∷ ps) g few all known =
       grows_further g (with_local p.name p.type g) (with_parameters ps (with_local p.name p.type g)) (local_grows p.name p.type g all.0 (omega arith) (λ tagged. known.0))
       (parameters_grow ps (with_local p.name p.type g) (omega (arith, length-append g.locals (p.type ∷ []))) all.1 known.1)
+
+  sizes_kept : (ps : List Variable) (g : Scope) → (with_parameters ps g).flow.vars ≡ g.flow.vars
+  sizes_kept [] g = refl
+  sizes_kept (p ∷ ps) g = sizes_kept ps (with_local p.name p.type g)
 
   parameter_locals : (ps : List Variable) (g : Scope) → (with_parameters ps g).locals ≡ g.locals ++ map (λ (p : Variable). p.type) ps
   parameter_locals [] g = sym (append-nil g.locals)
@@ -493,11 +500,33 @@ module _ (height entry : ℕ) where
       let same = rest.0 in
       (cc, omega (arith, rest.1))
 
+  -- the flow of a function has a variable for each of its parameters, and 256 at most
+  within : (limit n : ℕ) (test : Bool) → nat_lt limit n ≡ test → (picked test limit n ≤ limit) × ((k : ℕ) → k ≤ limit → k ≤ n → k ≤ picked test limit n)
+  within limit n true e = (omega arith, λ k h h'. h)
+  within limit n false e = (grind (arith, nat_tests), λ k h h'. h')
+
+  few_variables : (parameters : ℕ) (body : trees.Statements) → variables_in parameters body ≤ 256
+  few_variables parameters body = (within 256 (parameters + all_declared body) (nat_lt 256 (parameters + all_declared body)) refl).0
+
+  for_parameters : (parameters : ℕ) (body : trees.Statements) → parameters ≤ 16 → parameters ≤ variables_in parameters body
+  for_parameters parameters body few = (within 256 (parameters + all_declared body) (nat_lt 256 (parameters + all_declared body)) refl).1 parameters (omega arith) (omega arith)
+
+  abbrev at_start : Signature → List Variable → trees.Statements → Scope → Scope
+  at_start f ps body s = record s {
+    locals = [];
+    visible = [];
+    result = f.result;
+    in_loop = false;
+    flow = at_entry (variables_in (length ps) body);
+    breaks = None;
+    continues = None;
+  }
+
   -- the scope in which a body stands
-  file_inside : (g : Frame) (f : Signature) (ps : List Variable) (s : Scope) → length ps ≤ 16 → AllByRecursion IsScalar (map (λ (p : Variable). p.type) ps) → AllByRecursion (λ (v : Variable). IsKnown s.structs v.type) ps → KnowsFile g s → KnowsFile g (inside f ps s)
-  file_inside g f ps s few all types known =
-      let start : Scope = record s { locals = []; visible = []; result = f.result; in_loop = false } in
-      file_known g start (with_parameters ps start) (parameters_grow ps start (omega arith) all types) (record { structs = known.structs; closed = record { tagged = known.closed.tagged; of_members = known.closed.of_members; of_functions = known.closed.of_functions; of_variables = known.closed.of_variables; of_locals = tt }; few_members = known.few_members; scalar_members = known.scalar_members; variables = known.variables; trusted = known.trusted; tainted = known.tainted })
+  file_inside : (g : Frame) (f : Signature) (ps : List Variable) (body : trees.Statements) (s : Scope) → length ps ≤ 16 → AllByRecursion IsScalar (map (λ (p : Variable). p.type) ps) → AllByRecursion (λ (v : Variable). IsKnown s.structs v.type) ps → KnowsFile g s → KnowsFile g (inside f ps body s)
+  file_inside g f ps body s few all types known =
+      let start : Scope = at_start f ps body s in
+      file_known g start (with_parameters ps start) (parameters_grow ps start (omega (arith, for_parameters (length ps) body few)) all types) (record { structs = known.structs; closed = record { tagged = known.closed.tagged; of_members = known.closed.of_members; of_functions = known.closed.of_functions; of_variables = known.closed.of_variables; of_locals = tt }; few_members = known.few_members; scalar_members = known.scalar_members; variables = known.variables; trusted = known.trusted; tainted = known.tainted })
 
   -- a body that was walked, in a program in which the file is known, where its locals are these
   record Premises (s : Scope) : Type 0 where
@@ -524,13 +553,13 @@ module _ (height entry : ℕ) where
     named : function_named s.functions f.name ≡ Some signature
     agrees : Agrees signature f
 
-  function_body_typed : (s : Scope) (f : Signature) (ps : List Variable) (x : core.Statements × Scope) → f.parameters ≡ map (λ (p : Variable). p.type) ps → IsKnownAs s f → AllByRecursion IsScalar f.parameters → IsScalarResult f.result → length ps ≤ 16 → AllByRecursion (λ (v : Variable). IsKnown s.structs v.type) ps → IsWalkedBody (inside f ps s) x → IsBody height s (record { name = f.name; function = core_function f ps x.0 x.1 })
-  function_body_typed s f ps x same known scalars result few known_types walked =
-      let start : Scope = record s { locals = []; visible = []; result = f.result; in_loop = false } in
+  function_body_typed : (s : Scope) (f : Signature) (ps : List Variable) (body : trees.Statements) (x : core.Statements × Scope) → f.parameters ≡ map (λ (p : Variable). p.type) ps → IsKnownAs s f → AllByRecursion IsScalar f.parameters → IsScalarResult f.result → length ps ≤ 16 → AllByRecursion (λ (v : Variable). IsKnown s.structs v.type) ps → IsWalkedBody (inside f ps body s) x → IsBody height s (record { name = f.name; function = core_function f ps x.0 x.1 })
+  function_body_typed s f ps body x same known scalars result few known_types walked =
+      let start : Scope = at_start f ps body s in
       let types = map (λ (p : Variable). p.type) ps in
       let all : AllByRecursion IsScalar types = subst (AllByRecursion IsScalar) same scalars in
-      let grown = parameters_grow ps start (omega arith) all known_types in
-      let held : (inside f ps s).locals ≡ types = parameter_locals ps start in
+      let grown = parameters_grow ps start (omega (arith, for_parameters (length ps) body few)) all known_types in
+      let held : (inside f ps body s).locals ≡ types = parameter_locals ps start in
       let ext : Extends types x.1.locals = subst (λ ts. Extends ts x.1.locals) held walked.1.locals in
       let taken = extends_take types x.1.locals ext in
       let count : length types ≡ length ps = length-map ps (λ (p : Variable). p.type) in
@@ -544,12 +573,15 @@ module _ (height entry : ℕ) where
           parameters = subst (λ n. n ≤ length x.1.locals) count taken.1;
           locals = locals;
           result = result;
-          body = subst (λ r. AreStatements g x.1.locals r false x.0) (sym grown.result) (subst (λ l. AreStatements g x.1.locals (inside f ps s).result l x.0) (sym grown.loop) (walked.2 (record { frame = g; types = x.1.locals; scalar = locals; known = file_inside g f ps s few all known_types file }) (λ k t e. e)));
+          body = subst (λ r. AreStatements g x.1.locals r false x.0) (sym grown.result) (subst (λ l. AreStatements g x.1.locals (inside f ps body s).result l x.0) (sym grown.loop) (walked.2 (record { frame = g; types = x.1.locals; scalar = locals; known = file_inside g f ps body s few all known_types file }) (λ k t e. e)));
         };
         few_parameters = few;
-        few_locals = walked.1.few (grown.few (omega arith));
+        few_locals = few_of (walked.1.few (grown.few (omega arith)));
         low = walked.0;
       }
+    where
+      few_of : length x.1.locals ≤ x.1.flow.vars → length x.1.locals ≤ 256
+      few_of h = omega (arith, h, few_variables (length ps) body, walked.1.size, sizes_kept ps (at_start f ps body s))
 
   -- ---- functions
 
@@ -661,14 +693,14 @@ module _ (height entry : ℕ) where
       known_parameters (Some before) = form.known
 
       -- with a body more
-      with_body : IsRuled known signature → (x : core.Statements × Scope) → IsWalkedBody (inside signature parameters with_it.scope) x → IsPassed (record with_it { bodies = with_it.bodies ++ record { name = signature.name; function = core_function signature parameters x.0 x.1 } ∷ [] })
-      with_body ruled x walked =
+      with_body : IsRuled known signature → (body : trees.Statements) → (x : core.Statements × Scope) → IsWalkedBody (inside signature parameters body with_it.scope) x → IsPassed (record with_it { bodies = with_it.bodies ++ record { name = signature.name; function = core_function signature parameters x.0 x.1 } ∷ [] })
+      with_body ruled body x walked =
           let it = is_declared ruled in
-          let body = function_body_typed with_it.scope signature parameters x refl it.is_known (scalars_all signature.parameters ruled.scalars) (result_scalar result ruled.scalar) form.few (known_parameters known) walked in
+          let typed_body = function_body_typed with_it.scope signature parameters body x refl it.is_known (scalars_all signature.parameters ruled.scalars) (result_scalar result ruled.scalar) form.few (known_parameters known) walked in
           let well' = it.follows.well in
           record {
             follows = record {
-              well = record { closed = well'.closed; few = well'.few; scalars = well'.scalars; start = well'.start; declared = well'.declared; bodies = all_append (IsBody height with_it.scope) with_it.bodies (record { name = signature.name; function = core_function signature parameters x.0 x.1 }) well'.bodies body; roomy = well'.roomy; bytes = well'.bytes; room = well'.room };
+              well = record { closed = well'.closed; few = well'.few; scalars = well'.scalars; start = well'.start; declared = well'.declared; bodies = all_append (IsBody height with_it.scope) with_it.bodies (record { name = signature.name; function = core_function signature parameters x.0 x.1 }) well'.bodies typed_body; roomy = well'.roomy; bytes = well'.bytes; room = well'.room };
               settled = it.follows.settled;
               grows = it.follows.grows;
             };
@@ -691,15 +723,16 @@ module _ (height entry : ℕ) where
       parameters_keep [] g = refl
       parameters_keep (p ∷ ps) g = parameters_keep ps (with_local p.name p.type g)
 
-      few_inside : HaveFew (inside signature parameters with_it.scope)
-      few_inside = subst (AllByRecursion HasFew) (parameters_keep parameters (record with_it.scope { locals = []; visible = []; result = result; in_loop = false })) have_few
+      few_inside : (body : trees.Statements) → HaveFew (inside signature parameters body with_it.scope)
+      few_inside body = subst (AllByRecursion HasFew) (parameters_keep parameters (at_start signature parameters body with_it.scope)) have_few
 
       body_promises : (at : Places) (body : Option i.Body) → (optional_body_reach body).height ≤ height → Promises (λ (x : Walk). IsRuled known signature → IsPassed x) (function_body at with_it signature parameters body)
       body_promises at None low = λ ruled. let it = is_declared ruled in record { follows = it.follows; main = main_known it.is_known }
       body_promises at (Some body) low =
           let higher = around_higher body.span.from (statements_reach body.statements) in
-          passing_promises (IsWalkedBody (inside signature parameters with_it.scope)) (λ (x : Walk). IsRuled known signature → IsPassed x) (statements at (inside signature parameters with_it.scope) body.statements) _ (body_walked at (inside signature parameters with_it.scope) body.statements few_inside (omega arith))
-          (λ x walked. needs_promises (λ (x : Walk). IsRuled known signature → IsPassed x) (not (is_unchecked body.mark || with_it.scope.is_off)) E15 body.span _ (λ on ruled. with_body ruled x walked))
+          let start = inside signature parameters body.statements with_it.scope in
+          passing_promises (IsWalkedBody start) (λ (x : Walk). IsRuled known signature → IsPassed x) (statements at start body.statements) _ (body_walked at start body.statements (few_inside body.statements) (omega arith))
+          (λ x walked. needs_promises (λ (x : Walk). IsRuled known signature → IsPassed x) (not (is_unchecked body.mark || with_it.scope.is_off)) E15 body.span _ (λ on ruled. with_body ruled body.statements x walked))
 
       declaration_promises : (at : Places) (all : List Item) → (optional_body_reach d.body).height ≤ height → Promises IsPassed (passing (function_body at with_it signature parameters d.body) (λ x. function_rules all d signature known x))
       declaration_promises at all low =

@@ -9,7 +9,9 @@ pub mod Knowledge
 pub mod Sizes
 pub mod KnownTypes
 pub mod Expressions
+pub mod FlowSizes
 pub mod Growth
+pub mod Assigning
 pub mod Statements
 pub mod Layouts
 pub mod Sides

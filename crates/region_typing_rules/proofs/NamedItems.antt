@@ -12,7 +12,7 @@ use Rattle.ckc_tree.specs.declared.item.FunctionKind.{FunctionKind}
 use Rattle.ckc_tree.specs.declared.item.FunctionKind.TheVariants as function_kinds
 use Rattle.ckc_tree.specs.Types.{TypeTree, IntType, CharType, StructType, PointerType}
 use Rattle.ckc_tree.specs.Statements as s
-use Rattle.ckc_tree.specs.Statements.{Initializer, Declarator}
+use Rattle.ckc_tree.specs.Statements.{Initializer, Declarator, Statements}
 use Rattle.ckc_tree.specs.Items as i
 use Rattle.ckc_tree.specs.Items.{ResultForm, Parameters, Body, Item, Tree}
 use Rattle.ckc_tree.specs.Numbers.{Numbers, number_type, number_expression, number_initializer, number_declarator, number_statements, number_member, number_structure, number_global, number_result, number_parameters, number_body, number_function, number_item}
@@ -31,8 +31,9 @@ use Rattle.region_typing_rules.specs.Verdicts.{Verdict, Passes, Stops, Broken, N
 use Rattle.region_typing_rules.specs.Scopes.{Scope, Signature, Variable as FileVariable, found_if, Object, object_named, function_named, struct_named}
 use Rattle.region_typing_rules.specs.Types.{without_stars, base_type}
 use Rattle.region_typing_rules.specs.Expressions.{Places, is_tainted, typed}
+use Rattle.bounds_flow.specs.Flows.{at_entry}
 use Rattle.region_typing_rules.specs.Statements.{is_unchecked, statements}
-use Rattle.region_typing_rules.specs.Items.{Walk, is_struct, member_types, scalar_members, with_struct, member_names, structure, signed_constant, Walked, Missing, Written, Constants, initializer, is_zero, number_or_break, object_cells, with_variable, written_size, few_bytes, room_for, WalkedVariable, variables, room_for_first, with_objects, global, listed, parameter_types, result_type, agrees, all_scalar, scalar_result, with_function, inside, function_body, is_defined, function_rules, signature_of, function, is_off, item, items, start, walked}
+use Rattle.region_typing_rules.specs.Items.{Walk, is_struct, member_types, scalar_members, with_struct, member_names, structure, signed_constant, Walked, Missing, Written, Constants, initializer, is_zero, number_or_break, object_cells, with_variable, written_size, few_bytes, room_for, WalkedVariable, variables, room_for_first, with_objects, global, listed, parameter_types, result_type, agrees, all_scalar, scalar_result, with_function, variables_in, inside, function_body, is_defined, function_rules, signature_of, function, is_off, item, items, start, walked}
 use Rattle.region_typing_rules.specs.Cores.{checked}
 use Rattle.region_typing_rules.proofs.Signatures.{bytes_equal}
 use Rattle.region_typing_rules.proofs.NamedVerdicts.{IsNamed, AllNamed, Any, passing_named, then_named, needs_named, named_so}
@@ -285,12 +286,13 @@ parameters_keep i.Nothing = nothing_keeps
 parameters_keep i.VoidAlone = nothing_keeps
 parameters_keep (i.Listed members) = listed_keeps members
 
-body_named : (of : Numbers) (at : Places) (w : Walk) (f : Signature) (ps : List FileVariable) (o : Option Body) (k l : Scopes) → Agrees of k (inside f ps w.scope) → optional built_body o ≡ true → all_mentioned (optional_mentions of_body o) k ≡ Ok l
+body_named : (of : Numbers) (at : Places) (w : Walk) (f : Signature) (ps : List FileVariable) (o : Option Body) (k l : Scopes) → ((body : Statements) → Agrees of k (inside f ps body w.scope)) → optional built_body o ≡ true → all_mentioned (optional_mentions of_body o) k ≡ Ok l
     → IsNamed (λ (v : Walk). v.scope ≡ w.scope) (function_body at w f ps (option_map (number_body of) o))
 body_named of at w f ps None k l agrees built h = refl
 body_named of at w f ps (Some body) k l agrees built h =
-    passing_named (Behind {A = core.Statements} of l (inside f ps w.scope)) (λ (v : Walk). v.scope ≡ w.scope) (statements at (inside f ps w.scope) (number_statements of body.statements)) _
-    (statements_named of at body.statements k l (inside f ps w.scope) agrees built h)
+    let start = inside f ps (number_statements of body.statements) w.scope in
+    passing_named (Behind {A = core.Statements} of l start) (λ (v : Walk). v.scope ≡ w.scope) (statements at start (number_statements of body.statements)) _
+    (statements_named of at body.statements k l start (agrees (number_statements of body.statements)) built h)
     (λ x _. needs_named (λ (v : Walk). v.scope ≡ w.scope) (not (is_unchecked body.mark || w.scope.is_off)) E15 body.span _ refl)
 
 rules_named : (all : List Item) (d : i.Function) (f : Signature) (known : Option Signature) (w : Walk) → IsNamed (λ (v : Walk). v ≡ w) (function_rules all d f known w)
@@ -348,8 +350,17 @@ function_named_so of at all n m w d before built h =
     let inner : Walk = record w { scope = after } in
     let now : AgreesFile of parts.declared after = subst (λ k. AgreesFile of k after) (sym parts.is_declared) (function_agrees of d.name _ f refl n w.scope before) in
     let adds = (parameters_add (λ x. is_variable ps (of x) ≡ true) d.parameters (λ x e. each x (inl e)) (opened parts.declared) parts.entered parts.parameters).0 in
-    let start : Scope = record after { locals = []; visible = []; result = f.result; in_loop = false } in
-    let inside_now : Agrees of parts.entered (inside f ps after) = inside_agrees of (opened parts.declared) parts.entered start ps (record { value = now.value; function = now.function; tag = now.tag; given = now.given }) adds in
+    let start : Statements → Scope = λ body. record after {
+      locals = [];
+      visible = [];
+      result = f.result;
+      in_loop = false;
+      flow = at_entry (variables_in (length ps) body);
+      breaks = None;
+      continues = None;
+    } in
+    let inside_now : (body : Statements) → Agrees of parts.entered (inside f ps body after) =
+    λ body. inside_agrees of (opened parts.declared) parts.entered (start body) ps (record { value = now.value; function = now.function; tag = now.tag; given = now.given }) adds in
     passing_named (λ (v : Walk). v.scope ≡ after) (File of m) (function_body at inner f ps e.body) _ (body_named of at inner f ps d.body parts.entered parts.left inside_now form parts.body)
     (λ x same. named_so (λ (v : Walk). v ≡ x) (File of m) (function_rules all e f known x)
     (λ v is. subst (λ (u : Walk). File of m u) (sym is) (subst (AgreesFile of m) (sym same) (subst (λ k. AgreesFile of k after) (sym parts.behind) now))) (rules_named all e f known x))))))

@@ -10,6 +10,7 @@ use Rattle.ckc_tree.specs.Numbers.{Numbers, number_type, number_type_name}
 use Rattle.ckc_names_rules.specs.Given.{null, given_by}
 use Rattle.ckc_names_rules.specs.Mentions.{Use, Call, UseTag, type_mentions}
 use Rattle.ckc_names_rules.specs.Scopes.{Meaning, Variable, Block, Scopes, visible, is_among, predefined, with_entry, standing_for, is_value, is_function}
+use Rattle.bounds_flow.specs.Flows.{Knowledge}
 use Rattle.pointer_modes.specs.Types.{CType}
 use Rattle.region_typing_rules.specs.Verdicts.{passing, meant}
 use Rattle.region_typing_rules.specs.Scopes.{Scope, Visible, Named, local_if, found_if, local_named, object_named, or_else, null_named, named, function_named, struct_named}
@@ -93,6 +94,10 @@ opened_agrees of n g h = record { value = h.value; function = h.function; tag = 
 pub loop_agrees : (of : Numbers) → (n : Scopes) (g : Scope) → Agrees of n g → Agrees of n (in_loop g)
 loop_agrees of n g h = record { value = h.value; function = h.function; tag = h.tag; given = h.given }
 
+-- what is known of numbers and pointers has nothing to do with names
+pub flow_agrees : (of : Numbers) → (n : Scopes) (g : Scope) (f : Knowledge) (b c : Option Knowledge) → Agrees of n g → Agrees of n (record g { flow = f; breaks = b; continues = c })
+flow_agrees of n g f b c h = record { value = h.value; function = h.function; tag = h.tag; given = h.given }
+
 -- ---- scopes that were entered since
 
 pub record Later (a b : Scope) : Type 0 where
@@ -113,6 +118,13 @@ later_block g after h = record { given = h.given; tags = h.tags; functions = h.f
 
 pub later_loop : (g after : Scope) → Later (in_loop g) after → Later g after
 later_loop g after h = record { given = h.given; tags = h.tags; functions = h.functions; variables = h.variables; locals = h.locals }
+
+-- where something else is known of numbers and pointers
+pub flow_later : (a g : Scope) (f : Knowledge) (b c : Option Knowledge) → Later a g → Later a (record g { flow = f; breaks = b; continues = c })
+flow_later a g f b c h = record { given = h.given; tags = h.tags; functions = h.functions; variables = h.variables; locals = h.locals }
+
+pub from_flow : (g after : Scope) (f : Knowledge) (b c : Option Knowledge) → Later (record g { flow = f; breaks = b; continues = c }) after → Later g after
+from_flow g after f b c h = record { given = h.given; tags = h.tags; functions = h.functions; variables = h.variables; locals = h.locals }
 
 pub later_local : (name : ℕ) (t : CType) (g : Scope) → Later g (with_local name t g)
 later_local name t g = record { given = refl; tags = refl; functions = refl; variables = refl; locals = extends_append g.locals (t ∷ []) }

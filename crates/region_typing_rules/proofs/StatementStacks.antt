@@ -1,5 +1,5 @@
 -- The statements of a core take few words of the stack, by the height of the tree that they come from.
-use Rattle.std.proofs.Common.{ℕ, ◌+◌, ◌*◌, ◌≤◌, List, [], ◌∷◌, length, Option, Some, None, subst, arith}
+use Rattle.std.proofs.Common.{ℕ, ◌+◌, ◌*◌, ◌≤◌, true, List, [], ◌∷◌, length, Option, Some, None, subst, arith}
 use Rattle.std.specs.Prelude.{nat_lt, not, ◌||◌}
 use Rattle.std.specs.List.{AllByRecursion}
 use Rattle.ckc_text.specs.declared.place.Span.{Span}
@@ -22,9 +22,11 @@ use Rattle.region_typing_rules.specs.Verdicts.{Verdict, Passes}
 use Rattle.region_typing_rules.specs.Scopes.{Scope}
 use Rattle.region_typing_rules.specs.Types.{is_pointer, is_scalar, without_stars, base_type}
 use Rattle.region_typing_rules.specs.Expressions.{Places, Typed, Value, AStruct, Called, Gives, GivesNothing, Lvalue, OfLocal, OfCell, site_at, typed, call_typed, is_pointer_value}
-use Rattle.region_typing_rules.specs.Statements.{Walked, store, update, assigned, set_to, updated, stored, step_of, one, assignment, zero_value, with_local, initialised, declarator, declarators, declaration, behind_block, in_loop, is_unchecked, condition, optional_condition, optional_step, first_part, alone, returned, returned_nothing, return, statement, statements}
+use Rattle.region_typing_rules.specs.Statements.{Walked, store, update, assigned, set_to, updated, stored, step_of, one, assignment, assigning, zero_value, with_local, initialised, declarator, declarators, declaration, at_alternative, before_step, in_loop, is_unchecked, condition, optional_condition, optional_step, first_part, alone, returned, returned_nothing, return, statement, statements}
+use Rattle.region_typing_rules.specs.Knowing.{when, at_loop}
+use Rattle.region_typing_rules.proofs.Assigning.{assigning_promises, declared_promises}
 use Rattle.region_typing_rules.proofs.Verdicts.{Promises, passing_promises, needs_promises, anything_promised, promised_so, both_promise}
-use Rattle.region_typing_rules.proofs.Growth.{Grows, GrowsTo, IsNamedIn, named_further, base_named, block_grows, loop_grows, declarator_grows, first_grows, statement_grows}
+use Rattle.region_typing_rules.proofs.Growth.{Grows, GrowsTo, IsNamedIn, named_further, base_named, alternative_grows, step_grows, declarator_grows, first_grows, statement_grows}
 use Rattle.region_typing_rules.proofs.Stacks.{beside_first, beside_second, around_higher, Low, LowPlace, LowCall, IsLow, HasFew, scalar_of_low, two_low, converted_low, typed_low, call_typed_low}
 
 abbrev pub IsLowStatement : ℕ → core.Statement → Type 0
@@ -102,9 +104,15 @@ module _ (at : Places) where
   optional_low s few None n h = omega arith
   optional_low s few (Some x) n h = condition_low s few x n (omega arith)
 
-  step_low : (s : Scope) → HaveFew s → (o : Option Assignment) (n : ℕ) → 17 * (optional_assignment_reach o).height ≤ n → Promises (IsLowStatement n) (optional_step at s o)
+  abbrev pub BecomesLow : ℕ → Walked → Type 0
+  BecomesLow n w = IsLowStatement n w.0
+
+  assigning_low : (s : Scope) → HaveFew s → (a : Assignment) (n : ℕ) → 17 * (assigned_reach a).height + 3 ≤ n → Promises (BecomesLow n) (assigning at s a)
+  assigning_low s few a n h = assigning_promises (IsLowStatement n) (BecomesLow n) at s a (assignment_low s few a n h) (λ x k low. low)
+
+  step_low : (s : Scope) → HaveFew s → (o : Option Assignment) (n : ℕ) → 17 * (optional_assignment_reach o).height ≤ n → Promises (BecomesLow n) (optional_step at s o)
   step_low s few None n h = omega arith
-  step_low s few (Some a) n h = let higher = around_higher (assignment_span a).from (assigned_reach a) in assignment_low s few a n (omega arith)
+  step_low s few (Some a) n h = let higher = around_higher (assignment_span a).from (assigned_reach a) in assigning_low s few a n (omega arith)
 
   -- ---- locals
 
@@ -114,16 +122,14 @@ module _ (at : Places) where
       passing_promises (Low n) (IsLowStatement n) (typed at s value) _ (typed_low s few at value n (omega arith)) (λ x low. converted_low (IsLowStatement n) n x t span _ (omega arith) low (λ v low'. low'))
   initialised_low s few (Some (trees.Constants constants list)) t k span n h = tt
 
-  abbrev pub BecomesLow : ℕ → Walked → Type 0
-  BecomesLow n w = IsLowStatement n w.0
-
   declarator_low : (s : Scope) → HaveFew s → (base : TypeTree) (type : CType) (span : Span) (d : Declarator) (n : ℕ) → 17 * (declarator_reach d).height + 1 ≤ n → Promises (BecomesLow n) (declarator at s base type span d)
   declarator_low s few base type span d n h =
       let two = beside_second (optional_bounds_reach d.bounds) (optional_initializer_reach d.initializer) in
-      needs_promises (BecomesLow n) (nat_lt (length s.locals) 256) E08 span _
+      needs_promises (BecomesLow n) (nat_lt (length s.locals) s.flow.vars) E08 span _
       (λ low. passing_promises (λ (t : CType). Unit {0}) (BecomesLow n) (without_stars base d.stars type) _ (anything_promised (without_stars base d.stars type))
       (λ t _. passing_promises (IsLowStatement n) (BecomesLow n) (initialised at (with_local d.name.number t s) d.initializer t (length s.locals) span) _ (initialised_low (with_local d.name.number t s) few d.initializer t (length s.locals) span n (omega arith))
-      (λ initial low'. needs_promises (BecomesLow n) (is_scalar t) E13 span _ (λ scalar. omega (arith, zero_low t)))))
+      (λ initial low'. needs_promises (BecomesLow n) (is_scalar t) E13 span _
+      (λ scalar. declared_promises (BecomesLow n) (with_local d.name.number t s) d.initializer t (length s.locals) span initial (λ k. omega (arith, zero_low t))))))
 
   declarators_low : (s : Scope) → HaveFew s → (base : TypeTree) (type : CType) (span : Span) (ds : List Declarator) (n : ℕ) → IsNamedIn s type → 17 * (declarators_reach ds).height + 1 ≤ n → Promises (BecomesLow n) (declarators at s base type span ds)
   declarators_low s few base type span [] n named h = omega arith
@@ -137,7 +143,7 @@ module _ (at : Places) where
   declaration_low : (s : Scope) → HaveFew s → (d : Declaration) (n : ℕ) → 17 * (declared_reach d).height + 1 ≤ n → Promises (BecomesLow n) (declaration at s d)
   declaration_low s few d n h =
       let two = beside_second (type_reach d.base) (declarators_reach d.declarators) in
-      needs_promises (BecomesLow n) (nat_lt (length s.locals) 256) E08 d.span _
+      needs_promises (BecomesLow n) (nat_lt (length s.locals) s.flow.vars) E08 d.span _
       (λ room. passing_promises (IsNamedIn s) (BecomesLow n) (base_type s d.base) _ (base_named s d.base) (λ type named. declarators_low s few d.base type d.span d.declarators n named (omega arith)))
 
   first_low : (s : Scope) → HaveFew s → (initial : ForInitial) (n : ℕ) → 17 * (for_initial_reach initial).height ≤ n → Promises (BecomesLow n) (first_part at s initial)
@@ -145,7 +151,7 @@ module _ (at : Places) where
   first_low s few (trees.Declares d) n h = let higher = around_higher d.span.from (declared_reach d) in declaration_low s few d n (omega arith)
   first_low s few (trees.Assigns a) n h =
       let higher = around_higher (assignment_span a).from (assigned_reach a) in
-      passing_promises (IsLowStatement n) (BecomesLow n) (assignment at s a) _ (assignment_low s few a n (omega arith)) (λ x low. low)
+      assigning_low s few a n (omega arith)
 
   -- ---- results
 
@@ -173,7 +179,7 @@ module _ (at : Places) where
     statement_low s few (trees.Declare d span) n h = let higher = around_higher span.from (declared_reach d) in declaration_low s few d n (omega arith)
     statement_low s few (trees.Assign a span) n h =
         let higher = around_higher span.from (assigned_reach a) in
-        passing_promises (IsLowStatement n) (BecomesLow n) (assignment at s a) _ (assignment_low s few a n (omega arith)) (λ x low. low)
+        assigning_low s few a n (omega arith)
     statement_low s few (trees.CallAlone call span) n h =
         let higher = around_higher span.from (expression_reach call) in
         passing_promises (LowCall n) (BecomesLow n) (call_typed at s call) _ (call_typed_low s few at call n (omega arith)) (λ c low. alone_low n c low)
@@ -184,7 +190,7 @@ module _ (at : Places) where
         let one = beside_first (expression_reach test) (statement_reach consequent) in
         let two = beside_second (expression_reach test) (statement_reach consequent) in
         passing_promises (IsLow n) (BecomesLow n) (condition at s test) _ (condition_low s few test n (omega arith))
-        (λ c low. passing_promises (BecomesLow n) (BecomesLow n) (statement at s consequent) _ (statement_low s few consequent n (omega arith)) (λ x low'. omega arith))
+        (λ c low. passing_promises (BecomesLow n) (BecomesLow n) (statement at (when c true s) consequent) _ (statement_low (when c true s) few consequent n (omega arith)) (λ x low'. omega arith))
     statement_low s few (trees.IfElse test consequent alternative span) n h =
         let a = expression_reach test in
         let b = statement_reach consequent in
@@ -195,16 +201,20 @@ module _ (at : Places) where
         let three = beside_first (a beside b) c' in
         let four = beside_second (a beside b) c' in
         passing_promises (IsLow n) (BecomesLow n) (condition at s test) _ (condition_low s few test n (omega arith))
-        (λ c low. passing_promises (λ (w : Walked). GrowsTo s w × BecomesLow n w) (BecomesLow n) (statement at s consequent) _
-        (both_promise (GrowsTo s) (BecomesLow n) (statement at s consequent) (statement_grows at s consequent) (statement_low s few consequent n (omega arith)))
-        (λ x hx. passing_promises (BecomesLow n) (BecomesLow n) (statement at (behind_block s x.1) alternative) _ (statement_low (behind_block s x.1) (few_later s (behind_block s x.1) (block_grows s x.1 hx.0) few) alternative n (omega arith))
+        (λ c low. let yes = when c true s in
+        passing_promises (λ (w : Walked). GrowsTo yes w × BecomesLow n w) (BecomesLow n) (statement at yes consequent) _
+        (both_promise (GrowsTo yes) (BecomesLow n) (statement at yes consequent) (statement_grows at yes consequent) (statement_low yes few consequent n (omega arith)))
+        (λ x hx. let no = at_alternative s c x.1 in
+        passing_promises (BecomesLow n) (BecomesLow n) (statement at no alternative) _ (statement_low no (few_later s no (alternative_grows s c x.1 hx.0) few) alternative n (omega arith))
         (λ y low'. let low'' = hx.1 in omega arith)))
     statement_low s few (trees.While test body span) n h =
         let higher = around_higher span.from (expression_reach test beside statement_reach body) in
         let one = beside_first (expression_reach test) (statement_reach body) in
         let two = beside_second (expression_reach test) (statement_reach body) in
-        passing_promises (IsLow n) (BecomesLow n) (condition at s test) _ (condition_low s few test n (omega arith))
-        (λ c low. passing_promises (BecomesLow n) (BecomesLow n) (statement at (in_loop s) body) _ (statement_low (in_loop s) few body n (omega arith)) (λ x low'. omega arith))
+        let head = at_loop body None s in
+        passing_promises (IsLow n) (BecomesLow n) (condition at head test) _ (condition_low head few test n (omega arith))
+        (λ c low. let turn = in_loop (when c true head) in
+        passing_promises (BecomesLow n) (BecomesLow n) (statement at turn body) _ (statement_low turn few body n (omega arith)) (λ x low'. omega arith))
     statement_low s few (trees.For initial test step body span) n h =
         let a = for_initial_reach initial in
         let b = optional_expression_reach test in
@@ -221,10 +231,13 @@ module _ (at : Places) where
         (both_promise (GrowsTo s) (BecomesLow n) (first_part at s initial) (first_grows at s initial) (first_low s few initial n (omega arith)))
         (λ first hf.
         let few' = few_later s first.1 hf.0 few in
-        passing_promises (IsLow n) (BecomesLow n) (optional_condition at first.1 test) _ (optional_low first.1 few' test n (omega arith))
-        (λ c low. passing_promises (λ (w : Walked). GrowsTo (in_loop first.1) w × BecomesLow n w) (BecomesLow n) (statement at (in_loop first.1) body) _
-        (both_promise (GrowsTo (in_loop first.1)) (BecomesLow n) (statement at (in_loop first.1) body) (statement_grows at (in_loop first.1) body) (statement_low (in_loop first.1) few' body n (omega arith)))
-        (λ x hx. passing_promises (IsLowStatement n) (BecomesLow n) (optional_step at (behind_block first.1 x.1) step) _ (step_low (behind_block first.1 x.1) (few_later first.1 (behind_block first.1 x.1) (loop_grows first.1 x.1 hx.0) few') step n (omega arith))
+        let head = at_loop body step first.1 in
+        passing_promises (IsLow n) (BecomesLow n) (optional_condition at head test) _ (optional_low head few' test n (omega arith))
+        (λ c low. let turn = in_loop (when c true head) in
+        passing_promises (λ (w : Walked). GrowsTo turn w × BecomesLow n w) (BecomesLow n) (statement at turn body) _
+        (both_promise (GrowsTo turn) (BecomesLow n) (statement at turn body) (statement_grows at turn body) (statement_low turn few' body n (omega arith)))
+        (λ x hx. let last = before_step first.1 x.1 in
+        passing_promises (BecomesLow n) (BecomesLow n) (optional_step at last step) _ (step_low last (few_later first.1 last (step_grows first.1 body step c x.1 hx.0) few') step n (omega arith))
         (λ y low'. let l = hf.1 in let l' = hx.1 in omega arith))))
     statement_low s few (trees.Return value span) n h =
         let higher = around_higher span.from (optional_expression_reach value) in

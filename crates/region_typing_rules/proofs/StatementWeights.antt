@@ -1,5 +1,5 @@
 -- The statements of a core have few nodes, by how many the tree has that they come from.
-use Rattle.std.proofs.Common.{◌≡◌, ℕ, ◌+◌, ◌*◌, ◌<◌, ◌≤◌, List, [], ◌∷◌, length, Option, Some, None, arith}
+use Rattle.std.proofs.Common.{◌≡◌, ℕ, ◌+◌, ◌*◌, ◌<◌, ◌≤◌, true, List, [], ◌∷◌, length, Option, Some, None, arith}
 use Rattle.std.specs.Prelude.{nat_lt, not, ◌||◌}
 use Rattle.ckc_text.specs.declared.place.Span.{Span}
 use Rattle.ckc_text.specs.declared.code.Code.TheVariants.{E08, E13, E15, E19, E30}
@@ -21,7 +21,9 @@ use Rattle.region_typing_rules.specs.Verdicts.{Verdict, Passes}
 use Rattle.region_typing_rules.specs.Scopes.{Scope}
 use Rattle.region_typing_rules.specs.Types.{is_pointer, is_scalar, without_stars, base_type}
 use Rattle.region_typing_rules.specs.Expressions.{Places, Typed, Value, AStruct, Called, Gives, GivesNothing, Lvalue, OfLocal, OfCell, site_at, typed, call_typed, is_pointer_value}
-use Rattle.region_typing_rules.specs.Statements.{Walked, store, update, assigned, set_to, updated, stored, step_of, one, assignment, zero_value, with_local, initialised, declarator, declarators, declaration, behind_block, in_loop, is_unchecked, condition, optional_condition, optional_step, first_part, alone, returned, returned_nothing, return, statement, statements}
+use Rattle.region_typing_rules.specs.Statements.{Walked, store, update, assigned, set_to, updated, stored, step_of, one, assignment, zero_value, with_local, initialised, declarator, declarators, declaration, at_alternative, before_step, in_loop, is_unchecked, condition, optional_condition, optional_step, first_part, alone, returned, returned_nothing, return, statement, statements}
+use Rattle.region_typing_rules.specs.Knowing.{when, at_loop}
+use Rattle.region_typing_rules.proofs.Assigning.{assigning_promises, declared_promises}
 use Rattle.region_typing_rules.proofs.Verdicts.{Promises, passing_promises, needs_promises, anything_promised, promised_so}
 use Rattle.region_typing_rules.proofs.Weights.{Light, LightPlace, LightCall, IsLight, node_there, scalar_of_light, two_light, converted_light, typed_light, call_typed_light}
 
@@ -98,9 +100,9 @@ module _ (at : Places) where
   optional_light s None = omega arith
   optional_light s (Some x) = promised_so (IsLight (5 * tree.expression_weight x)) (IsLight (5 * tree.expression_weight x + 2)) (condition at s x) (condition_light s x) (λ v light. omega arith)
 
-  step_light : (s : Scope) (o : Option Assignment) → Promises (IsLightStatement (5 * tree.optional_assignment_weight o + 1)) (optional_step at s o)
+  step_light : (s : Scope) (o : Option Assignment) → Promises (BecomesLight (5 * tree.optional_assignment_weight o + 1)) (optional_step at s o)
   step_light s None = omega arith
-  step_light s (Some a) = promised_so (IsLightStatement (5 * tree.assignment_weight a)) (IsLightStatement (5 * tree.assignment_weight a + 1)) (assignment at s a) (assignment_light s a) (λ v light. omega arith)
+  step_light s (Some a) = assigning_promises (IsLightStatement (5 * tree.assignment_weight a)) (BecomesLight (5 * tree.assignment_weight a + 1)) at s a (assignment_light s a) (λ x k light. omega arith)
 
   -- ---- locals
 
@@ -116,10 +118,11 @@ module _ (at : Places) where
   declarator_light : (s : Scope) (base : TypeTree) (type : CType) (span : Span) (d : Declarator) → Promises (λ (w : Walked). statement_weight w.0 < 5 * tree.declarator_weight d) (declarator at s base type span d)
   declarator_light s base type span d =
       let n = 5 * tree.optional_initializer_weight d.initializer + 1 in
-      needs_promises (λ (w : Walked). statement_weight w.0 < 5 * tree.declarator_weight d) (nat_lt (length s.locals) 256) E08 span _
+      needs_promises (λ (w : Walked). statement_weight w.0 < 5 * tree.declarator_weight d) (nat_lt (length s.locals) s.flow.vars) E08 span _
       (λ low. passing_promises (λ (t : CType). Unit {0}) (λ (w : Walked). statement_weight w.0 < 5 * tree.declarator_weight d) (without_stars base d.stars type) _ (anything_promised (without_stars base d.stars type))
       (λ t _. passing_promises (IsLightStatement n) (λ (w : Walked). statement_weight w.0 < 5 * tree.declarator_weight d) (initialised at (with_local d.name.number t s) d.initializer t (length s.locals) span) _ (initialised_light (with_local d.name.number t s) d.initializer t (length s.locals) span)
-      (λ initial light. needs_promises (λ (w : Walked). statement_weight w.0 < 5 * tree.declarator_weight d) (is_scalar t) E13 span _ (λ scalar. omega (arith, zero_light t)))))
+      (λ initial light. needs_promises (λ (w : Walked). statement_weight w.0 < 5 * tree.declarator_weight d) (is_scalar t) E13 span _
+      (λ scalar. declared_promises (λ (w : Walked). statement_weight w.0 < 5 * tree.declarator_weight d) (with_local d.name.number t s) d.initializer t (length s.locals) span initial (λ k. omega (arith, zero_light t))))))
 
   declarators_light : (s : Scope) (base : TypeTree) (type : CType) (span : Span) (ds : List Declarator) → Promises (BecomesLight (5 * tree.declarators_weight ds + 1)) (declarators at s base type span ds)
   declarators_light s base type span [] = omega arith
@@ -131,7 +134,7 @@ module _ (at : Places) where
   declaration_light : (s : Scope) (d : Declaration) → Promises (BecomesLight (5 * tree.declaration_weight d)) (declaration at s d)
   declaration_light s d =
       let all = 5 * tree.declaration_weight d in
-      needs_promises (BecomesLight all) (nat_lt (length s.locals) 256) E08 d.span _
+      needs_promises (BecomesLight all) (nat_lt (length s.locals) s.flow.vars) E08 d.span _
       (λ room. passing_promises (λ (t : CType). Unit {0}) (BecomesLight all) (base_type s d.base) _ (anything_promised (base_type s d.base))
       (λ type _. promised_so (BecomesLight (5 * tree.declarators_weight d.declarators + 1)) (BecomesLight all) (declarators at s d.base type d.span d.declarators) (declarators_light s d.base type d.span d.declarators) (λ w light. omega arith)))
 
@@ -139,7 +142,7 @@ module _ (at : Places) where
   first_light s trees.Nothing = omega arith
   first_light s (trees.Declares d) = promised_so (BecomesLight (5 * tree.declaration_weight d)) (BecomesLight (5 * tree.declaration_weight d + 1)) (declaration at s d) (declaration_light s d) (λ w light. omega arith)
   first_light s (trees.Assigns a) =
-      passing_promises (IsLightStatement (5 * tree.assignment_weight a)) (BecomesLight (5 * tree.assignment_weight a + 1)) (assignment at s a) _ (assignment_light s a) (λ x light. omega arith)
+      assigning_promises (IsLightStatement (5 * tree.assignment_weight a)) (BecomesLight (5 * tree.assignment_weight a + 1)) at s a (assignment_light s a) (λ x k light. omega arith)
 
   -- ---- results
 
@@ -173,7 +176,7 @@ module _ (at : Places) where
     statement_light s (trees.Declare d span) = declaration_light s d
     statement_light s (trees.Assign a span) =
         let all = 5 * tree.assignment_weight a in
-        passing_promises (IsLightStatement all) (BecomesLight all) (assignment at s a) _ (assignment_light s a) (λ x light. light)
+        assigning_promises (IsLightStatement all) (BecomesLight all) at s a (assignment_light s a) (λ x k light. light)
     statement_light s (trees.CallAlone call span) =
         let n = 5 * tree.expression_weight call in
         passing_promises (LightCall n) (BecomesLight (5 * tree.statement_weight (trees.CallAlone call span))) (call_typed at s call) _ (call_typed_light at s call) (λ c light. let it = alone_light n c light in omega arith)
@@ -181,22 +184,24 @@ module _ (at : Places) where
     statement_light s (trees.If test consequent span) =
         let all = 5 * tree.statement_weight (trees.If test consequent span) in
         passing_promises (IsLight (5 * tree.expression_weight test)) (BecomesLight all) (condition at s test) _ (condition_light s test)
-        (λ c light. passing_promises (BecomesLight (5 * tree.statement_weight consequent)) (BecomesLight all) (statement at s consequent) _ (statement_light s consequent) (λ x light'. omega arith))
+        (λ c light. passing_promises (BecomesLight (5 * tree.statement_weight consequent)) (BecomesLight all) (statement at (when c true s) consequent) _ (statement_light (when c true s) consequent) (λ x light'. omega arith))
     statement_light s (trees.IfElse test consequent alternative span) =
         let all = 5 * tree.statement_weight (trees.IfElse test consequent alternative span) in
         passing_promises (IsLight (5 * tree.expression_weight test)) (BecomesLight all) (condition at s test) _ (condition_light s test)
-        (λ c light. passing_promises (BecomesLight (5 * tree.statement_weight consequent)) (BecomesLight all) (statement at s consequent) _ (statement_light s consequent)
-        (λ x light'. passing_promises (BecomesLight (5 * tree.statement_weight alternative)) (BecomesLight all) (statement at (behind_block s x.1) alternative) _ (statement_light (behind_block s x.1) alternative) (λ y light''. omega arith)))
+        (λ c light. passing_promises (BecomesLight (5 * tree.statement_weight consequent)) (BecomesLight all) (statement at (when c true s) consequent) _ (statement_light (when c true s) consequent)
+        (λ x light'. passing_promises (BecomesLight (5 * tree.statement_weight alternative)) (BecomesLight all) (statement at (at_alternative s c x.1) alternative) _ (statement_light (at_alternative s c x.1) alternative) (λ y light''. omega arith)))
     statement_light s (trees.While test body span) =
         let all = 5 * tree.statement_weight (trees.While test body span) in
-        passing_promises (IsLight (5 * tree.expression_weight test)) (BecomesLight all) (condition at s test) _ (condition_light s test)
-        (λ c light. passing_promises (BecomesLight (5 * tree.statement_weight body)) (BecomesLight all) (statement at (in_loop s) body) _ (statement_light (in_loop s) body) (λ x light'. omega arith))
+        let head = at_loop body None s in
+        passing_promises (IsLight (5 * tree.expression_weight test)) (BecomesLight all) (condition at head test) _ (condition_light head test)
+        (λ c light. passing_promises (BecomesLight (5 * tree.statement_weight body)) (BecomesLight all) (statement at (in_loop (when c true head)) body) _ (statement_light (in_loop (when c true head)) body) (λ x light'. omega arith))
     statement_light s (trees.For initial test step body span) =
         let all = 5 * tree.statement_weight (trees.For initial test step body span) in
         passing_promises (BecomesLight (5 * tree.for_initial_weight initial + 1)) (BecomesLight all) (first_part at s initial) _ (first_light s initial)
-        (λ first hf. passing_promises (IsLight (5 * tree.optional_expression_weight test + 2)) (BecomesLight all) (optional_condition at first.1 test) _ (optional_light first.1 test)
-        (λ c light. passing_promises (BecomesLight (5 * tree.statement_weight body)) (BecomesLight all) (statement at (in_loop first.1) body) _ (statement_light (in_loop first.1) body)
-        (λ x hx. passing_promises (IsLightStatement (5 * tree.optional_assignment_weight step + 1)) (BecomesLight all) (optional_step at (behind_block first.1 x.1) step) _ (step_light (behind_block first.1 x.1) step)
+        (λ first hf. let head = at_loop body step first.1 in
+        passing_promises (IsLight (5 * tree.optional_expression_weight test + 2)) (BecomesLight all) (optional_condition at head test) _ (optional_light head test)
+        (λ c light. passing_promises (BecomesLight (5 * tree.statement_weight body)) (BecomesLight all) (statement at (in_loop (when c true head)) body) _ (statement_light (in_loop (when c true head)) body)
+        (λ x hx. passing_promises (BecomesLight (5 * tree.optional_assignment_weight step + 1)) (BecomesLight all) (optional_step at (before_step first.1 x.1) step) _ (step_light (before_step first.1 x.1) step)
         (λ y light'. omega arith))))
     statement_light s (trees.Return value span) =
         let n = 5 * tree.optional_expression_weight value + 5 in

@@ -20,14 +20,16 @@ use Rattle.region_typing_rules.specs.Verdicts.{Verdict, Passes, Stops}
 use Rattle.region_typing_rules.specs.Scopes.{Scope}
 use Rattle.region_typing_rules.specs.Types.{is_number, is_pointer, is_scalar, without_stars, base_type}
 use Rattle.region_typing_rules.specs.Expressions.{Places, Typed, Value, AStruct, Called, Gives, GivesNothing, Lvalue, OfLocal, OfCell, site_at, typed, call_typed, is_pointer_value}
-use Rattle.region_typing_rules.specs.Statements.{Walked, both, store, updated_place, update, assigned, set_to, updated, stored, step_of, one, assignment, zero_value, with_local, initialised, declarator, declarators, declaration, behind_block, in_loop, is_unchecked, condition, optional_condition, optional_step, first_part, alone, returned, returned_nothing, return, statement, statements}
+use Rattle.region_typing_rules.specs.Statements.{Walked, both, store, updated_place, update, assigned, set_to, updated, stored, step_of, one, assignment, assigning, zero_value, with_local, initialised, declarator, declarators, declaration, at_alternative, before_step, in_loop, is_unchecked, condition, optional_condition, optional_step, first_part, alone, returned, returned_nothing, return, statement, statements}
+use Rattle.region_typing_rules.specs.Knowing.{when, at_loop}
 use Rattle.region_typing_rules.specs.Typed as rules
 use Rattle.region_typing_rules.specs.Typed.{Frame, HasType, HasPlace, IsStatement, AreStatements, IsScalar}
 use Rattle.region_typing_rules.proofs.Verdicts.{Promises, passing_promises, needs_promises, both_promise, later_promises, Extends, extends_last}
 use Rattle.region_typing_rules.proofs.Known.{IsKnown, without_known, base_known}
 use Rattle.region_typing_rules.proofs.Knowledge.{KnowsFile, Knows}
 use Rattle.region_typing_rules.proofs.Expressions.{FitsPlace, Fits, FitsCall, scalar_of_promises, two_numbers_promise, converted_promises, typed_promises, call_promises}
-use Rattle.region_typing_rules.proofs.Growth.{Grows, local_closed, file_known, block_grows, loop_grows, declarator_grows, declarators_grow, first_grows, statement_grows, statements_grow, GrowsTo}
+use Rattle.region_typing_rules.proofs.Growth.{Grows, local_closed, file_known, when_grows, head_grows, alternative_grows, step_grows, optional_grows, declarator_grows, declarators_grow, first_grows, statement_grows, statements_grow, GrowsTo}
+use Rattle.region_typing_rules.proofs.Assigning.{assigning_promises, declared_promises}
 
 -- a scalar that is no pointer is a number
 number_left : (t : CType) (other : Bool) → IsScalar t → not (is_pointer t || other) ≡ true → is_number t ≡ true
@@ -104,10 +106,6 @@ module _ (g : Frame) (types : List CType) (all_scalar : AllByRecursion IsScalar 
   optional_promises at s knows None = record { type = Int; typed = rules.word refl }
   optional_promises at s knows (Some x) = condition_promises at s knows x
 
-  step_promises : (at : Places) (s : Scope) → Knows g types s → (o : Option Assignment) → Promises IsAny (optional_step at s o)
-  step_promises at s knows None = λ result loop. rules.nothing
-  step_promises at s knows (Some a) = assignment_promises at s knows a
-
   returned_promises : (result : Option CType) (loop : Bool) (o : Option CType) (t : Typed) (span : Span) → result ≡ o → Fits g types t → Promises (IsStatement g types result loop) (returned o t span)
   returned_promises result loop None t span e h = tt
   returned_promises result loop (Some type) t span e h = converted_promises g types (IsStatement g types result loop) t type span _ h (λ v typed. rules.returned e typed)
@@ -158,11 +156,12 @@ module _ (g : Frame) (types : List CType) (all_scalar : AllByRecursion IsScalar 
 
   declarator_promises : (at : Places) (s : Scope) → KnowsFile g s → (base : TypeTree) (type : CType) (span : Span) (d : Declarator) → IsKnown s.structs type → Promises (Becomes IsAny) (declarator at s base type span d)
   declarator_promises at s file base type span d known_type =
-      needs_promises (Becomes IsAny) (nat_lt (length s.locals) 256) E08 span _
+      needs_promises (Becomes IsAny) (nat_lt (length s.locals) s.flow.vars) E08 span _
       (λ few. passing_promises (IsKnown s.structs) (Becomes IsAny) (without_stars base d.stars type) _ (without_known s file.closed.tagged base d.stars type known_type)
       (λ t known_t. passing_promises (λ (x : core.Statement). Reaches (with_local d.name.number t s) → IsAny x) (Becomes IsAny) (initialised at (with_local d.name.number t s) d.initializer t (length s.locals) span) _ (later_promises (Reaches (with_local d.name.number t s)) IsAny _ (initial t known_t))
       (λ initial h. needs_promises (Becomes IsAny) (is_scalar t) E13 span _
-      (λ scalar reaches. both_typed (core.SetLocal (length s.locals) (zero_value t)) initial (λ result loop. rules.set_local (there t reaches) (zero_typed t scalar)) (h reaches)))))
+      (λ scalar. declared_promises (Becomes IsAny) (with_local d.name.number t s) d.initializer t (length s.locals) span initial
+      (λ k reaches. both_typed (core.SetLocal (length s.locals) (zero_value t)) initial (λ result loop. rules.set_local (there t reaches) (zero_typed t scalar)) (h reaches))))))
     where
       there : (t : CType) → Reaches (with_local d.name.number t s) → slice_get types (length s.locals) ≡ Some t
       there t reaches = reaches (length s.locals) t (extends_last s.locals t)
@@ -187,14 +186,27 @@ module _ (g : Frame) (types : List CType) (all_scalar : AllByRecursion IsScalar 
 
   declaration_promises : (at : Places) (s : Scope) → KnowsFile g s → (d : Declaration) → Promises (Becomes IsAny) (declaration at s d)
   declaration_promises at s file d =
-      needs_promises (Becomes IsAny) (nat_lt (length s.locals) 256) E08 d.span _
+      needs_promises (Becomes IsAny) (nat_lt (length s.locals) s.flow.vars) E08 d.span _
       (λ few. passing_promises (IsKnown s.structs) (Becomes IsAny) (base_type s d.base) _ (base_known s file.closed.tagged d.base) (λ type known. declarators_promise at s file d.base type d.span d.declarators known))
+
+  -- where the locals of a scope are reached, an assignment has a type
+  abbrev pub IsAnyIn : Scope → core.Statement → Type 0
+  IsAnyIn s x = Reaches s → IsAny x
+
+  any_assignment : (at : Places) (s : Scope) → KnowsFile g s → (a : Assignment) → Promises (IsAnyIn s) (assignment at s a)
+  any_assignment at s file a = later_promises (Reaches s) IsAny (assignment at s a) (λ reaches. assignment_promises at s (knows_from s file reaches) a)
+
+  assigning_typed : (at : Places) (s : Scope) → KnowsFile g s → (a : Assignment) → Promises (Becomes IsAny) (assigning at s a)
+  assigning_typed at s file a = assigning_promises (IsAnyIn s) (Becomes IsAny) at s a (any_assignment at s file a) (λ x k h. h)
+
+  step_promises : (at : Places) (s : Scope) → KnowsFile g s → (o : Option Assignment) → Promises (λ (w : Walked). IsAnyIn s w.0) (optional_step at s o)
+  step_promises at s file None = λ reaches result loop. rules.nothing
+  step_promises at s file (Some a) = assigning_promises (IsAnyIn s) (λ (w : Walked). IsAnyIn s w.0) at s a (any_assignment at s file a) (λ x k h. h)
 
   first_promises : (at : Places) (s : Scope) → KnowsFile g s → (initial : ForInitial) → Promises (Becomes IsAny) (first_part at s initial)
   first_promises at s file trees.Nothing = λ reaches result loop. rules.nothing
   first_promises at s file (trees.Declares d) = declaration_promises at s file d
-  first_promises at s file (trees.Assigns a) =
-      passing_promises (λ (x : core.Statement). Reaches s → IsAny x) (Becomes IsAny) (assignment at s a) _ (later_promises (Reaches s) IsAny (assignment at s a) (λ reaches. assignment_promises at s (knows_from s file reaches) a)) (λ x h. h)
+  first_promises at s file (trees.Assigns a) = assigning_typed at s file a
 
   -- ---- statements
 
@@ -234,46 +246,59 @@ module _ (g : Frame) (types : List CType) (all_scalar : AllByRecursion IsScalar 
     statement_promises at g' file (trees.Declare d span) =
         in_scope g' (declaration at g' d) (declaration_promises at g' file d)
     statement_promises at g' file (trees.Assign a span) =
-        passing_promises (λ (x : core.Statement). Reaches g' → IsAny x) (Becomes (IsIn g')) (assignment at g' a) _
-        (later_promises (Reaches g') IsAny (assignment at g' a) (λ reaches. assignment_promises at g' (knows_from g' file reaches) a)) (λ x h reaches. h reaches g'.result g'.in_loop)
+        in_scope g' (assigning at g' a) (assigning_typed at g' file a)
     statement_promises at g' file (trees.CallAlone call span) =
         passing_promises (λ (c : Called). Reaches g' → FitsCall g types c) (Becomes (IsIn g')) (call_typed at g' call) _
         (later_promises (Reaches g') (FitsCall g types) (call_typed at g' call) (λ reaches. call_promises g types g' (knows_from g' file reaches) at call)) (λ c h reaches. alone_typed c (h reaches) g'.result g'.in_loop)
     statement_promises at g' file (trees.Empty span) = λ reaches. rules.nothing
     statement_promises at g' file (trees.If test consequent span) =
         passing_promises (λ (e : core.Expression). Reaches g' → IsScalarValue e) (Becomes (IsIn g')) (condition at g' test) _ (tested at g' file test)
-        (λ c hc. passing_promises (λ (w : Walked). GrowsTo g' w × Becomes (IsIn g') w) (Becomes (IsIn g')) (statement at g' consequent) _ (both_promise (GrowsTo g') (Becomes (IsIn g')) (statement at g' consequent) (statement_grows at g' consequent) (statement_promises at g' file consequent))
-        (λ x hx reaches. rules.choice (hc (earlier g' x.1 hx.0 reaches)).typed (hx.1 reaches) rules.nothing))
+        (λ c hc. let yes = when c true g' in
+        let more = when_grows c true g' in
+        passing_promises (λ (w : Walked). GrowsTo yes w × Becomes (IsIn yes) w) (Becomes (IsIn g')) (statement at yes consequent) _ (both_promise (GrowsTo yes) (Becomes (IsIn yes)) (statement at yes consequent) (statement_grows at yes consequent) (statement_promises at yes (file_known g g' yes more file) consequent))
+        (λ x hx reaches. rules.choice (hc (earlier yes x.1 hx.0 reaches)).typed (hx.1 reaches) rules.nothing))
     statement_promises at g' file (trees.IfElse test consequent alternative span) =
         passing_promises (λ (e : core.Expression). Reaches g' → IsScalarValue e) (Becomes (IsIn g')) (condition at g' test) _ (tested at g' file test)
-        (λ c hc. passing_promises (λ (w : Walked). GrowsTo g' w × Becomes (IsIn g') w) (Becomes (IsIn g')) (statement at g' consequent) _ (both_promise (GrowsTo g') (Becomes (IsIn g')) (statement at g' consequent) (statement_grows at g' consequent) (statement_promises at g' file consequent))
+        (λ c hc. let yes = when c true g' in
+        passing_promises (λ (w : Walked). GrowsTo yes w × Becomes (IsIn yes) w) (Becomes (IsIn g')) (statement at yes consequent) _ (both_promise (GrowsTo yes) (Becomes (IsIn yes)) (statement at yes consequent) (statement_grows at yes consequent) (statement_promises at yes (file_known g g' yes (when_grows c true g') file) consequent))
         (λ x hx.
-        let behind = behind_block g' x.1 in
-        let more = block_grows g' x.1 hx.0 in
-        passing_promises (λ (w : Walked). GrowsTo behind w × Becomes (IsIn behind) w) (Becomes (IsIn g')) (statement at behind alternative) _ (both_promise (GrowsTo behind) (Becomes (IsIn behind)) (statement at behind alternative) (statement_grows at behind alternative) (statement_promises at behind (file_known g g' behind more file) alternative))
+        let no = at_alternative g' c x.1 in
+        let more = alternative_grows g' c x.1 hx.0 in
+        passing_promises (λ (w : Walked). GrowsTo no w × Becomes (IsIn no) w) (Becomes (IsIn g')) (statement at no alternative) _ (both_promise (GrowsTo no) (Becomes (IsIn no)) (statement at no alternative) (statement_grows at no alternative) (statement_promises at no (file_known g g' no more file) alternative))
         (λ y hy reaches.
-        let middle = earlier behind y.1 hy.0 reaches in
-        rules.choice (hc (earlier g' behind more middle)).typed (hx.1 middle) (statement_from g' behind y.0 more (hy.1 reaches)))))
+        let middle = earlier no y.1 hy.0 reaches in
+        rules.choice (hc (earlier g' no more middle)).typed (hx.1 middle) (statement_from g' no y.0 more (hy.1 reaches)))))
     statement_promises at g' file (trees.While test body span) =
-        passing_promises (λ (e : core.Expression). Reaches g' → IsScalarValue e) (Becomes (IsIn g')) (condition at g' test) _ (tested at g' file test)
-        (λ c hc. passing_promises (λ (w : Walked). GrowsTo (in_loop g') w × Becomes (IsIn (in_loop g')) w) (Becomes (IsIn g')) (statement at (in_loop g') body) _ (both_promise (GrowsTo (in_loop g')) (Becomes (IsIn (in_loop g'))) (statement at (in_loop g') body) (statement_grows at (in_loop g') body) (statement_promises at (in_loop g') (in_loop_known g' file) body))
-        (λ x hx reaches. rules.repeat (hc (earlier g' (behind_block g' x.1) (loop_grows g' x.1 hx.0) reaches)).typed (hx.1 reaches) rules.nothing))
+        let head = at_loop body None g' in
+        let headed = file_known g g' head (head_grows body None g') file in
+        passing_promises (λ (e : core.Expression). Reaches head → IsScalarValue e) (Becomes (IsIn g')) (condition at head test) _ (tested at head headed test)
+        (λ c hc. let yes = when c true head in
+        let turn = in_loop yes in
+        let turned = in_loop_known yes (file_known g head yes (when_grows c true head) headed) in
+        passing_promises (λ (w : Walked). GrowsTo turn w × Becomes (IsIn turn) w) (Becomes (IsIn g')) (statement at turn body) _ (both_promise (GrowsTo turn) (Becomes (IsIn turn)) (statement at turn body) (statement_grows at turn body) (statement_promises at turn turned body))
+        (λ x hx reaches. rules.repeat (hc (earlier turn x.1 hx.0 reaches)).typed (hx.1 reaches) rules.nothing))
     statement_promises at g' file (trees.For initial test step body span) =
         passing_promises (λ (w : Walked). GrowsTo g' w × Becomes IsAny w) (Becomes (IsIn g')) (first_part at g' initial) _
         (both_promise (GrowsTo g') (Becomes IsAny) (first_part at g' initial) (first_grows at g' initial) (first_promises at g' file initial))
         (λ first hf.
         let known = file_known g g' first.1 hf.0 file in
-        passing_promises (λ (e : core.Expression). Reaches first.1 → IsScalarValue e) (Becomes (IsIn g')) (optional_condition at first.1 test) _
-        (later_promises (Reaches first.1) IsScalarValue (optional_condition at first.1 test) (λ reaches. optional_promises at first.1 (knows_from first.1 known reaches) test))
-        (λ c hc. passing_promises (λ (w : Walked). GrowsTo (in_loop first.1) w × Becomes (IsIn (in_loop first.1)) w) (Becomes (IsIn g')) (statement at (in_loop first.1) body) _ (both_promise (GrowsTo (in_loop first.1)) (Becomes (IsIn (in_loop first.1))) (statement at (in_loop first.1) body) (statement_grows at (in_loop first.1) body) (statement_promises at (in_loop first.1) (in_loop_known first.1 known) body))
+        let head = at_loop body step first.1 in
+        let headed = file_known g first.1 head (head_grows body step first.1) known in
+        passing_promises (λ (e : core.Expression). Reaches head → IsScalarValue e) (Becomes (IsIn g')) (optional_condition at head test) _
+        (later_promises (Reaches head) IsScalarValue (optional_condition at head test) (λ reaches. optional_promises at head (knows_from head headed reaches) test))
+        (λ c hc. let yes = when c true head in
+        let turn = in_loop yes in
+        let turned = in_loop_known yes (file_known g head yes (when_grows c true head) headed) in
+        passing_promises (λ (w : Walked). GrowsTo turn w × Becomes (IsIn turn) w) (Becomes (IsIn g')) (statement at turn body) _ (both_promise (GrowsTo turn) (Becomes (IsIn turn)) (statement at turn body) (statement_grows at turn body) (statement_promises at turn turned body))
         (λ x hx.
-        let behind = behind_block first.1 x.1 in
-        let more = loop_grows first.1 x.1 hx.0 in
-        passing_promises (λ (y : core.Statement). Reaches behind → IsAny y) (Becomes (IsIn g')) (optional_step at behind step) _
-        (later_promises (Reaches behind) IsAny (optional_step at behind step) (λ reaches. step_promises at behind (knows_from behind (file_known g first.1 behind more known) reaches) step))
-        (λ y hy reaches.
-        let middle = earlier first.1 behind more reaches in
-        looped g' first.0 c x.0 y (hf.1 middle) (hc middle).type (hc middle).typed (subst (λ r. IsStatement g types r true x.0) (sym hf.0.result) (hx.1 reaches)) (hy reaches)))))
+        let last = before_step first.1 x.1 in
+        let more = step_grows first.1 body step c x.1 hx.0 in
+        passing_promises (λ (w : Walked). GrowsTo last w × IsAnyIn last w.0) (Becomes (IsIn g')) (optional_step at last step) _
+        (both_promise (GrowsTo last) (λ (w : Walked). IsAnyIn last w.0) (optional_step at last step) (optional_grows at last step) (step_promises at last (file_known g first.1 last more known) step))
+        (λ y hy over.
+        let reaches = earlier last y.1 hy.0 over in
+        let middle = earlier first.1 last more reaches in
+        looped g' first.0 c x.0 y.0 (hf.1 middle) (hc middle).type (hc middle).typed (subst (λ r. IsStatement g types r true x.0) (sym hf.0.result) (hx.1 reaches)) (hy.1 reaches)))))
     statement_promises at g' file (trees.Return value span) =
         passing_promises (λ (x : core.Statement). Reaches g' → IsIn g' x) (Becomes (IsIn g')) (return at g' value span) _
         (later_promises (Reaches g') (IsIn g') (return at g' value span) (λ reaches. return_promises at g' (knows_from g' file reaches) value span)) (λ x h. h)

@@ -16,10 +16,11 @@ use Rattle.ckc_tree.specs.Types.{TypeTree, IntType, CharType, StructType, Pointe
 use Rattle.ckc_tree.specs.Expressions as e
 use Rattle.ckc_tree.specs.Expressions.{Expression}
 use Rattle.ckc_tree.specs.Statements as s
-use Rattle.ckc_tree.specs.Statements.{Initializer, Declarator}
+use Rattle.ckc_tree.specs.Statements.{Initializer, Declarator, Statements}
 use Rattle.ckc_tree.specs.Items as i
 use Rattle.ckc_tree.specs.Items.{ResultForm, Parameters, Item}
 use Rattle.flat_bytes.specs.Blocks.{rounded_up}
+use Rattle.bounds_flow.specs.Flows.{at_entry}
 use Rattle.pointer_modes.specs.Types as types
 use Rattle.pointer_modes.specs.Types.{CType, Int, Char, Struct, Pointer, Structure, members_of}
 use Rattle.pointer_modes.specs.Layout.{Cell, cells_of, size_of}
@@ -31,6 +32,7 @@ use Rattle.region_typing_rules.specs.Verdicts.{Verdict, Passes, passing, needs, 
 use Rattle.region_typing_rules.specs.Scopes.{Scope, Signature, Variable, struct_named, function_named}
 use Rattle.region_typing_rules.specs.Types.{base_type, without_stars, type_named, is_scalar}
 use Rattle.region_typing_rules.specs.Expressions.{Places, Typed, Value, AStruct, is_tainted, typed}
+use Rattle.region_typing_rules.specs.Knowing.{all_declared}
 use Rattle.region_typing_rules.specs.Statements.{statements, with_local, is_unchecked, is_checked}
 
 -- what is known behind an item: what stands at file level, the cells of the file-level variables with the bytes that their
@@ -285,8 +287,25 @@ abbrev pub with_parameters : List Variable → Scope → Scope
 with_parameters [] g = g
 with_parameters (p ∷ ps) g = with_parameters ps (with_local p.name p.type g)
 
-abbrev pub inside : Signature → List Variable → Scope → Scope
-inside f parameters g = with_parameters parameters (record g { locals = []; visible = []; result = f.result; in_loop = false })
+-- the number, or a limit that it passes
+abbrev pub limited : (limit n : ℕ) → ℕ
+limited limit n = picked (nat_lt limit n) limit n
+
+-- how many variables the flow of a function has: one for each local, and 256 at most
+abbrev pub variables_in : (parameters : ℕ) → Statements → ℕ
+variables_in parameters body = limited 256 (parameters + all_declared body)
+
+abbrev pub inside : Signature → List Variable → Statements → Scope → Scope
+inside f parameters body g =
+    with_parameters parameters (record g {
+      locals = [];
+      visible = [];
+      result = f.result;
+      in_loop = false;
+      flow = at_entry (variables_in (length parameters) body);
+      breaks = None;
+      continues = None;
+    })
 
 abbrev pub core_function : Signature → List Variable → core.Statements → Scope → core.Function
 core_function f parameters body g = record { name = f.text; parameters = length parameters; locals = g.locals; result = f.result; body = body }
@@ -295,7 +314,7 @@ core_function f parameters body g = record { name = f.text; parameters = length 
 abbrev pub function_body : Places → Walk → Signature → List Variable → Option i.Body → Verdict Walk
 function_body at w f parameters None = Passes w
 function_body at w f parameters (Some body) =
-    passing (statements at (inside f parameters w.scope) body.statements) (λ x.
+    passing (statements at (inside f parameters body.statements w.scope) body.statements) (λ x.
     is_checked w.scope body.mark body.span (Passes (record w {
       bodies = w.bodies
           ++ record { name = f.name; function = core_function f parameters x.0 x.1 } ∷ [];
@@ -362,6 +381,9 @@ nothing_known given = record {
   result = None;
   in_loop = false;
   is_off = false;
+  flow = at_entry 0;
+  breaks = None;
+  continues = None;
 }
 
 abbrev pub start : Given → Walk

@@ -11,3 +11,5 @@ pub mod Readings
 pub mod ReadingExamples
 pub mod Typed
 pub mod Lowerable
+pub mod Knowing
+pub mod KnowingExamples

@@ -1,6 +1,5 @@
 -- What is read off small expressions, where n and m are `int` locals, c is a `char` and p is a pointer to elements of 4 bytes.
-use Rattle.std.specs.Prelude.{◌≡◌, ℤ, pos, negsuc, Bool, true, false, List, [], ◌∷◌, Option, Some, None, ℕ}
-use Rattle.ckc_text.specs.declared.place.Place.{Place}
+use Rattle.std.specs.Prelude.{◌≡◌, pos, negsuc, Bool, true, false, List, [], ◌∷◌, Some, None, ℕ}
 use Rattle.pointer_modes.specs.declared.ctype.Mode.TheVariants as modes
 use Rattle.pointer_modes.specs.declared.ctype.Kind.TheVariants as kinds
 use Rattle.pointer_modes.specs.Types.{CType, Int, Char, Pointer}
@@ -8,12 +7,10 @@ use Rattle.act_words.specs.declared.operator.Operator.TheVariants as operators
 use Rattle.act_words.specs.declared.operator.ArithmeticOperator.{ArithmeticOperator}
 use Rattle.act_words.specs.declared.operator.ArithmeticOperator.TheVariants as arithmetics
 use Rattle.act_words.specs.declared.operator.Comparison.TheVariants as comparisons
-use Rattle.bounds_exprs.specs.declared.term.Term.{Term}
 use Rattle.bounds_exprs.specs.declared.term.Bounds.{Bounds}
 use Rattle.bounds_flow.specs.Flows.{Knowledge, at_entry, held_at}
 use Rattle.subsumption.specs.ClosedTables.{entails_terms}
 use Rattle.ckc_core.specs.declared.program.Direction.TheVariants as directions
-use Rattle.ckc_core.specs.declared.program.PointerBounds.{PointerBounds}
 use Rattle.ckc_core.specs.declared.program.Site.{Site}
 use Rattle.ckc_core.specs.Core as core
 use Rattle.region_typing_rules.specs.Readings.{term, own_bounds, based_bounds, behind_local, told}

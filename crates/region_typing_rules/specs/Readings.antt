@@ -1,6 +1,5 @@
 -- What is read off an expression of the core: the term that it is, its bounds, the local that it is, and what a condition tells.
-use Rattle.std.specs.Prelude.{ℕ, ℤ, pos, neg_ℤ, ◌+ℤ◌, Bool, true, false, not, List, Option, Some, None, option_map, slice_get, slice_index_or, is_none, is_some}
-use Rattle.std.specs.Option.{option_and_then}
+use Rattle.std.specs.Prelude.{ℕ, ℤ, pos, neg_ℤ, ◌+ℤ◌, Bool, true, false, not, List, Option, Some, None, option_map, slice_get, is_none, is_some}
 use Rattle.bounds_exprs.specs.declared.term.Term.{Term}
 use Rattle.bounds_exprs.specs.declared.term.Bounds.{Bounds}
 use Rattle.bounds_exprs.specs.Terms.{within_limit}
@@ -10,8 +9,7 @@ use Rattle.bounds_flow.specs.declared.steps.How.{How}
 use Rattle.bounds_flow.specs.declared.steps.How.TheVariants as hows
 use Rattle.bounds_flow.specs.declared.steps.Test.TheVariants.{NotNull, Compare}
 use Rattle.bounds_flow.specs.Flows.{Knowledge, variable, held_at, assumed, met}
-use Rattle.pointer_modes.specs.Types.{CType, Int, Char, Struct, Pointer}
-use Rattle.act_words.specs.declared.operator.Operator.{Operator}
+use Rattle.pointer_modes.specs.Types.{CType, Int, Pointer}
 use Rattle.act_words.specs.declared.operator.Operator.TheVariants as operators
 use Rattle.act_words.specs.declared.operator.ArithmeticOperator.{ArithmeticOperator}
 use Rattle.act_words.specs.declared.operator.ArithmeticOperator.TheVariants as arithmetics
@@ -117,10 +115,15 @@ abbrev toward : Direction → ℤ → ℤ
 toward directions.Forward c = c
 toward directions.Backward c = neg_ℤ c
 
+-- where that many elements are a constant of a term
+abbrev behind_by : ℕ → Option Term → Option Behind
+behind_by local None = None
+behind_by local (Some t) = Some (record { local = local; elements = t.plus })
+
 abbrev further : Direction → Option ℤ → Option Behind → Option Behind
 further direction None there = None
 further direction (Some c) None = None
-further direction (Some c) (Some b) = Some (record b { elements = b.elements +ℤ toward direction c })
+further direction (Some c) (Some b) = behind_by b.local (within_limit None (b.elements +ℤ toward direction c))
 
 -- the local pointer that an expression is, plus a constant
 abbrev pub behind_local : List CType → core.Expression → Option Behind
@@ -129,11 +132,19 @@ behind_local types (core.Local local bounds) =
 behind_local types (core.Sum pointer direction number site bounds) = further direction (constant types number) (behind_local types pointer)
 behind_local types _ = None
 
+-- the local pointer that an expression is
+abbrev pub pointer_local : List CType → core.Expression → Option ℕ
+pointer_local types (core.Local local bounds) = picked (is_pointer_type (slice_get types local)) (Some local) None
+pointer_local types _ = None
+
+abbrev pub known_at : Knowledge → Option ℕ → Bool
+known_at f None = false
+known_at f (Some local) = (held_at f.held local).known
+
 -- a pointer that isn't null: a place, or a local of which that is known
-abbrev pub is_not_null : Knowledge → core.Expression → Bool
-is_not_null f (core.AddressOf place bounds) = true
-is_not_null f (core.Local local bounds) = (held_at f.held local).known
-is_not_null f _ = false
+abbrev pub is_not_null : List CType → Knowledge → core.Expression → Bool
+is_not_null types f (core.AddressOf place bounds) = true
+is_not_null types f e = known_at f (pointer_local types e)
 
 -- ---- conditions
 
@@ -145,24 +156,25 @@ how comparisons.LessEqual = hows.Le
 how comparisons.Greater = hows.Gt
 how comparisons.GreaterEqual = hows.Ge
 
-abbrev compared : Comparison → Option Term → Option Term → Bool → Knowledge → Knowledge
+abbrev pub compared : Comparison → Option Term → Option Term → Bool → Knowledge → Knowledge
 compared comparison None b truth f = f
 compared comparison (Some a) None truth f = f
 compared comparison (Some a) (Some b) truth f = assumed (Compare (how comparison) a b) truth f
 
-abbrev tested : Bool → ℕ → Bool → Knowledge → Knowledge
-tested true local truth f = assumed (NotNull local) truth f
-tested false local truth f = f
+abbrev pub is_null : core.Expression → Bool
+is_null core.Null = true
+is_null _ = false
 
 -- a pointer isn't null, or is
-abbrev null_told : List CType → core.Expression → Bool → Knowledge → Knowledge
-null_told types (core.Local local bounds) truth f = tested (is_pointer_type (slice_get types local)) local truth f
-null_told types _ truth f = f
+abbrev pub null_told : Option ℕ → Bool → Knowledge → Knowledge
+null_told None truth f = f
+null_told (Some local) truth f = assumed (NotNull local) truth f
 
-abbrev same_told : List CType → core.Expression → core.Expression → Bool → Knowledge → Knowledge
-same_told types left core.Null truth f = null_told types left (not truth) f
-same_told types core.Null right truth f = null_told types right (not truth) f
-same_told types left right truth f = f
+-- two pointers are the same, or aren't
+abbrev pub same_told : List CType → core.Expression → core.Expression → Bool → Knowledge → Knowledge
+same_told types left right truth f =
+    picked (is_null right) (null_told (pointer_local types left) (not truth) f)
+    (picked (is_null left) (null_told (pointer_local types right) (not truth) f) f)
 
 -- what is known behind a condition that came out so
 abbrev pub told : List CType → core.Expression → Bool → Knowledge → Knowledge
@@ -173,5 +185,5 @@ told types (core.OrElse left right) false f = told types right false (told types
 told types (core.Not operand) truth f = told types operand (not truth) f
 told types (core.Compare comparison left right) truth f = compared comparison (term types left) (term types right) truth f
 told types (core.Same left right) truth f = same_told types left right truth f
-told types (core.Local local bounds) truth f = null_told types (core.Local local bounds) truth f
+told types (core.Local local bounds) truth f = null_told (pointer_local types (core.Local local bounds)) truth f
 told types _ truth f = f

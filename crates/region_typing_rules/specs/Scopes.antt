@@ -4,6 +4,7 @@ use Rattle.std.specs.Prelude.{ℕ, suc, Bool, true, false, ◌==◌, List, [], �
 use Rattle.ckc_tree.specs.declared.item.FunctionKind.{FunctionKind}
 use Rattle.pointer_modes.specs.Types.{CType, Structure}
 use Rattle.ckc_names_rules.specs.declared.given.Given.{Given}
+use Rattle.bounds_flow.specs.Flows.{Knowledge}
 use Rattle.region_typing_rules.specs.Verdicts.{Verdict, meant, picked}
 
 -- a declared function: its name and how that is written, its kind, its parameters, and what it returns
@@ -41,6 +42,10 @@ pub record Scope : Type 0 where
   pub result : Option CType
   pub in_loop : Bool
   pub is_off : Bool
+  -- what is known where the walk stands, and at the `break`s and the `continue`s of the innermost loop so far
+  pub flow : Knowledge
+  pub breaks : Option Knowledge
+  pub continues : Option Knowledge
 
 -- what a name stands for as an expression
 pub data Named : Type 0 where

@@ -11,7 +11,8 @@ use Rattle.ckc_tree.specs.declared.stmt.StepOperator.TheVariants as steps
 use Rattle.ckc_tree.specs.Types.{TypeTree}
 use Rattle.ckc_tree.specs.Expressions.{Expression, expression_span}
 use Rattle.ckc_tree.specs.Statements as s
-use Rattle.ckc_tree.specs.Statements.{Initializer, Declarator, Declaration, Assignment, ForInitial, Statement, Statements}
+use Rattle.ckc_tree.specs.Statements.{Initializer, Declarator, Declaration, Assignment, assignment_span, ForInitial, Statement, Statements}
+use Rattle.bounds_flow.specs.Flows.{Knowledge, entered, met}
 use Rattle.pointer_modes.specs.Types.{CType, Int, Char, Struct, Pointer}
 use Rattle.ckc_core.specs.declared.program.Site.{Site}
 use Rattle.act_words.specs.declared.operator.Operator.{Operator}
@@ -24,6 +25,8 @@ use Rattle.region_typing_rules.specs.Scopes.{Scope}
 use Rattle.region_typing_rules.specs.Types.{is_scalar, without_stars, base_type}
 use Rattle.region_typing_rules.specs.Expressions.{Places, Typed, Value, AStruct, Called, Gives, GivesNothing, Lvalue, OfLocal, OfCell, site_at}
 use Rattle.region_typing_rules.specs.Expressions.{typed, call_typed, scalar_of, converted, summands}
+use Rattle.region_typing_rules.specs.Readings.{told}
+use Rattle.region_typing_rules.specs.Knowing.{assigned_by, settling, outside_of, knowing, when, cut, broken, continued, with_others, at_loop}
 
 -- what a statement becomes, and what is known behind it
 abbrev pub Walked : Type 0
@@ -79,6 +82,12 @@ abbrev pub assignment : Places → Scope → Assignment → Verdict core.Stateme
 assignment at g (s.Store operator target value span) = passing (typed at g target) (λ a. passing (typed at g value) (λ b. stored at operator a b span))
 assignment at g (s.Step operator side target span) = passing (typed at g target) (λ a. updated at (step_of operator) a one span)
 
+-- an assignment, and what is known behind it
+abbrev pub assigning : Places → Scope → Assignment → Verdict Walked
+assigning at g a =
+    passing (assignment at g a) (λ x.
+    passing (settling (assigned_by g.locals x g.flow) (assignment_span a)) (λ f. Passes (x, knowing f g)))
+
 -- ---- locals
 
 abbrev pub zero_value : CType → core.Expression
@@ -89,7 +98,11 @@ zero_value (Pointer mode kind target) = core.Null
 
 -- a local more, which is visible from now on
 abbrev pub with_local : ℕ → CType → Scope → Scope
-with_local name type g = record g { locals = g.locals ++ type ∷ []; visible = record { name = name; local = length g.locals } ∷ g.visible }
+with_local name type g = record g {
+  locals = g.locals ++ type ∷ [];
+  visible = record { name = name; local = length g.locals } ∷ g.visible;
+  flow = entered (length g.locals) None g.flow;
+}
 
 -- no-list-for-local: E13
 abbrev pub initialised : Places → Scope → Option Initializer → CType → ℕ → Span → Verdict core.Statement
@@ -97,9 +110,21 @@ initialised at g None type local span = Passes core.Nothing
 initialised at g (Some (s.Value value)) type local span = passing (typed at g value) (λ t. converted t type span (λ v. Passes (core.SetLocal local v)))
 initialised at g (Some (s.Constants constants list)) type local span = breaks E13 span
 
--- few-locals: at most 256 with the parameters (E08, at the declaration)
+-- few-locals: at most 256 with the parameters (E08, at the declaration). The flow of a function has a variable for each of its
+-- locals, and 256 where there are more
 abbrev pub few_locals : {A : Type 0} → Scope → Span → Verdict A → Verdict A
-few_locals g span next = needs (nat_lt (length g.locals) 256) E08 span next
+few_locals g span next = needs (nat_lt (length g.locals) g.flow.vars) E08 span next
+
+-- the assignment that a declaration is: of its initial value, or else of zero or null
+abbrev pub first_value : Option Initializer → core.Statement → ℕ → CType → core.Statement
+first_value None initial local t = core.SetLocal local (zero_value t)
+first_value (Some i) initial local t = initial
+
+-- a local with its initial value, and what is known behind it
+abbrev pub declared : Scope → Option Initializer → CType → ℕ → Span → core.Statement → Verdict Walked
+declared g written t local span initial =
+    passing (settling (assigned_by g.locals (first_value written initial local t) g.flow) span)
+    (λ f. Passes (both (core.SetLocal local (zero_value t)) initial, knowing f g))
 
 -- no-struct-local: E13. At each entry of its declaration a local is zero or null before its initial value is evaluated
 abbrev pub declarator : Places → Scope → TypeTree → CType → Span → Declarator → Verdict Walked
@@ -107,7 +132,7 @@ declarator at g base type span d =
     few_locals g span
     (passing (without_stars base d.stars type) (λ t.
     passing (initialised at (with_local d.name.number t g) d.initializer t (length g.locals) span) (λ initial.
-    needs (is_scalar t) E13 span (Passes (both (core.SetLocal (length g.locals) (zero_value t)) initial, with_local d.name.number t g)))))
+    needs (is_scalar t) E13 span (declared (with_local d.name.number t g) d.initializer t (length g.locals) span initial))))
 
 abbrev pub declarators : Places → Scope → TypeTree → CType → Span → List Declarator → Verdict Walked
 declarators at g base type span [] = Passes (core.Nothing, g)
@@ -122,7 +147,35 @@ declaration at g d = few_locals g d.span (passing (base_type g d.base) (λ type.
 
 -- behind a block its names are gone, and its locals keep their numbers
 abbrev pub behind_block : Scope → Scope → Scope
-behind_block outside inside = record inside { visible = outside.visible; in_loop = outside.in_loop }
+behind_block outside inside =
+    record inside { visible = outside.visible; in_loop = outside.in_loop; flow = outside_of (length outside.locals) inside inside.flow }
+
+-- behind a branch, where another way meets it
+abbrev pub meeting : Knowledge → Scope → Scope
+meeting f g = knowing (met f g.flow) g
+
+-- behind a branch alone
+abbrev pub behind_branch : Scope → core.Expression → Scope → Scope
+behind_branch g condition inside = meeting (told g.locals condition false g.flow) (behind_block g inside)
+
+-- the alternative of a branch, and behind both
+abbrev pub at_alternative : Scope → core.Expression → Scope → Scope
+at_alternative g condition inside = knowing (told g.locals condition false g.flow) (behind_block g inside)
+
+abbrev pub behind_both : Scope → Scope → Scope → Scope
+behind_both g first second = meeting (behind_block g first).flow (behind_block (behind_block g first) second)
+
+-- behind a loop: its condition came out false, or a `break` led out of it
+abbrev pub behind_loop : Scope → Scope → core.Expression → Scope → Scope
+behind_loop g head condition inside = record (behind_block g inside) {
+  flow = with_others (length g.locals) inside inside.breaks (told g.locals condition false head.flow);
+  breaks = g.breaks;
+  continues = g.continues;
+}
+
+-- before the step of a loop: its body ended, or a `continue` led here
+abbrev pub before_step : Scope → Scope → Scope
+before_step g inside = knowing (with_others (length g.locals) inside inside.continues (behind_block g inside).flow) (behind_block g inside)
 
 abbrev pub in_loop : Scope → Scope
 in_loop g = record g { in_loop = true }
@@ -144,14 +197,14 @@ abbrev pub optional_condition : Places → Scope → Option Expression → Verdi
 optional_condition at g None = Passes (core.Number (pos 1))
 optional_condition at g (Some e) = condition at g e
 
-abbrev pub optional_step : Places → Scope → Option Assignment → Verdict core.Statement
-optional_step at g None = Passes core.Nothing
-optional_step at g (Some a) = assignment at g a
+abbrev pub optional_step : Places → Scope → Option Assignment → Verdict Walked
+optional_step at g None = Passes (core.Nothing, g)
+optional_step at g (Some a) = assigning at g a
 
 abbrev pub first_part : Places → Scope → ForInitial → Verdict Walked
 first_part at g s.Nothing = Passes (core.Nothing, g)
 first_part at g (s.Declares d) = declaration at g d
-first_part at g (s.Assigns a) = passing (assignment at g a) (λ first. Passes (first, g))
+first_part at g (s.Assigns a) = assigning at g a
 
 -- a result is left
 abbrev pub alone : Called → core.Statement
@@ -176,23 +229,26 @@ abbrev mutual
   statement at g (s.Block mark inner span) = passing (statements at g inner) (λ w. is_checked g mark span (Passes (core.Block w.0, behind_block g w.1)))
   statement at g (s.Bundle assignments span) = breaks E13 span
   statement at g (s.Declare d span) = declaration at g d
-  statement at g (s.Assign a span) = passing (assignment at g a) (λ x. Passes (x, g))
+  statement at g (s.Assign a span) = assigning at g a
   statement at g (s.CallAlone call span) = passing (call_typed at g call) (λ c. Passes (alone c, g))
   statement at g (s.Empty span) = Passes (core.Nothing, g)
   statement at g (s.If test consequent span) =
-      passing (condition at g test) (λ c. passing (statement at g consequent) (λ x. Passes (core.If c x.0 core.Nothing, behind_block g x.1)))
+      passing (condition at g test) (λ c. passing (statement at (when c true g) consequent)
+      (λ x. Passes (core.If c x.0 core.Nothing, behind_branch g c x.1)))
   statement at g (s.IfElse test consequent alternative span) =
-      passing (condition at g test) (λ c. passing (statement at g consequent)
-      (λ x. passing (statement at (behind_block g x.1) alternative) (λ y. Passes (core.If c x.0 y.0, behind_block g y.1))))
+      passing (condition at g test) (λ c. passing (statement at (when c true g) consequent)
+      (λ x. passing (statement at (at_alternative g c x.1) alternative) (λ y. Passes (core.If c x.0 y.0, behind_both g x.1 y.1))))
   statement at g (s.While test body span) =
-      passing (condition at g test) (λ c. passing (statement at (in_loop g) body) (λ x. Passes (core.Loop c x.0 core.Nothing, behind_block g x.1)))
+      passing (condition at (at_loop body None g) test) (λ c. passing (statement at (in_loop (when c true (at_loop body None g))) body)
+      (λ x. Passes (core.Loop c x.0 core.Nothing, behind_loop g (at_loop body None g) c x.1)))
   statement at g (s.For initial test step body span) =
-      passing (first_part at g initial) (λ first. passing (optional_condition at first.1 test) (λ c.
-      passing (statement at (in_loop first.1) body) (λ x. passing (optional_step at (behind_block first.1 x.1) step) (λ y.
-      Passes (both first.0 (core.Loop c x.0 y), behind_block g x.1)))))
-  statement at g (s.Return value span) = passing (return at g value span) (λ x. Passes (x, g))
-  statement at g (s.Break span) = needs g.in_loop E30 span (Passes (core.Break, g))
-  statement at g (s.Continue span) = needs g.in_loop E30 span (Passes (core.Continue, g))
+      passing (first_part at g initial) (λ first. passing (optional_condition at (at_loop body step first.1) test) (λ c.
+      passing (statement at (in_loop (when c true (at_loop body step first.1))) body)
+      (λ x. passing (optional_step at (before_step first.1 x.1) step) (λ y.
+      Passes (both first.0 (core.Loop c x.0 y.0), behind_block g (behind_loop first.1 (at_loop body step first.1) c y.1))))))
+  statement at g (s.Return value span) = passing (return at g value span) (λ x. Passes (x, cut g))
+  statement at g (s.Break span) = needs g.in_loop E30 span (Passes (core.Break, broken g))
+  statement at g (s.Continue span) = needs g.in_loop E30 span (Passes (core.Continue, continued g))
 
   pub statements : Places → Scope → Statements → Verdict (core.Statements × Scope)
   statements at g s.NoMore = Passes (core.NoMore, g)

@@ -17,6 +17,7 @@ ghost use Rattle.region_typing_rules.specs.Typed.{IsTyped};
 ghost use Rattle.region_typing_rules.specs.Lowerable.{HasFewFunctions, IsSmallCore};
 ghost use Rattle.region_typing_rules.specs.Examples as examples;
 ghost use Rattle.region_typing_rules.specs.ReadingExamples as readings;
+ghost use Rattle.region_typing_rules.specs.KnowingExamples as knowing;
 
 /// Programs and what they become, worked out from the rules.
 pub fn examples()
@@ -32,6 +33,15 @@ pub fn readings()
     ensures sums { readings.sums }
     ensures conditions { readings.conditions }
     ensures null_tests { readings.null_tests }
+{}
+
+/// What is known behind small statements.
+pub fn knowing()
+    ensures branches { knowing.branches }
+    ensures loops { knowing.loops }
+    ensures heads { knowing.heads }
+    ensures shadows { knowing.shadows }
+    ensures counts { knowing.counts }
 {}
 
 /// The core of a program that breaks no rule has types, and an audited run of what has types is never stuck.

@@ -4,3 +4,4 @@ pub mod FileLevel
 pub mod Tables
 pub mod Steps
 pub mod Innermost
+pub mod Settled

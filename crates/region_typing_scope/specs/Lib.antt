@@ -11,3 +11,5 @@ pub mod Visibles
 pub mod Typed
 pub mod OnHeap
 pub mod Operands
+pub mod Tracked
+pub mod Settlings

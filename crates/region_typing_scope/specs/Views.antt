@@ -24,4 +24,7 @@ scope s = record {
   result = option_map ctype s.result;
   in_loop = s.in_loop;
   is_off = s.is_off;
+  flow = s.flow;
+  breaks = s.breaks;
+  continues = s.continues;
 }

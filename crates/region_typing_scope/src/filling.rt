@@ -1,10 +1,11 @@
 // What becomes known at file level, and the function that is walked.
 
-ghost use Rattle.std.specs.Prelude.{◌≡◌, ◌<◌, ◌≤◌, true, false, [], None, map, length, OnOk};
+ghost use Rattle.std.specs.Prelude.{◌≡◌, ◌<◌, ◌≤◌, true, false, [], None, map, length, IfOk, OnOk};
 ghost use Rattle.std.specs.List.{list_all};
 ghost use Rattle.std.specs.Option.{option_map};
 ghost use Rattle.pointer_modes.specs.Types.{ctype as ctype_of, member as member_of};
 ghost use Rattle.pointer_modes.specs.Declaring.{with_members};
+ghost use Rattle.bounds_flow.specs.Flows.{at_entry};
 ghost use Rattle.region_typing_rules.specs.Types.{is_scalar};
 ghost use Rattle.region_typing_rules.specs.Scopes.{function_named};
 ghost use Rattle.region_typing_rules.specs.Expressions.{counted, is_import as is_import_of};
@@ -19,6 +20,7 @@ use crate::refusals::CheckError;
 use crate::scope::{Scope, Variable};
 use crate::sides::is_import;
 use crate::signature::Signature;
+use bounds_flow::flow::Flow;
 use ckc_names_rules::given::Given;
 use ckc_text::fault::NoMemory;
 use ckc_text::place::Span;
@@ -35,12 +37,12 @@ fn with_tainted(f: &Signature, number: u32) -> u32
 }
 
 impl Scope {
-    /// Nothing known, which takes no memory.
-    pub fn new(context: &Context, given: Given) -> Scope
-        ensures { scope_of result ≡ nothing_known given }
+    /// Nothing known.
+    pub fn new(context: &Context, given: Given) -> Result<Scope, NoMemory>
+        ensures { IfOk result (λ scope. scope_of scope ≡ nothing_known given) }
     {
         let alloc = context.alloc();
-        Scope {
+        Ok(Scope {
             given,
             tags: Vec::new(alloc),
             members: Vec::new(alloc),
@@ -52,11 +54,15 @@ impl Scope {
             result: None,
             in_loop: false,
             is_off: false,
+            flow: Flow::new(alloc, 0)?,
+            breaks: None,
+            continues: None,
+            most_locals: 0,
             tag_places: NumberTable::new(alloc),
             function_places: NumberTable::new(alloc),
             variable_places: NumberTable::new(alloc),
             tainted_counts: Vec::new(alloc),
-        }
+        })
     }
 
     /// A struct more, whose members have these names and are still to come, and its number: E08 at the span where 4,096 are
@@ -116,23 +122,35 @@ impl Scope {
         Ok(())
     }
 
-    /// Enters a function, of which no local is known yet.
-    pub fn enter(&mut self, context: &Context, returned: Option<CType>)
-        ensures { scope_of self.new ≡ record (scope_of self.old) { locals = []; visible = []; result = option_map ctype_of returned; in_loop = false } }
+    /// Enters a function, of which no local is known yet, and whose flow has so many variables.
+    pub fn enter(
+        &mut self,
+        context: &Context,
+        returned: Option<CType>,
+        variables: u32,
+    ) -> Result<(), NoMemory>
+        requires { variables ≤ 256 }
+        ensures { OnOk result (scope_of self.new ≡ record (scope_of self.old) { locals = []; visible = []; result = option_map ctype_of returned; in_loop = false; flow = at_entry variables; breaks = None; continues = None }) }
     {
+        let flow = Flow::new(context.alloc(), variables)?;
         self.locals = Vec::new(context.alloc());
         self.visible = Vec::new(context.alloc());
         self.result = returned;
         self.in_loop = false;
+        self.flow = flow;
+        self.breaks = None;
+        self.continues = None;
+        self.most_locals = variables;
+        Ok(())
     }
 
     /// Leaves a function, and gives the types of its locals.
-    pub fn exit(&mut self, context: &Context) -> Vec<CType>
-        ensures known { scope_of self.new ≡ record (scope_of self.old) { locals = []; visible = []; result = None; in_loop = false } }
-        ensures locals { map ctype_of result.items ≡ (scope_of self.old).locals }
+    pub fn exit(&mut self, context: &Context) -> Result<Vec<CType>, NoMemory>
+        ensures known { OnOk result (scope_of self.new ≡ record (scope_of self.old) { locals = []; visible = []; result = None; in_loop = false; flow = at_entry 0; breaks = None; continues = None }) }
+        ensures locals { IfOk result (λ locals. map ctype_of locals.items ≡ (scope_of self.old).locals) }
     {
         let locals = mem::replace(&mut self.locals, Vec::new(context.alloc()));
-        self.enter(context, None);
-        locals
+        self.enter(context, None, 0)?;
+        Ok(locals)
     }
 }

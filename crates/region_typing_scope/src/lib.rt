@@ -6,6 +6,7 @@ pub mod bounds;
 pub mod context;
 pub mod conversions;
 mod filling;
+pub mod flows;
 mod locals;
 pub mod lookups;
 pub mod number_table;

@@ -1,7 +1,8 @@
 // The locals of the function that is walked.
 
-ghost use Rattle.std.specs.Prelude.{◌≡◌, ◌<◌, ◌++◌, ◌∷◌, [], map, reverse, take, length, OnOk};
+ghost use Rattle.std.specs.Prelude.{◌≡◌, ◌<◌, ◌≤◌, ◌++◌, ◌∷◌, [], map, reverse, take, length, nat_lt, OnOk};
 ghost use Rattle.pointer_modes.specs.Types.{ctype as ctype_of};
+ghost use Rattle.region_typing_rules.specs.Knowing.{outside_of};
 ghost use Rattle.region_typing_rules.specs.Statements.{with_local};
 ghost use Rattle.region_typing_scope.specs.Views.{scope as scope_of, visible as visible_of};
 
@@ -9,26 +10,38 @@ use crate::scope::{BlockStart, Scope};
 use crate::visible::Visible;
 use ckc_text::fault::NoMemory;
 use pointer_modes::ctype::CType;
+use region_typing_flow::steps;
 
 impl Scope {
+    /// Whether the function may have a local more: its flow has a variable for each, and 256 at most.
+    pub fn has_room(&self) -> bool
+        ensures { result ≡ nat_lt (length self.now.locals.items) self.now.flow.vars }
+    {
+        self.locals.len() < self.most_locals as usize
+    }
+
     /// A local more, which is visible from now on.
     pub fn add_local(&mut self, name: usize, ctype: CType) -> Result<(), NoMemory>
-        requires { length self.old.locals.items < 256 }
+        requires { length self.old.locals.items < self.old.flow.vars }
         ensures known { OnOk result (scope_of self.new ≡ with_local name (ctype_of ctype) (scope_of self.old)) }
         ensures seen { OnOk result ((v : _) × (self.new.visible.items ≡ self.old.visible.items ++ v ∷ [])) }
+        ensures size { OnOk result (self.new.flow.vars ≡ self.old.flow.vars) }
     {
         let local = self.locals.len() as u32;
-        self.locals.push(ctype)?;
+        self.locals.reserve(1)?;
         self.visible.push(Visible { name, local })?;
+        self.flow.enter(local, None)?;
+        self.locals.push_reserved(ctype);
         Ok(())
     }
 
     /// Where a block begins that begins here.
     pub fn block_start(&self) -> BlockStart
-        ensures { result ≡ record { visible = length self.now.visible.items; in_loop = self.now.in_loop } }
+        ensures { result ≡ record { visible = length self.now.visible.items; locals = length self.now.locals.items; in_loop = self.now.in_loop } }
     {
         BlockStart {
             visible: self.visible.len(),
+            locals: self.locals.len() as u32,
             in_loop: self.in_loop,
         }
     }
@@ -37,16 +50,24 @@ impl Scope {
     pub fn set_in_loop(&mut self, in_loop: bool)
         ensures known { scope_of self.new ≡ record (scope_of self.old) { in_loop = in_loop } }
         ensures seen { self.new.visible.items ≡ self.old.visible.items }
+        ensures locals { self.new.locals.items ≡ self.old.locals.items }
+        ensures flow { self.new.flow ≡ self.old.flow }
     {
         self.in_loop = in_loop;
     }
 
-    /// Leaves a block: hides the names that became visible in it, and says whether a loop is around it.
-    pub fn leave(&mut self, start: BlockStart)
-        ensures known { scope_of self.new ≡ record (scope_of self.old) { visible = reverse (map visible_of (take start.visible self.old.visible.items)); in_loop = start.in_loop } }
-        ensures seen { self.new.visible.items ≡ take start.visible self.old.visible.items }
+    /// Leaves a block: its locals leave their scopes, the names that became visible in it are hidden, and whether a loop is
+    /// around is as it was before it.
+    pub fn leave(&mut self, start: BlockStart) -> Result<(), NoMemory>
+        requires { start.locals ≤ length self.old.locals.items }
+        ensures known { OnOk result (scope_of self.new ≡ record (scope_of self.old) { visible = reverse (map visible_of (take start.visible self.old.visible.items)); in_loop = start.in_loop; flow = outside_of start.locals (scope_of self.old) (scope_of self.old).flow }) }
+        ensures seen { OnOk result (self.new.visible.items ≡ take start.visible self.old.visible.items) }
+        ensures size { OnOk result (self.new.flow.vars ≡ self.old.flow.vars) }
     {
+        let count = self.locals.len() as u32 - start.locals;
+        steps::leave(start.locals, count, &mut self.flow)?;
         self.visible.truncate(start.visible);
         self.in_loop = start.in_loop;
+        Ok(())
     }
 }

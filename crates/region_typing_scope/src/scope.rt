@@ -6,10 +6,12 @@ ghost use Rattle.region_typing_rules.specs.Types.{is_scalar};
 ghost use Rattle.region_typing_scope.specs.Names.{are_distinct};
 ghost use Rattle.region_typing_scope.specs.Signatures.{signature};
 ghost use Rattle.region_typing_scope.specs.Tables.{Finds, Counts};
+ghost use Rattle.region_typing_scope.specs.Tracked.{HasVars};
 
 use crate::number_table::NumberTable;
 use crate::signature::Signature;
 use crate::visible::Visible;
+use bounds_flow::flow::Flow;
 use ckc_names_rules::given::Given;
 use pointer_modes::ctype::CType;
 use pointer_modes::structs::Structs;
@@ -21,11 +23,19 @@ pub struct Variable {
     pub ctype: CType,
 }
 
-/// Where a block begins: how many names are visible there, and whether a loop is around.
+/// Where a block begins: how many names are visible and how many locals there are, and whether a loop is around.
 #[derive(Clone, Copy)]
 pub struct BlockStart {
     pub visible: usize,
+    pub locals: u32,
     pub in_loop: bool,
+}
+
+/// What is known at the `break`s and at the `continue`s of a loop so far.
+#[derive(Drop)]
+pub struct Ways {
+    pub breaks: Option<Flow>,
+    pub continues: Option<Flow>,
 }
 
 /// What stands at file level, and the locals of the function that is walked. Names are their numbers, and
@@ -45,6 +55,13 @@ pub struct Scope {
     pub result: Option<CType>,
     pub in_loop: bool,
     pub is_off: bool,
+    /// What is known of the locals where the walk stands.
+    pub flow: Flow,
+    /// What is known at the `break`s and at the `continue`s of the innermost loop so far.
+    pub breaks: Option<Flow>,
+    pub continues: Option<Flow>,
+    /// How many locals the function may have: as many as its flow has variables.
+    pub(crate) most_locals: u32,
     pub(crate) tag_places: NumberTable,
     pub(crate) function_places: NumberTable,
     pub(crate) variable_places: NumberTable,
@@ -56,7 +73,11 @@ pub struct Scope {
     ghost few_functions: { length functions.items ≤ 4096 },
     ghost distinct: { are_distinct (map signature functions.items) ≡ true },
     ghost few_variables: { length variables.items ≤ 4096 },
-    ghost few_locals: { length locals.items ≤ 256 },
+    ghost few_locals: { length locals.items ≤ flow.vars },
+    ghost tracked: { flow.vars ≡ most_locals },
+    ghost few_tracked: { most_locals ≤ 256 },
+    ghost breaks_alike: { HasVars flow.vars breaks },
+    ghost continues_alike: { HasVars flow.vars continues },
     ghost tags_found: { Finds tag_places tags.items },
     ghost functions_found: { Finds function_places (map (λ f. f.name) functions.items) },
     ghost variables_found: { Finds variable_places (map (λ v. v.name) variables.items) },

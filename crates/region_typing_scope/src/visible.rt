@@ -3,6 +3,7 @@
 ghost use Rattle.std.specs.Prelude.{◌≡◌, map, reverse, List};
 ghost use Rattle.pointer_modes.specs.Types.{CType as ctype_tree};
 ghost use Rattle.region_typing_rules.specs.Scopes.{local_named};
+ghost use Rattle.region_typing_rules.specs.Knowing.{local_number};
 ghost use Rattle.region_typing_scope.specs.Visibles.{visible as visible_of, local_at};
 
 /// A local that is visible: its name, and its number in its function.
@@ -14,7 +15,8 @@ pub struct Visible {
 
 /// The innermost local of a name.
 pub fn innermost(visible: &[Visible], name: usize) -> Option<u32>
-    ensures { (types : List ctype_tree) → local_named types (reverse (map visible_of visible.now)) name ≡ local_at types result }
+    ensures number { result ≡ local_number (reverse (map visible_of visible.now)) name }
+    ensures named { (types : List ctype_tree) → local_named types (reverse (map visible_of visible.now)) name ≡ local_at types result }
 {
     let mut at = visible.len();
     while at > 0 {

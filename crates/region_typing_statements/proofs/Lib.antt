@@ -6,3 +6,6 @@ pub mod Verdicts
 pub mod Locals
 pub mod Loops
 pub mod Sequences
+pub mod Settling
+pub mod Ways
+pub mod MarkedLocals

@@ -1,13 +1,15 @@
 -- Walks behind one another.
-use Rattle.std.proofs.Common.{◌≡◌, ℕ, Bool, [], ◌∷◌, ◌++◌, length, map, reverse, take, Result, Ok, Err, refl, ap, sym, ◌∙◌, append_assoc}
+use Rattle.std.proofs.Common.{◌≡◌, ◌≤◌, ℕ, Option, Bool, [], ◌∷◌, ◌++◌, length, map, reverse, take, Result, Ok, Err, refl, ap, sym, ◌∙◌, append_assoc, arith}
 use Rattle.std.specs.Result.{IsErrAnd}
-use Rattle.std.proofs.lemmas.List.{append-nil, take_at}
+use Rattle.std.proofs.lemmas.List.{append-nil, take_at, length-map, length-append}
 use Rattle.std.proofs.lemmas.Result.{err_from_is_err_and}
 use Rattle.region_typing_scope.specs.declared.refusals.CheckError.{CheckError}
 use Rattle.region_typing_scope.specs.declared.refusals.CheckError.TheVariants.{Source, Unnamed, NoMemory}
-use Rattle.pointer_modes.specs.Types.{CType}
+use Rattle.pointer_modes.specs.Types.{CType, ctype}
 use Rattle.region_typing_rules.specs.Verdicts.{Stop, Broken, Nameless, Verdict, Passes, Stops, passing}
 use Rattle.region_typing_rules.specs.Scopes.{Scope}
+use Rattle.bounds_flow.specs.Flows.{Knowledge}
+use Rattle.region_typing_rules.specs.Knowing.{outside_of}
 use Rattle.region_typing_rules.specs.Statements.{behind_block, with_local}
 use Rattle.region_typing_scope.specs.declared.scope as code
 use Rattle.region_typing_scope.specs.declared.visible as visible_code
@@ -19,7 +21,7 @@ use Rattle.region_typing_statements.specs.Walks.{Walks, walks_so}
 -- ---- locals that become visible
 
 pub none_more : (a : code.Scope.Scope) → Grows a a
-none_more a = record { more = []; seen = sym (append-nil a.visible.items); types = (scope a).locals; names = (scope a).visible; loop = a.in_loop; file = refl }
+none_more a = record { more = []; seen = sym (append-nil a.visible.items); types = (scope a).locals; names = (scope a).visible; loop = a.in_loop; flow = a.flow; breaks = a.breaks; continues = a.continues; file = refl; count = omega arith; size = refl }
 
 pub grown : {a b c : code.Scope.Scope} → Grows a b → Grows b c → Grows a c
 grown {a} {b} {c} first rest = record {
@@ -28,16 +30,50 @@ grown {a} {b} {c} first rest = record {
   types = rest.types;
   names = rest.names;
   loop = rest.loop;
-  file = rest.file ∙ ap (λ (g : Scope). record g { locals = rest.types; visible = rest.names; in_loop = rest.loop }) first.file;
+  flow = rest.flow;
+  breaks = rest.breaks;
+  continues = rest.continues;
+  file = rest.file ∙ ap (λ (g : Scope). record g { locals = rest.types; visible = rest.names; in_loop = rest.loop; flow = rest.flow; breaks = rest.breaks; continues = rest.continues }) first.file;
+  count = (let middle = rest.count in let held = ap (λ (g : Scope). length g.locals) first.file in omega (arith, first.count, middle, held));
+  size = rest.size ∙ ap (λ (g : Scope). g.flow.vars) first.file ∙ first.size;
 }
+
+-- how many variables the flow of a scope has that grew
+pub size_kept : {a b : code.Scope.Scope} → Grows a b → b.flow.vars ≡ a.flow.vars
+size_kept more = ap (λ (g : Scope). g.flow.vars) more.file ∙ more.size
+
+-- a scope in which something else is known of numbers and pointers
+pub other_flow : (f : Knowledge) (bs cs : Option Knowledge) (a b : code.Scope.Scope) → scope b ≡ record (scope a) { flow = f; breaks = bs; continues = cs } → b.visible.items ≡ a.visible.items → b.flow.vars ≡ a.flow.vars → Grows a b
+other_flow f bs cs a b known seen size = record {
+  more = [];
+  seen = seen ∙ sym (append-nil a.visible.items);
+  types = (scope a).locals;
+  names = (scope a).visible;
+  loop = a.in_loop;
+  flow = f;
+  breaks = bs;
+  continues = cs;
+  file = known;
+  count = omega arith;
+  size = sym (ap (λ (g : Scope). g.flow.vars) known) ∙ size;
+}
+
+-- the locals that a block began with are still there
+pub still_there : (a b : code.Scope.Scope) (start : code.BlockStart.BlockStart) → start ≡ record { visible = length a.visible.items; locals = length a.locals.items; in_loop = a.in_loop } → Grows a b → start.locals ≤ length b.locals.items
+still_there a b start begins more =
+    let first = ap (λ (x : code.BlockStart.BlockStart). x.locals) begins in
+    let before = length-map a.locals.items ctype in
+    let held = ap (λ (g : Scope). length g.locals) more.file in
+    let behind = length-map b.locals.items ctype in
+    omega (arith, first, before, held, behind, more.count)
 
 -- a scope in which a local became visible
 pub one_more : (name : ℕ) (t : CType) (a b : code.Scope.Scope) → scope b ≡ with_local name t (scope a) → ((v : visible_code.Visible.Visible) × (b.visible.items ≡ a.visible.items ++ v ∷ [])) → Grows a b
-one_more name t a b known seen = record { more = seen.0 ∷ []; seen = seen.1; types = _; names = _; loop = _; file = known }
+one_more name t a b known seen = record { more = seen.0 ∷ []; seen = seen.1; types = (scope a).locals ++ t ∷ []; names = _; loop = _; flow = _; breaks = _; continues = _; file = known; count = omega (arith, length-append (scope a).locals (t ∷ [])); size = refl }
 
 -- a scope whose loop is another
 pub other_loop : (loop : Bool) (a b : code.Scope.Scope) → scope b ≡ record (scope a) { in_loop = loop } → b.visible.items ≡ a.visible.items → Grows a b
-other_loop loop a b known seen = record { more = []; seen = seen ∙ sym (append-nil a.visible.items); types = (scope a).locals; names = (scope a).visible; loop = loop; file = known }
+other_loop loop a b known seen = record { more = []; seen = seen ∙ sym (append-nil a.visible.items); types = (scope a).locals; names = (scope a).visible; loop = loop; flow = a.flow; breaks = a.breaks; continues = a.continues; file = known; count = omega arith; size = refl }
 
 -- those that were visible before
 seen_before : {a b : code.Scope.Scope} → Grows a b → take (length a.visible.items) b.visible.items ≡ a.visible.items
@@ -48,12 +84,14 @@ pub record Left (outside inside new : code.Scope.Scope) : Type 0 where
   pub known : scope new ≡ behind_block (scope outside) (scope inside)
   pub grows : Grows outside new
 
-pub left : (start : code.BlockStart.BlockStart) (outside inside new : code.Scope.Scope) → start ≡ record { visible = length outside.visible.items; in_loop = outside.in_loop } → Grows outside inside
-    → scope new ≡ record (scope inside) { visible = reverse (map visible (take start.visible inside.visible.items)); in_loop = start.in_loop } → new.visible.items ≡ take start.visible inside.visible.items → Left outside inside new
-left start outside inside new begins more known seen =
+pub left : (start : code.BlockStart.BlockStart) (outside inside new : code.Scope.Scope) → start ≡ record { visible = length outside.visible.items; locals = length outside.locals.items; in_loop = outside.in_loop } → Grows outside inside
+    → scope new ≡ record (scope inside) { visible = reverse (map visible (take start.visible inside.visible.items)); in_loop = start.in_loop; flow = outside_of start.locals (scope inside) (scope inside).flow } → new.visible.items ≡ take start.visible inside.visible.items
+    → new.flow.vars ≡ inside.flow.vars → Left outside inside new
+left start outside inside new begins more known seen size =
     let here : take start.visible inside.visible.items ≡ outside.visible.items = ap (λ (b : code.BlockStart.BlockStart). take b.visible inside.visible.items) begins ∙ seen_before more in
     let around : start.in_loop ≡ outside.in_loop = ap (λ (b : code.BlockStart.BlockStart). b.in_loop) begins in
-    let is : scope new ≡ behind_block (scope outside) (scope inside) = known ∙ rw (here, around) refl in
+    let count : start.locals ≡ length (scope outside).locals = ap (λ (b : code.BlockStart.BlockStart). b.locals) begins ∙ sym (length-map outside.locals.items ctype) in
+    let is : scope new ≡ behind_block (scope outside) (scope inside) = known ∙ rw (here, around, count) refl in
     record {
       known = is;
       grows = record {
@@ -62,7 +100,12 @@ left start outside inside new begins more known seen =
         types = more.types;
         names = (scope outside).visible;
         loop = outside.in_loop;
-        file = is ∙ ap (λ (g : Scope). record g { visible = (scope outside).visible; in_loop = outside.in_loop }) more.file;
+        flow = (behind_block (scope outside) (scope inside)).flow;
+        breaks = more.breaks;
+        continues = more.continues;
+        file = is ∙ ap (λ (g : Scope). record g { visible = (scope outside).visible; in_loop = outside.in_loop; flow = (behind_block (scope outside) (scope inside)).flow }) more.file;
+        count = more.count;
+        size = sym (ap (λ (g : Scope). g.flow.vars) is) ∙ size ∙ size_kept more;
       };
     }
 
@@ -103,6 +146,10 @@ kept_as w g is answer = rw is (kept g answer)
 -- what was built last
 pub done : {B D : Type 0} (view : D → B) (y : D) (z : B) (g : code.Scope.Scope) → view y ≡ z → Walks view (Passes (z, scope g)) g (Ok y) g
 done view y z g is = record { so = (ap (λ x. Passes (x, scope g)) (sym is), none_more g) }
+
+-- what was built last, in a scope that another step gave
+pub done_in : {B D : Type 0} (view : D → B) (y : D) (z : B) (a b : code.Scope.Scope) (next : Scope) → view y ≡ z → scope b ≡ next → Grows a b → Walks view (Passes (z, next)) a (Ok y) b
+done_in view y z a b next is known more = record { so = (ap (λ x. Passes (x, next)) (sym is) ∙ ap (λ g. Passes (view y, g)) (sym known), more) }
 
 -- behind a block
 pub left_walk : {A B D : Type 0} (view : D → B) (f : A → B) (v : Verdict (A × Scope)) (x : A) (y : D) (old mid new : code.Scope.Scope) → v ≡ Passes (x, scope mid) → Left old mid new → view y ≡ f x → Walks view (passing v (λ w. Passes (f w.0, behind_block (scope old) w.1))) old (Ok y) new

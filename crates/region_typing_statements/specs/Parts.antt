@@ -1,7 +1,8 @@
 -- Inside: the rules of statements by their parts.
-use Rattle.std.specs.Prelude.{Bool, true, List, [], ◌∷◌, Option}
+use Rattle.std.specs.Prelude.{ℕ, Bool, true, false, List, [], ◌∷◌, length, Option, None}
+use Rattle.bounds_flow.specs.Flows.{Knowledge}
 use Rattle.ckc_text.specs.declared.place.Span.{Span}
-use Rattle.ckc_text.specs.declared.code.Code.TheVariants.{E13, E30}
+use Rattle.ckc_text.specs.declared.code.Code.TheVariants.{E13}
 use Rattle.pointer_modes.specs.Types.{CType}
 use Rattle.ckc_core.specs.Core as core
 use Rattle.ckc_core.specs.declared.program.Stmt.{Stmt}
@@ -9,11 +10,14 @@ use Rattle.ckc_tree.specs.declared.stmt.Stmt as trees
 use Rattle.ckc_tree.specs.declared.stmt.Stmt.TheVariants as stmts
 use Rattle.ckc_tree.specs.Expressions.{Expression}
 use Rattle.ckc_tree.specs.Statements.{Statement, Assignment, ForInitial}
-use Rattle.region_typing_rules.specs.Verdicts.{Verdict, Passes, passing, breaks, needs}
+use Rattle.region_typing_rules.specs.Verdicts.{Verdict, Passes, passing, breaks}
 use Rattle.region_typing_rules.specs.Expressions.{Places, typed, converted, call_typed}
-use Rattle.region_typing_rules.specs.Statements.{both, alone, statement, behind_block, condition, optional_condition, optional_step, first_part, returned}
+use Rattle.region_typing_rules.specs.Readings.{told}
+use Rattle.region_typing_rules.specs.Knowing.{knowing, when, with_others, at_loop}
+use Rattle.region_typing_rules.specs.Statements.{both, alone, statement, behind_block, meeting}
+use Rattle.region_typing_rules.specs.Statements.{condition, optional_condition, optional_step, first_part, returned}
 use Rattle.region_typing_rules.specs.Scopes.{Scope}
-use Rattle.region_typing_statements.specs.declared.core_forms.Branch as code
+use Rattle.region_typing_statements.specs.declared.statements.Branch as code
 use Rattle.region_typing_scope.specs.OnHeap as on_heap
 
 -- a statement that has statements
@@ -28,32 +32,62 @@ IsStructured _ = ⊥
 abbrev pub nested : Places → Scope → Bool → Statement → Verdict (core.Statement × Scope)
 nested at g looped s = passing (statement at (record g { in_loop = looped }) s) (λ x. Passes (x.0, behind_block g x.1))
 
--- a condition with the statement that runs where it holds
+-- a condition with the statement that runs where it holds, and what is known where it doesn't
 abbrev pub Branch : Type 0
-Branch = core.Expression × core.Statement
+Branch = core.Expression × core.Statement × Knowledge
 
 abbrev pub branched : code.Branch → Branch
-branched b = (on_heap.expression b.condition, on_heap.statement b.consequent)
+branched b = (on_heap.expression b.condition, on_heap.statement b.consequent, b.otherwise)
 
 abbrev pub then_branch : Places → Scope → Expression → Statement → Verdict (Branch × Scope)
-then_branch at g test consequent = passing (condition at g test) (λ c. passing (nested at g g.in_loop consequent) (λ x. Passes ((c, x.0), x.1)))
+then_branch at g test consequent =
+    passing (condition at g test) (λ c. passing (nested at (when c true g) g.in_loop consequent)
+    (λ x. Passes ((c, x.0, told g.locals c false g.flow), x.1)))
 
 -- a branch alone, and one with an alternative
 abbrev pub if_alone : Places → Scope → Expression → Statement → Verdict (core.Statement × Scope)
-if_alone at g test consequent = passing (then_branch at g test consequent) (λ x. Passes (core.If x.0.0 x.0.1 core.Nothing, x.1))
+if_alone at g test consequent = passing (then_branch at g test consequent) (λ x. Passes (core.If x.0.0 x.0.1 core.Nothing, meeting x.0.2 x.1))
 
 abbrev pub otherwise : Places → Branch × Scope → Statement → Verdict (core.Statement × Scope)
-otherwise at b alternative = passing (nested at b.1 b.1.in_loop alternative) (λ y. Passes (core.If b.0.0 b.0.1 y.0, y.1))
+otherwise at b alternative =
+    passing (nested at (knowing b.0.2 b.1) b.1.in_loop alternative) (λ y. Passes (core.If b.0.0 b.0.1 y.0, meeting b.1.flow y.1))
 
--- the turns of a loop
+-- the end of a loop's body, where its `continue`s meet it
+abbrev pub after_turn : (local : ℕ) → Scope → Scope
+after_turn local g = knowing (with_others local g g.continues g.flow) g
+
+-- behind a loop with locals from this number on, in which this is known where its condition came out false
+abbrev pub over : (local : ℕ) → Knowledge → Option Knowledge → Option Knowledge → Scope → Scope
+over local otherwise breaks continues g = record g { flow = with_others local g g.breaks otherwise; breaks = breaks; continues = continues }
+
+abbrev pub behind : Scope → Scope → core.Expression → Scope → Scope
+behind g head c inside = over (length g.locals) (told head.locals c false head.flow) g.breaks g.continues inside
+
+-- the step of a loop behind its body, from what is known before it
+abbrev pub step_ended : Places → Scope → core.Expression → Option Assignment → core.Statement → Knowledge → Scope → Verdict (core.Statement × Scope)
+step_ended at g c step body otherwise before =
+    passing (optional_step at before step) (λ y. Passes (core.Loop c body y.0, over (length g.locals) otherwise g.breaks g.continues y.1))
+
+abbrev pub turn_ended : Places → Scope → core.Expression → Option Assignment → core.Statement × Scope → Knowledge → Verdict (core.Statement × Scope)
+turn_ended at g c step x otherwise = step_ended at g c step x.0 otherwise (after_turn (length g.locals) x.1)
+
+-- the turns of a loop, from its head
+abbrev pub turns_from : Places → Scope → Scope → Statement → Option Expression → Option Assignment → Verdict (core.Statement × Scope)
+turns_from at g head body test step =
+    passing (optional_condition at head test) (λ c. passing (nested at (when c true head) true body)
+    (λ x. turn_ended at g c step x (told head.locals c false head.flow)))
+
 abbrev pub turns : Places → Scope → Statement → Option Expression → Option Assignment → Verdict (core.Statement × Scope)
-turns at g body test step =
-    passing (optional_condition at g test) (λ c. passing (nested at g true body)
-    (λ x. passing (optional_step at x.1 step) (λ y. Passes (core.Loop c x.0 y, x.1))))
+turns at g body test step = turns_from at g (at_loop body step g) body test step
 
 -- a loop with a condition alone, and one with a head
+abbrev pub while_from : Places → Scope → Scope → Expression → Statement → Verdict (core.Statement × Scope)
+while_from at g head test body =
+    passing (condition at head test) (λ c. passing (nested at (when c true head) true body)
+    (λ x. Passes (core.Loop c x.0 core.Nothing, behind g head c x.1)))
+
 abbrev pub while_loop : Places → Scope → Expression → Statement → Verdict (core.Statement × Scope)
-while_loop at g test body = passing (condition at g test) (λ c. passing (nested at g true body) (λ x. Passes (core.Loop c x.0 core.Nothing, x.1)))
+while_loop at g test body = while_from at g (at_loop body None g) test body
 
 abbrev pub for_loop : Places → Scope → ForInitial → Option Expression → Option Assignment → Statement → Verdict (core.Statement × Scope)
 for_loop at g initial test step body =
@@ -77,7 +111,3 @@ converted_return at g type e span = passing (typed at g e) (λ t. converted t ty
 
 abbrev pub value_returned : Places → Scope → Option CType → Expression → Span → Verdict core.Statement
 value_returned at g result e span = passing (typed at g e) (λ t. returned result t span)
-
--- a statement that stands in a loop (E30)
-abbrev pub needs_loop : Scope → core.Statement → Span → Verdict core.Statement
-needs_loop g x span = needs g.in_loop E30 span (Passes x)

@@ -1,5 +1,5 @@
 -- Inside: what a walk over statements answers, and what it leaves known.
-use Rattle.std.specs.Prelude.{◌≡◌, ℕ, length, Option, Result, Ok, Err}
+use Rattle.std.specs.Prelude.{◌≡◌, ℕ, length, Option, None, Some, Result, Ok, Err}
 use Rattle.ckc_text.specs.declared.place.Span.{Span}
 use Rattle.ckc_text.specs.declared.code.Code.TheVariants.{E13}
 use Rattle.region_typing_scope.specs.declared.refusals.CheckError.{CheckError}
@@ -11,7 +11,7 @@ use Rattle.ckc_tree.specs.Statements.{Initializer, Declarator}
 use Rattle.region_typing_rules.specs.Verdicts.{Verdict, Passes, Breaks, Unnamed, passing, needs}
 use Rattle.region_typing_rules.specs.Expressions.{Places, typed, converted}
 use Rattle.region_typing_rules.specs.Types.{is_scalar}
-use Rattle.region_typing_rules.specs.Statements.{both, zero_value, initialised, with_local}
+use Rattle.region_typing_rules.specs.Statements.{initialised, with_local, declared}
 use Rattle.region_typing_rules.specs.Scopes.{Scope}
 use Rattle.region_typing_scope.specs.declared.scope as code
 use Rattle.region_typing_scope.specs.Views.{scope}
@@ -33,12 +33,16 @@ pub record Walks {C A : Type 0} (view : C → A) (verdict : Verdict (A × Scope)
 abbrev pub initial_value : Places → Scope → Expression → CType → ℕ → Span → Verdict core.Statement
 initial_value at g value t local span = passing (typed at g value) (λ u. converted u t span (λ v. Passes (core.SetLocal local v)))
 
--- what a local is before it is given a value, and then its initial value
-abbrev pub from_zero : Places → Scope → Option Initializer → CType → ℕ → Span → Verdict core.Statement
+-- an initial value, where there is one, or else the other one
+abbrev pub chosen : {A : Type 0} → Option Initializer → A → A → A
+chosen None initial zero = zero
+chosen (Some written) initial zero = initial
+
+-- what a local is before it is given a value, then its initial value, and what is known behind it
+abbrev pub from_zero : Places → Scope → Option Initializer → CType → ℕ → Span → Verdict (core.Statement × Scope)
 from_zero at g written t local span =
-    passing (initialised at g written t local span) (λ initial. needs (is_scalar t) E13 span (Passes (both (core.SetLocal local (zero_value t)) initial)))
+    passing (initialised at g written t local span) (λ initial. needs (is_scalar t) E13 span (declared g written t local span initial))
 
 -- a local more, which is given what it is at first
 abbrev pub declared_local : Places → Scope → Declarator → CType → Span → Verdict (core.Statement × Scope)
-declared_local at g d t span =
-    passing (from_zero at (with_local d.name.number t g) d.initializer t (length g.locals) span) (λ x. Passes (x, with_local d.name.number t g))
+declared_local at g d t span = from_zero at (with_local d.name.number t g) d.initializer t (length g.locals) span

@@ -27,25 +27,15 @@ pub fn both(context: &Context, first: Box<Stmt>, second: Box<Stmt>) -> Result<Bo
     block(context, statements)
 }
 
-/// A condition with the statement that runs where it holds.
-#[derive(Drop)]
-pub struct Branch {
-    pub condition: Box<Expr>,
-    pub consequent: Box<Stmt>,
-}
-
 /// A branch, or else another statement.
 pub fn choice(
     context: &Context,
-    branch: Branch,
+    condition: Box<Expr>,
+    consequent: Box<Stmt>,
     alternative: Box<Stmt>,
 ) -> Result<Box<Stmt>, NoMemory>
-    ensures { IfOk result (λ s. statement_of s ≡ If (expression_of branch.condition) (statement_of branch.consequent) (statement_of alternative)) }
+    ensures { IfOk result (λ s. statement_of s ≡ If (expression_of condition) (statement_of consequent) (statement_of alternative)) }
 {
-    let Branch {
-        condition,
-        consequent,
-    } = branch;
     let condition = Box::into_inner(condition);
     context.boxed(Stmt::If {
         condition,

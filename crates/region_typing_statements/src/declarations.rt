@@ -25,15 +25,12 @@ use region_typing_scope::refusals::{CheckError, needs};
 use region_typing_scope::scope::Scope;
 use region_typing_scope::types::{base_type, copied, without_stars};
 
-/// How many locals a function may have.
-const MOST_LOCALS: usize = 256;
-
-// Refuses one local too many.
+// Refuses one local too many: the flow has a variable for each, and 256 at most.
 fn few_locals(scope: &Scope, span: Span) -> Result<(), CheckError>
     ensures few { Answers (λ x. x) (few_locals_in (scope_of scope.now) span (Passes tt)) result }
-    ensures room { IfOk result (λ _. length scope.now.locals.items < 256) }
+    ensures room { IfOk result (λ _. length scope.now.locals.items < scope.now.flow.vars) }
 {
-    needs(scope.locals.len() < MOST_LOCALS, Code::E08, span)?;
+    needs(scope.has_room(), Code::E08, span)?;
     Ok(())
 }
 
@@ -45,7 +42,7 @@ fn declared(
     t: &CType,
     span: Span,
 ) -> Result<Box<Stmt>, CheckError>
-    requires { length scope.old.locals.items < 256 }
+    requires { length scope.old.locals.items < scope.old.flow.vars }
     ensures { Walks statement (declared_local (place_at context.now) (scope_of scope.old) (declarator_tree d.now) (ctype_of t.now) span) scope.old result scope.new }
 {
     let local = scope.locals.len() as u32;

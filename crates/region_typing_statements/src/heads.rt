@@ -10,10 +10,11 @@ ghost use Rattle.region_typing_scope.specs.OnHeap.{expression, statement};
 ghost use Rattle.region_typing_statements.specs.Walks.{Walks};
 
 use crate::declarations::declaration;
+use crate::simple_statements::assign;
 use ckc_core::program::{Expr, Stmt};
 use ckc_tree::expr;
 use ckc_tree::stmt::{Assignment, ForInitial};
-use region_typing_expressions::assignments::{assignment, condition};
+use region_typing_expressions::assignments::condition;
 use region_typing_scope::context::Context;
 use region_typing_scope::refusals::CheckError;
 use region_typing_scope::scope::Scope;
@@ -35,14 +36,14 @@ pub fn optional_condition(
 /// What follows each turn of a loop.
 pub fn optional_step(
     context: &Context,
-    scope: &Scope,
+    scope: &mut Scope,
     written: &Option<Assignment>,
 ) -> Result<Box<Stmt>, CheckError>
-    ensures { Answers statement (optional_step_of (place_at context.now) (scope_of scope.now) (option_map assignment_tree written.now)) result }
+    ensures { Walks statement (optional_step_of (place_at context.now) (scope_of scope.old) (option_map assignment_tree written.now)) scope.old result scope.new }
 {
     match written {
         None => Ok(context.boxed(Stmt::Nothing)?),
-        Some(written) => assignment(context, scope, written),
+        Some(written) => assign(context, scope, written),
     }
 }
 
@@ -61,6 +62,6 @@ pub fn first_part(
         } => declaration(context, scope, written),
         ForInitial::Assign {
             assignment: written,
-        } => assignment(context, scope, written),
+        } => assign(context, scope, written),
     }
 }

@@ -1,5 +1,6 @@
 // What a local is given where it is declared.
 
+ghost use Rattle.std.specs.Prelude.{◌≡◌};
 ghost use Rattle.std.specs.Option.{option_map};
 ghost use Rattle.ckc_text.specs.Places.{place_at};
 ghost use Rattle.ckc_tree.specs.Expressions.{expression as expression_tree};
@@ -9,7 +10,7 @@ ghost use Rattle.region_typing_rules.specs.Statements.{initialised as initialise
 ghost use Rattle.region_typing_scope.specs.Answering.{Answers};
 ghost use Rattle.region_typing_scope.specs.Views.{scope as scope_of};
 ghost use Rattle.region_typing_scope.specs.OnHeap.{statement as statement_of};
-ghost use Rattle.region_typing_statements.specs.Walks.{initial_value as initial_value_as, from_zero as from_zero_as};
+ghost use Rattle.region_typing_statements.specs.Walks.{Walks, initial_value as initial_value_as, chosen, from_zero as from_zero_as};
 
 use crate::core_forms::both;
 use crate::zero_values::set_to_zero;
@@ -62,19 +63,30 @@ fn initialised(
     }
 }
 
-/// What a local is before it is given a value, and then its initial value.
+// What a local is given last: its initial value, or zero or null where it has none.
+fn last_given<'a>(written: &Option<Initializer>, initial: &'a Stmt, zero: &'a Stmt) -> &'a Stmt
+    ensures { result.now ≡ chosen (option_map initializer_tree written.now) initial.now zero.now }
+{
+    match written {
+        None => zero,
+        Some(_) => initial,
+    }
+}
+
+/// What a local is before it is given a value, then its initial value, and what is known behind it.
 pub fn from_zero(
     context: &Context,
-    scope: &Scope,
+    scope: &mut Scope,
     written: &Option<Initializer>,
     t: &CType,
     local: u32,
     span: Span,
 ) -> Result<Box<Stmt>, CheckError>
-    ensures { Answers statement_of (from_zero_as (place_at context.now) (scope_of scope.now) (option_map initializer_tree written.now) (ctype_of t.now) local span) result }
+    ensures { Walks statement_of (from_zero_as (place_at context.now) (scope_of scope.old) (option_map initializer_tree written.now) (ctype_of t.now) local span) scope.old result scope.new }
 {
     let initial = initialised(context, scope, written, t, local, span)?;
     needs(is_scalar(t), Code::E13, span)?;
     let first = context.boxed(set_to_zero(local, t))?;
+    scope.settle(last_given(written, &initial, &first), span)?;
     Ok(both(context, first, initial)?)
 }

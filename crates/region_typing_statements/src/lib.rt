@@ -1,6 +1,7 @@
 // The rules of declarations and statements, and what these become.
 #![tactic(auto)]
 
+mod assigned;
 mod core_forms;
 mod declarations;
 mod heads;

@@ -4,22 +4,28 @@ ghost use Rattle.std.specs.Prelude.{◌≡◌, IfOk};
 ghost use Rattle.std.specs.Option.{option_map};
 ghost use Rattle.ckc_text.specs.Places.{place_at};
 ghost use Rattle.ckc_tree.specs.Expressions.{expression as expression_tree};
-ghost use Rattle.ckc_tree.specs.Statements.{on_heap};
+ghost use Rattle.ckc_tree.specs.Statements.{on_heap, assignment as assignment_tree};
 ghost use Rattle.pointer_modes.specs.Types.{ctype as ctype_of};
+ghost use Rattle.ckc_text.specs.declared.code.Code.TheVariants.{E30};
 ghost use Rattle.ckc_core.specs.Core.{Break, Continue};
-ghost use Rattle.region_typing_rules.specs.Statements.{return as return_of, returned_nothing as nothing_as, alone as alone_of};
+ghost use Rattle.region_typing_rules.specs.Verdicts.{Passes, passing, needs as needs_in};
+ghost use Rattle.region_typing_rules.specs.Knowing.{cut, broken, continued};
+ghost use Rattle.region_typing_rules.specs.Statements.{return as return_of, returned_nothing as nothing_as, alone as alone_of, assigning};
 ghost use Rattle.region_typing_scope.specs.Answering.{Answers};
 ghost use Rattle.region_typing_scope.specs.Views.{scope as scope_of};
 ghost use Rattle.region_typing_expressions.specs.Calls.{called as called_as};
 ghost use Rattle.region_typing_scope.specs.OnHeap.{statement};
-ghost use Rattle.region_typing_statements.specs.Parts.{call_statement, needs_loop, value_returned as value_returned_in, converted_return, refused_value as refused_value_in};
+ghost use Rattle.region_typing_statements.specs.Parts.{call_statement, value_returned as value_returned_in, converted_return, refused_value as refused_value_in};
+ghost use Rattle.region_typing_statements.specs.Walks.{Walks};
 
 use ckc_core::program::Stmt;
 use ckc_text::code::Code;
 use ckc_text::fault::NoMemory;
 use ckc_text::place::Span;
 use ckc_tree::expr::Expr;
+use ckc_tree::stmt::Assignment;
 use pointer_modes::ctype::CType;
+use region_typing_expressions::assignments::assignment;
 use region_typing_expressions::calls::Called;
 use region_typing_expressions::expressions::{call_typed, typed};
 use region_typing_scope::context::Context;
@@ -105,8 +111,8 @@ fn value_returned(
     }
 }
 
-/// A return, which has a value where the function has a result.
-pub fn return_from(
+// What a return becomes, which has a value where the function has a result.
+fn returned(
     context: &Context,
     scope: &Scope,
     written: &Option<Box<Expr>>,
@@ -120,18 +126,51 @@ pub fn return_from(
     }
 }
 
+/// A return, behind which no way leads on.
+pub fn return_from(
+    context: &Context,
+    scope: &mut Scope,
+    written: &Option<Box<Expr>>,
+    span: Span,
+) -> Result<Box<Stmt>, CheckError>
+    ensures { Walks statement (passing (return_of (place_at context.now) (scope_of scope.old) (option_map on_heap written.now) span) (λ x. Passes (x, cut (scope_of scope.old)))) scope.old result scope.new }
+{
+    let built = returned(context, scope, written, span)?;
+    scope.cut()?;
+    Ok(built)
+}
+
 /// A `break`, which stands in a loop.
-pub fn break_from(context: &Context, scope: &Scope, span: Span) -> Result<Box<Stmt>, CheckError>
-    ensures { Answers statement (needs_loop (scope_of scope.now) Break span) result }
+pub fn break_from(context: &Context, scope: &mut Scope, span: Span) -> Result<Box<Stmt>, CheckError>
+    ensures { Walks statement (needs_in (scope_of scope.old).in_loop E30 span (Passes (Break, broken (scope_of scope.old)))) scope.old result scope.new }
 {
     needs(scope.in_loop, Code::E30, span)?;
+    scope.break_off()?;
     Ok(context.boxed(Stmt::Break)?)
 }
 
 /// A `continue`, which stands in a loop.
-pub fn continue_with(context: &Context, scope: &Scope, span: Span) -> Result<Box<Stmt>, CheckError>
-    ensures { Answers statement (needs_loop (scope_of scope.now) Continue span) result }
+pub fn continue_with(
+    context: &Context,
+    scope: &mut Scope,
+    span: Span,
+) -> Result<Box<Stmt>, CheckError>
+    ensures { Walks statement (needs_in (scope_of scope.old).in_loop E30 span (Passes (Continue, continued (scope_of scope.old)))) scope.old result scope.new }
 {
     needs(scope.in_loop, Code::E30, span)?;
+    scope.go_on()?;
     Ok(context.boxed(Stmt::Continue)?)
+}
+
+/// An assignment, and what is known behind it.
+pub fn assign(
+    context: &Context,
+    scope: &mut Scope,
+    written: &Assignment,
+) -> Result<Box<Stmt>, CheckError>
+    ensures { Walks statement (assigning (place_at context.now) (scope_of scope.old) (assignment_tree written.now)) scope.old result scope.new }
+{
+    let built = assignment(context, scope, written)?;
+    scope.settle(&built, written.span())?;
+    Ok(built)
 }

@@ -1,5 +1,6 @@
 // Statements.
 
+ghost use Rattle.std.specs.Prelude.{◌≡◌, IfOk};
 ghost use Rattle.std.specs.Option.{option_map};
 ghost use Rattle.ckc_text.specs.Places.{place_at};
 ghost use Rattle.ckc_tree.specs.Expressions.{expression as expression_tree};
@@ -12,18 +13,20 @@ ghost use Rattle.region_typing_scope.specs.OnHeap.{statement as statement_of};
 ghost use Rattle.region_typing_statements.specs.Walks.{Walks};
 ghost use Rattle.region_typing_statements.specs.Parts.{IsStructured, nested as nested_in, branched, then_branch as branch_in, if_alone as if_in, otherwise as otherwise_in, turns as turns_in, while_loop as while_in, for_loop as for_in};
 
+use crate::assigned::assigned_in;
 use crate::core_forms;
-use crate::core_forms::{Branch, both, choice, repeated};
+use crate::core_forms::{both, choice, repeated};
 use crate::declarations::declaration;
 use crate::heads::{first_part, optional_condition, optional_step};
 use crate::marks::is_checked;
-use crate::simple_statements::{break_from, call_alone, continue_with, return_from};
-use ckc_core::program::Stmt;
+use crate::simple_statements::{assign, break_from, call_alone, continue_with, return_from};
+use bounds_flow::flow::Flow;
+use ckc_core::program::{Expr, Stmt};
 use ckc_text::code::Code;
 use ckc_text::place::Span;
 use ckc_tree::stmt::{Assignment, ForInitial, Mark};
 use ckc_tree::{expr, stmt};
-use region_typing_expressions::assignments::{assignment, condition};
+use region_typing_expressions::assignments::condition;
 use region_typing_scope::context::Context;
 use region_typing_scope::refusals::{CheckError, needs, refusal};
 use region_typing_scope::scope::Scope;
@@ -50,7 +53,7 @@ pub fn statement(
         stmt::Stmt::Assign {
             assignment: written,
             ..
-        } => assignment(context, scope, written),
+        } => assign(context, scope, written),
         stmt::Stmt::Call { call, .. } => call_alone(context, scope, call),
         stmt::Stmt::Empty { .. } => Ok(context.boxed(Stmt::Nothing)?),
         stmt::Stmt::Return { value, span } => return_from(context, scope, value, *span),
@@ -117,9 +120,17 @@ fn block(
     let start = scope.block_start();
     let checked = is_checked(scope, mark);
     let built = statements(context, scope, inner)?;
-    scope.leave(start);
+    scope.leave(start)?;
     needs(checked, Code::E15, span)?;
     Ok(core_forms::block(context, built)?)
+}
+
+/// A condition with the statement that runs where it holds, and what is known where it doesn't.
+#[derive(Drop)]
+pub struct Branch {
+    pub condition: Box<Expr>,
+    pub consequent: Box<Stmt>,
+    pub otherwise: Flow,
 }
 
 // A condition with the statement that runs where it holds.
@@ -130,14 +141,17 @@ fn then_branch(
     consequent: &stmt::Stmt,
     test: &expr::Expr,
 ) -> Result<Branch, CheckError>
-    ensures { Walks branched (branch_in (place_at context.now) (scope_of scope.old) (expression_tree test.now) (statement_tree consequent.now)) scope.old result scope.new }
+    ensures walks { Walks branched (branch_in (place_at context.now) (scope_of scope.old) (expression_tree test.now) (statement_tree consequent.now)) scope.old result scope.new }
+    ensures size { IfOk result (λ b. b.otherwise.vars ≡ scope.new.flow.vars) }
 {
     let condition = condition(context, scope, test)?;
     let around = scope.in_loop;
+    let otherwise = scope.part(&condition)?;
     let consequent = nested(context, scope, around, consequent)?;
     Ok(Branch {
         condition,
         consequent,
+        otherwise,
     })
 }
 
@@ -151,9 +165,14 @@ fn if_alone(
 ) -> Result<Box<Stmt>, CheckError>
     ensures { Walks statement_of (if_in (place_at context.now) (scope_of scope.old) (expression_tree test.now) (statement_tree consequent.now)) scope.old result scope.new }
 {
-    let first = then_branch(context, scope, consequent, test)?;
+    let Branch {
+        condition,
+        consequent,
+        otherwise,
+    } = then_branch(context, scope, consequent, test)?;
+    scope.meet(otherwise)?;
     let nothing = context.boxed(Stmt::Nothing)?;
-    Ok(choice(context, first, nothing)?)
+    Ok(choice(context, condition, consequent, nothing)?)
 }
 
 // The alternative of a branch.
@@ -164,11 +183,19 @@ fn otherwise(
     alternative: &stmt::Stmt,
     first: Branch,
 ) -> Result<Box<Stmt>, CheckError>
+    requires { first.otherwise.vars ≡ scope.old.flow.vars }
     ensures { Walks statement_of (otherwise_in (place_at context.now) (branched first, scope_of scope.old) (statement_tree alternative.now)) scope.old result scope.new }
 {
+    let Branch {
+        condition,
+        consequent,
+        otherwise,
+    } = first;
     let around = scope.in_loop;
+    let ended = scope.turn_to(otherwise);
     let second = nested(context, scope, around, alternative)?;
-    Ok(choice(context, first, second)?)
+    scope.meet(ended)?;
+    Ok(choice(context, condition, consequent, second)?)
 }
 
 // A loop with a condition alone.
@@ -181,8 +208,13 @@ fn while_loop(
 ) -> Result<Box<Stmt>, CheckError>
     ensures { Walks statement_of (while_in (place_at context.now) (scope_of scope.old) (expression_tree test.now) (statement_tree body.now)) scope.old result scope.new }
 {
+    let local = scope.block_start().locals;
+    let assigned = assigned_in(context, scope, body, &None)?;
+    let around = scope.enter_loop(assigned.as_slice())?;
     let test = condition(context, scope, test)?;
+    let over = scope.part(&test)?;
     let body = nested(context, scope, true, body)?;
+    scope.leave_loop(local, over, around)?;
     let nothing = context.boxed(Stmt::Nothing)?;
     Ok(repeated(context, test, body, nothing)?)
 }
@@ -202,7 +234,7 @@ fn for_loop(
     let start = scope.block_start();
     let first = first_part(context, scope, initial)?;
     let turns = turns(context, scope, body, test, step)?;
-    scope.leave(start);
+    scope.leave(start)?;
     Ok(both(context, first, turns)?)
 }
 
@@ -217,9 +249,15 @@ fn turns(
 ) -> Result<Box<Stmt>, CheckError>
     ensures { Walks statement_of (turns_in (place_at context.now) (scope_of scope.old) (statement_tree body.now) (option_map on_heap test.now) (option_map assignment_tree step.now)) scope.old result scope.new }
 {
+    let local = scope.block_start().locals;
+    let assigned = assigned_in(context, scope, body, step)?;
+    let around = scope.enter_loop(assigned.as_slice())?;
     let test = optional_condition(context, scope, test)?;
+    let over = scope.part(&test)?;
     let body = nested(context, scope, true, body)?;
+    scope.end_turn(local)?;
     let step = optional_step(context, scope, step)?;
+    scope.leave_loop(local, over, around)?;
     Ok(repeated(context, test, body, step)?)
 }
 
@@ -235,9 +273,9 @@ fn nested(
 {
     let start = scope.block_start();
     scope.set_in_loop(in_loop);
-    let inner = statement(context, scope, written);
-    scope.leave(start);
-    inner
+    let inner = statement(context, scope, written)?;
+    scope.leave(start)?;
+    Ok(inner)
 }
 
 /// Statements, in their order.

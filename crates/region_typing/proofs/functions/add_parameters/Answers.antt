@@ -9,12 +9,13 @@ loop-p-preserved c =
     record {
       so_far = c.loop-p.invariant.so_far ∙ parameter_added c.args.parameters.now c.loop-p.p-index c.p-item.result (scope c.loop-p.scope) (scope c.add_local.new.self) (omega (arith, c.loop-p-test.true)) c.p-item.is known;
       few = local_counted (variable c.p-item.result) c.loop-p.scope c.add_local.new.self c.loop-p.p-index known c.loop-p.invariant.few;
+      size = c.in_ok-add_local.ensures.size ∙ c.loop-p.invariant.size;
     }
 
 pub add_local-requires : goal.add_local-requires
 add_local-requires c =
     let less : c.loop-p.p-index < length c.args.parameters.now = omega (arith, c.loop-p-test.true) in
-    rw c.loop-p.invariant.few (omega (arith, c.requires.few))
+    rw (c.loop-p.invariant.few, c.loop-p.invariant.size) (omega (arith, c.requires.few))
 
 pub returns : goal.returns
 returns c = sym (c.loop-p.invariant.so_far ∙ parameters_all c.args.parameters.now c.loop-p.p-index (scope c.loop-p.scope) (omega (arith, c.loop-p-test.false)))

@@ -8,4 +8,5 @@ abbrev pub invariant-loop-p : goal.invariant-loop-p
 invariant-loop-p l = record {
   so_far : with_parameters (map variable l.parameters) (scope l.initial.scope) ≡ with_parameters (map variable (drop l.p-index l.parameters)) (scope l.scope);
   few : length l.scope.locals.items ≡ l.p-index;
+  size : l.scope.flow.vars ≡ l.initial.scope.flow.vars;
 }

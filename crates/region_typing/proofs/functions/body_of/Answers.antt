@@ -12,5 +12,5 @@ returns-in_err-built c =
 
 pub returns : goal.returns
 returns c =
-    let same = left_function (signature c.args.f.now) (map variable c.args.parameters.now) c.args.scope.now c.enter.new.scope c.statements.new.scope c.exit-locals.new.self c.requires.outside c.in_ok-enter.ensures c.in_ok-built.ensures.so.1 c.exit-locals.ensures.known in
-    record { so = body_built (place_at c.args.context.now) (signature c.args.f.now) (map variable c.args.parameters.now) (statement_list c.args.body.now) (statements_of c.in_ok-built.built.items) (function c.core_function.result) c.args.scope.now c.enter.new.scope c.statements.new.scope c.exit-locals.new.self c.in_ok-enter.ensures same c.in_ok-built.ensures.so.0 (core_built c.args.f.now c.in_ok-heading.heading c.args.parameters.now (length c.args.parameters.now) refl c.exit-locals.result.items (scope c.statements.new.scope) c.exit-locals.ensures.locals c.in_ok-built.built.items c.core_function.result c.in_ok-heading.ensures c.core_function.ensures) }
+    let same = left_function (signature c.args.f.now) (map variable c.args.parameters.now) (statement_list c.args.body.now) c.args.scope.now c.enter.new.scope c.statements.new.scope c.exit.new.self c.requires.outside c.in_ok-enter.ensures c.in_ok-built.ensures.so.1 c.in_ok-locals.ensures.known in
+    record { so = body_built (place_at c.args.context.now) (signature c.args.f.now) (map variable c.args.parameters.now) (statement_list c.args.body.now) (statements_of c.in_ok-built.built.items) (function c.core_function.result) c.args.scope.now c.enter.new.scope c.statements.new.scope c.exit.new.self c.in_ok-enter.ensures same c.in_ok-built.ensures.so.0 (core_built c.args.f.now c.in_ok-heading.heading c.args.parameters.now (length c.args.parameters.now) refl c.in_ok-locals.locals.items (scope c.statements.new.scope) c.in_ok-locals.ensures.locals c.in_ok-built.built.items c.core_function.result c.in_ok-heading.ensures c.core_function.ensures) }

@@ -1,3 +1,4 @@
+use Rattle.std.proofs.Common.{refl}
 use Rattle.region_typing_scope.proofs.Going.{goes_on, refused}
 use Rattle.region_typing.proofs.signatures.declared.Goals as goal
 
@@ -6,3 +7,8 @@ returns-in_err-result c = refused _ c.from_residual.result c.from_residual.ensur
 
 pub returns-in_err-parameters : goal.returns-in_err-parameters
 returns-in_err-parameters c = goes_on _ c.in_ok-result.ensures (refused _ c.from_residual-in_err-parameters.result c.from_residual-in_err-parameters.ensures.1 c.in_err-parameters.ensures.types)
+
+pub returns : goal.returns
+returns c =
+    let types = rw c.as_slice.ensures.value at c.in_ok-types_of.ensures in
+    goes_on _ c.in_ok-result.ensures (goes_on _ c.in_ok-parameters.ensures.types (record { so = rw (types, c.in_ok-copy.ensures.same) refl }))

@@ -1,4 +1,4 @@
-use Rattle.std.proofs.Common.{◌≡◌, ◌<◌, ◌++◌, ◌∷◌, [], length, ap, sym, refl, ◌∙◌, arith}
+use Rattle.std.proofs.Common.{◌≡◌, ◌<◌, ◌++◌, ◌∷◌, [], true, length, Ok, ap, sym, refl, ◌∙◌, arith}
 use Rattle.std.specs.Option.{option_map}
 use Rattle.ckc_text.specs.Places.{place_at}
 use Rattle.ckc_text.specs.declared.code.Code.TheVariants.{E15}
@@ -10,64 +10,166 @@ use Rattle.ckc_core.specs.Core as core
 use Rattle.ckc_core.specs.Core.{statements_of}
 use Rattle.region_typing_rules.specs.Statements as rules
 use Rattle.region_typing_scope.specs.Views.{scope}
-use Rattle.region_typing_scope.specs.OnHeap.{statement}
-use Rattle.region_typing_statements.specs.Parts.{branched}
-use Rattle.region_typing_statements.proofs.Walking.{goes_on, refused, walks_on, refused_walk, refused_by, done, left, left_walk, grown, none_more, kept, kept_as}
+use Rattle.region_typing_rules.specs.Verdicts.{Passes}
+use Rattle.region_typing_scope.specs.OnHeap.{statement, expression}
+use Rattle.region_typing_statements.specs.Parts.{branched, over, turn_ended, step_ended, turns_from, while_from}
+use Rattle.region_typing_statements.proofs.Walking.{goes_on, refused, walks_on, refused_walk, refused_by, done, done_in, left, left_walk, grown, size_kept, still_there, other_flow, other_loop, none_more, kept_as}
 use Rattle.region_typing_statements.proofs.Testing.{walk_fails, tested}
 use Rattle.region_typing_statements.proofs.Rows.{block_tree}
-use Rattle.region_typing_statements.proofs.Loops.{call_parts, loop_parts, if_walk, if_else_walk, while_walk, for_walk, nested_walk}
+use Rattle.region_typing_statements.proofs.Loops.{call_parts, if_walk, if_else_walk, while_walk, for_walk, nested_walk, nested_broken}
+use Rattle.region_typing_statements.proofs.Ways.{stepped, parted, turned, counted, left_loop}
 use Rattle.region_typing_statements.proofs.Sequences.{behind_empty, statement_more, statement_breaks, statements_done}
 use Rattle.region_typing_statements.proofs.statements.+statements.Goals as goal
 
+pub nested-returns-in_err-inner : goal.nested-returns-in_err-inner
+nested-returns-in_err-inner t c =
+    nested_broken (place_at c.args.context.now) c.args.in_loop (s.statement c.args.written.now) c.from_residual.result c.args.scope.now c.statement.new.scope c.statement.new.scope c.from_residual.ensures.1 c.in_err-inner.ensures c.set_in_loop.ensures.known
+
 pub nested-returns : goal.nested-returns
 nested-returns t c =
-    nested_walk (place_at c.args.context.now) c.args.in_loop c.block_start-start.result (s.statement c.args.written.now) c.statement-inner.result c.args.scope.now c.statement-inner.new.scope c.leave.new.self c.statement-inner.ensures c.set_in_loop.ensures.known c.set_in_loop.ensures.seen c.block_start-start.ensures c.leave.ensures.known c.leave.ensures.seen
+    nested_walk (place_at c.args.context.now) c.args.in_loop c.block_start-start.result (s.statement c.args.written.now) c.in_ok-inner.inner c.args.scope.now c.statement.new.scope c.leave.new.self c.in_ok-inner.ensures c.set_in_loop.ensures.known c.set_in_loop.ensures.seen c.block_start-start.ensures c.in_ok-leave.ensures.known c.in_ok-leave.ensures.seen c.in_ok-leave.ensures.size
 
-pub then_branch-returns-in_err-condition : goal.then_branch-returns-in_err-condition
-then_branch-returns-in_err-condition t c = refused _ c.from_residual.result c.from_residual.ensures.1 c.in_err-condition.ensures
+pub then_branch-returns-in_err-condition-clause-walks : goal.then_branch-returns-in_err-condition-clause-walks
+then_branch-returns-in_err-condition-clause-walks t c = refused _ c.from_residual.result c.from_residual.ensures.1 c.in_err-condition.ensures
 
-pub then_branch-returns-in_err-consequent : goal.then_branch-returns-in_err-consequent
-then_branch-returns-in_err-consequent t c = goes_on _ c.in_ok-condition.ensures (refused_walk _ c.from_residual-in_err-consequent.result c.from_residual-in_err-consequent.ensures.1 c.in_err-consequent.ensures)
+pub then_branch-returns-in_err-consequent-clause-walks : goal.then_branch-returns-in_err-consequent-clause-walks
+then_branch-returns-in_err-consequent-clause-walks t c =
+    let known = rw c.deref.ensures at c.in_ok-otherwise.ensures.known in
+    let other = rw c.deref.ensures at c.in_ok-otherwise.ensures.other in
+    goes_on _ c.in_ok-condition.ensures
+    (parted (place_at c.args.context.now) (s.statement c.args.consequent.now) c.args.scope.now.in_loop branched (λ x o. Passes ((expression c.in_ok-condition.condition, x.0, o), x.1)) c.in_ok-condition.condition c.in_ok-otherwise.otherwise c.args.scope.now c.part.new.self c.nested.new.scope c.from_residual-in_err-consequent.result known other c.in_ok-otherwise.ensures.seen c.in_ok-otherwise.ensures.size
+    (refused_walk _ c.from_residual-in_err-consequent.result c.from_residual-in_err-consequent.ensures.1 c.in_err-consequent.ensures))
 
-pub then_branch-returns : goal.then_branch-returns
-then_branch-returns t c = goes_on _ c.in_ok-condition.ensures (walks_on _ c.in_ok-consequent.ensures (done branched (record { condition = c.in_ok-condition.condition; consequent = c.in_ok-consequent.consequent }) _ c.nested.new.scope refl))
+pub then_branch-returns-clause-walks : goal.then_branch-returns-clause-walks
+then_branch-returns-clause-walks t c =
+    let known = rw c.deref.ensures at c.in_ok-otherwise.ensures.known in
+    let other = rw c.deref.ensures at c.in_ok-otherwise.ensures.other in
+    goes_on _ c.in_ok-condition.ensures
+    (parted (place_at c.args.context.now) (s.statement c.args.consequent.now) c.args.scope.now.in_loop branched (λ x o. Passes ((expression c.in_ok-condition.condition, x.0, o), x.1)) c.in_ok-condition.condition c.in_ok-otherwise.otherwise c.args.scope.now c.part.new.self c.nested.new.scope (Ok _) known other c.in_ok-otherwise.ensures.seen c.in_ok-otherwise.ensures.size
+    (walks_on _ c.in_ok-consequent.ensures (done branched (record { condition = c.in_ok-condition.condition; consequent = c.in_ok-consequent.consequent; otherwise = c.in_ok-otherwise.otherwise }) _ c.nested.new.scope refl)))
 
-pub if_alone-returns-in_err-first : goal.if_alone-returns-in_err-first
-if_alone-returns-in_err-first t c = refused_walk _ c.from_residual.result c.from_residual.ensures.1 c.in_err-first.ensures
+pub then_branch-returns-clause-size : goal.then_branch-returns-clause-size
+then_branch-returns-clause-size t c = c.in_ok-otherwise.ensures.sizes ∙ sym c.in_ok-otherwise.ensures.size ∙ sym (size_kept c.in_ok-consequent.ensures.so.1)
+
+pub if_alone-returns-in_err-condition : goal.if_alone-returns-in_err-condition
+if_alone-returns-in_err-condition t c = refused_walk _ c.from_residual.result c.from_residual.ensures.1 c.in_err-condition.ensures.walks
 
 pub if_alone-returns : goal.if_alone-returns
 if_alone-returns t c =
     let built = rw c.in_ok-nothing.ensures at c.in_ok-choice.ensures in
-    walks_on _ c.in_ok-first.ensures (done statement c.in_ok-choice.field-0 _ c.then_branch.new.scope built)
+    let met = c.in_ok-meet.ensures in
+    walks_on _ c.in_ok-condition.ensures.walks (done_in statement c.in_ok-choice.field-0 _ c.then_branch.new.scope c.meet.new.self _ built met.known (other_flow _ _ _ c.then_branch.new.scope c.meet.new.self met.known met.seen met.size))
 
 pub otherwise-returns-in_err-second : goal.otherwise-returns-in_err-second
-otherwise-returns-in_err-second t c = refused_walk _ c.from_residual.result c.from_residual.ensures.1 c.in_err-second.ensures
+otherwise-returns-in_err-second t c =
+    turned (place_at c.args.context.now) (s.statement c.args.alternative.now) statement c.args.first.otherwise _ c.args.scope.now c.turn_to-ended.new.self c.nested.new.scope c.from_residual.result c.turn_to-ended.ensures.known c.turn_to-ended.ensures.seen c.turn_to-ended.ensures.size
+    (refused_walk _ c.from_residual.result c.from_residual.ensures.1 c.in_err-second.ensures)
 
 pub otherwise-returns : goal.otherwise-returns
-otherwise-returns t c = walks_on _ c.in_ok-second.ensures (done statement c.in_ok-choice.field-0 _ c.nested.new.scope c.in_ok-choice.ensures)
-
-pub turns-returns-in_err-test : goal.turns-returns-in_err-test
-turns-returns-in_err-test t c = refused _ c.from_residual.result c.from_residual.ensures.1 c.in_err-test.ensures
-
-pub turns-returns-in_err-body : goal.turns-returns-in_err-body
-turns-returns-in_err-body t c = goes_on _ c.in_ok-test.ensures (refused_walk _ c.from_residual-in_err-body.result c.from_residual-in_err-body.ensures.1 c.in_err-body.ensures)
-
-pub turns-returns-in_err-step : goal.turns-returns-in_err-step
-turns-returns-in_err-step t c = goes_on _ c.in_ok-test.ensures (walks_on _ c.in_ok-body.ensures (refused _ c.from_residual-in_err-step.result c.from_residual-in_err-step.ensures.1 c.in_err-step.ensures))
-
-pub turns-returns : goal.turns-returns
-turns-returns t c = goes_on _ c.in_ok-test.ensures (walks_on _ c.in_ok-body.ensures (goes_on _ c.in_ok-step.ensures (done statement c.in_ok-repeated.field-0 _ c.nested.new.scope c.in_ok-repeated.ensures)))
+otherwise-returns t c =
+    let met = c.in_ok-meet.ensures in
+    let known = rw c.turn_to-ended.ensures.here at met.known in
+    turned (place_at c.args.context.now) (s.statement c.args.alternative.now) statement c.args.first.otherwise _ c.args.scope.now c.turn_to-ended.new.self c.meet.new.self (Ok _) c.turn_to-ended.ensures.known c.turn_to-ended.ensures.seen c.turn_to-ended.ensures.size
+    (walks_on _ c.in_ok-second.ensures (done_in statement c.in_ok-choice.field-0 _ c.nested.new.scope c.meet.new.self _ c.in_ok-choice.ensures known (other_flow _ _ _ c.nested.new.scope c.meet.new.self known met.seen met.size)))
 
 pub while_loop-returns-in_err-test : goal.while_loop-returns-in_err-test
-while_loop-returns-in_err-test t c = refused _ c.from_residual.result c.from_residual.ensures.1 c.in_err-test.ensures
+while_loop-returns-in_err-test t c =
+    let entered = c.in_ok-around.ensures in
+    let headed = rw (c.as_slice.ensures.value, c.in_ok-assigned.ensures.known) at entered.known in
+    stepped statement (λ h. while_from (place_at c.args.context.now) (scope c.args.scope.now) h (trees.expression c.args.test.now) (s.statement c.args.body.now)) _ _ _ c.args.scope.now c.enter_loop.new.self c.enter_loop.new.self c.from_residual-in_err-test.result headed entered.seen entered.size
+    (refused _ c.from_residual-in_err-test.result c.from_residual-in_err-test.ensures.1 c.in_err-test.ensures)
 
 pub while_loop-returns-in_err-body : goal.while_loop-returns-in_err-body
-while_loop-returns-in_err-body t c = goes_on _ c.in_ok-test.ensures (refused_walk _ c.from_residual-in_err-body.result c.from_residual-in_err-body.ensures.1 c.in_err-body.ensures)
+while_loop-returns-in_err-body t c =
+    let g = scope c.args.scope.now in
+    let entered = c.in_ok-around.ensures in
+    let headed = rw (c.as_slice.ensures.value, c.in_ok-assigned.ensures.known) at entered.known in
+    let parts = c.in_ok-over.ensures in
+    let known = rw c.deref.ensures at parts.known in
+    let other = rw c.deref.ensures at parts.other in
+    stepped statement (λ h. while_from (place_at c.args.context.now) g h (trees.expression c.args.test.now) (s.statement c.args.body.now)) _ _ _ c.args.scope.now c.enter_loop.new.self c.nested.new.scope c.from_residual-in_err-body.result headed entered.seen entered.size
+    (goes_on _ c.in_ok-test.ensures
+    (parted (place_at c.args.context.now) (s.statement c.args.body.now) true statement (λ x o. Passes (core.Loop (expression c.in_ok-test.test) x.0 core.Nothing, over (length g.locals) o g.breaks g.continues x.1)) c.in_ok-test.test c.in_ok-over.over c.enter_loop.new.self c.part.new.self c.nested.new.scope c.from_residual-in_err-body.result known other parts.seen parts.size
+    (refused_walk _ c.from_residual-in_err-body.result c.from_residual-in_err-body.ensures.1 c.in_err-body.ensures)))
 
 pub while_loop-returns : goal.while_loop-returns
 while_loop-returns t c =
+    let g = scope c.args.scope.now in
     let built = rw c.in_ok-nothing.ensures at c.in_ok-repeated.ensures in
-    goes_on _ c.in_ok-test.ensures (walks_on _ c.in_ok-body.ensures (done statement c.in_ok-repeated.field-0 _ c.nested.new.scope built))
+    let entered = c.in_ok-around.ensures in
+    let headed = rw (c.as_slice.ensures.value, c.in_ok-assigned.ensures.known) at entered.known in
+    let parts = c.in_ok-over.ensures in
+    let known = rw c.deref.ensures at parts.known in
+    let other = rw c.deref.ensures at parts.other in
+    let gone = c.in_ok-leave_loop.ensures in
+    let left = left_loop c.args.scope.now c.nested.new.scope c.leave_loop.new.self c.block_start-local.result.locals c.in_ok-over.over c.in_ok-around.around gone.known (counted c.args.scope.now c.block_start-local.result c.block_start-local.ensures) entered.around in
+    stepped statement (λ h. while_from (place_at c.args.context.now) g h (trees.expression c.args.test.now) (s.statement c.args.body.now)) _ _ _ c.args.scope.now c.enter_loop.new.self c.leave_loop.new.self (Ok _) headed entered.seen entered.size
+    (goes_on _ c.in_ok-test.ensures
+    (parted (place_at c.args.context.now) (s.statement c.args.body.now) true statement (λ x o. Passes (core.Loop (expression c.in_ok-test.test) x.0 core.Nothing, over (length g.locals) o g.breaks g.continues x.1)) c.in_ok-test.test c.in_ok-over.over c.enter_loop.new.self c.part.new.self c.leave_loop.new.self (Ok _) known other parts.seen parts.size
+    (walks_on _ c.in_ok-body.ensures (done_in statement c.in_ok-repeated.field-0 _ c.nested.new.scope c.leave_loop.new.self _ built left (other_flow _ _ _ c.nested.new.scope c.leave_loop.new.self left gone.seen gone.size)))))
+
+pub turns-returns-in_err-test : goal.turns-returns-in_err-test
+turns-returns-in_err-test t c =
+    let entered = c.in_ok-around.ensures in
+    let headed = rw (c.as_slice.ensures.value, c.in_ok-assigned.ensures.known) at entered.known in
+    stepped statement (λ h. turns_from (place_at c.args.context.now) (scope c.args.scope.now) h (s.statement c.args.body.now) (option_map s.on_heap c.args.test.now) (option_map s.assignment c.args.step.now)) _ _ _ c.args.scope.now c.enter_loop.new.self c.enter_loop.new.self c.from_residual-in_err-test.result headed entered.seen entered.size
+    (refused _ c.from_residual-in_err-test.result c.from_residual-in_err-test.ensures.1 c.in_err-test.ensures)
+
+pub turns-returns-in_err-body : goal.turns-returns-in_err-body
+turns-returns-in_err-body t c =
+    let g = scope c.args.scope.now in
+    let at = place_at c.args.context.now in
+    let step = option_map s.assignment c.args.step.now in
+    let entered = c.in_ok-around.ensures in
+    let headed = rw (c.as_slice.ensures.value, c.in_ok-assigned.ensures.known) at entered.known in
+    let parts = c.in_ok-over.ensures in
+    let known = rw c.deref.ensures at parts.known in
+    let other = rw c.deref.ensures at parts.other in
+    stepped statement (λ h. turns_from at g h (s.statement c.args.body.now) (option_map s.on_heap c.args.test.now) step) _ _ _ c.args.scope.now c.enter_loop.new.self c.nested.new.scope c.from_residual-in_err-body.result headed entered.seen entered.size
+    (goes_on _ c.in_ok-test.ensures
+    (parted at (s.statement c.args.body.now) true statement (λ x o. turn_ended at g (expression c.in_ok-test.test) step x o) c.in_ok-test.test c.in_ok-over.over c.enter_loop.new.self c.part.new.self c.nested.new.scope c.from_residual-in_err-body.result known other parts.seen parts.size
+    (refused_walk _ c.from_residual-in_err-body.result c.from_residual-in_err-body.ensures.1 c.in_err-body.ensures)))
+
+pub turns-returns-in_err-step : goal.turns-returns-in_err-step
+turns-returns-in_err-step t c =
+    let g = scope c.args.scope.now in
+    let at = place_at c.args.context.now in
+    let step = option_map s.assignment c.args.step.now in
+    let entered = c.in_ok-around.ensures in
+    let headed = rw (c.as_slice.ensures.value, c.in_ok-assigned.ensures.known) at entered.known in
+    let parts = c.in_ok-over.ensures in
+    let known = rw c.deref.ensures at parts.known in
+    let other = rw c.deref.ensures at parts.other in
+    let ended = c.in_ok-end_turn.ensures in
+    let last = rw (counted c.args.scope.now c.block_start-local.result c.block_start-local.ensures) at ended.known in
+    stepped statement (λ h. turns_from at g h (s.statement c.args.body.now) (option_map s.on_heap c.args.test.now) step) _ _ _ c.args.scope.now c.enter_loop.new.self c.optional_step.new.scope c.from_residual-in_err-step.result headed entered.seen entered.size
+    (goes_on _ c.in_ok-test.ensures
+    (parted at (s.statement c.args.body.now) true statement (λ x o. turn_ended at g (expression c.in_ok-test.test) step x o) c.in_ok-test.test c.in_ok-over.over c.enter_loop.new.self c.part.new.self c.optional_step.new.scope c.from_residual-in_err-step.result known other parts.seen parts.size
+    (walks_on _ c.in_ok-body.ensures
+    (stepped statement (λ k. step_ended at g (expression c.in_ok-test.test) step (statement c.in_ok-body.body) c.in_ok-over.over k) _ _ _ c.nested.new.scope c.end_turn.new.self c.optional_step.new.scope c.from_residual-in_err-step.result last ended.seen ended.size
+    (refused_walk _ c.from_residual-in_err-step.result c.from_residual-in_err-step.ensures.1 c.in_err-step.ensures)))))
+
+pub turns-returns : goal.turns-returns
+turns-returns t c =
+    let g = scope c.args.scope.now in
+    let at = place_at c.args.context.now in
+    let step = option_map s.assignment c.args.step.now in
+    let entered = c.in_ok-around.ensures in
+    let headed = rw (c.as_slice.ensures.value, c.in_ok-assigned.ensures.known) at entered.known in
+    let parts = c.in_ok-over.ensures in
+    let known = rw c.deref.ensures at parts.known in
+    let other = rw c.deref.ensures at parts.other in
+    let ended = c.in_ok-end_turn.ensures in
+    let count = counted c.args.scope.now c.block_start-local.result c.block_start-local.ensures in
+    let last = rw count at ended.known in
+    let gone = c.in_ok-leave_loop.ensures in
+    let left = left_loop c.args.scope.now c.optional_step.new.scope c.leave_loop.new.self c.block_start-local.result.locals c.in_ok-over.over c.in_ok-around.around gone.known count entered.around in
+    stepped statement (λ h. turns_from at g h (s.statement c.args.body.now) (option_map s.on_heap c.args.test.now) step) _ _ _ c.args.scope.now c.enter_loop.new.self c.leave_loop.new.self (Ok _) headed entered.seen entered.size
+    (goes_on _ c.in_ok-test.ensures
+    (parted at (s.statement c.args.body.now) true statement (λ x o. turn_ended at g (expression c.in_ok-test.test) step x o) c.in_ok-test.test c.in_ok-over.over c.enter_loop.new.self c.part.new.self c.leave_loop.new.self (Ok _) known other parts.seen parts.size
+    (walks_on _ c.in_ok-body.ensures
+    (stepped statement (λ k. step_ended at g (expression c.in_ok-test.test) step (statement c.in_ok-body.body) c.in_ok-over.over k) _ _ _ c.nested.new.scope c.end_turn.new.self c.leave_loop.new.self (Ok _) last ended.seen ended.size
+    (walks_on _ c.in_ok-step.ensures (done_in statement c.in_ok-repeated.field-0 _ c.optional_step.new.scope c.leave_loop.new.self _ c.in_ok-repeated.ensures left (other_flow _ _ _ c.optional_step.new.scope c.leave_loop.new.self left gone.seen gone.size)))))))
 
 pub for_loop-returns-in_err-first : goal.for_loop-returns-in_err-first
 for_loop-returns-in_err-first t c = refused_walk _ c.from_residual.result c.from_residual.ensures.1 c.in_err-first.ensures
@@ -77,9 +179,10 @@ for_loop-returns-in_err-turns t c = walks_on _ c.in_ok-first.ensures (refused_wa
 
 pub for_loop-returns : goal.for_loop-returns
 for_loop-returns t c =
+    let gone = c.in_ok-leave.ensures in
     rw c.in_ok-first.ensures.so.0
     (left_walk statement (rules.both (statement c.in_ok-first.first)) _ (statement c.in_ok-turns.turns) c.in_ok-both.field-0 c.args.scope.now c.turns.new.scope c.leave.new.self c.in_ok-turns.ensures.so.0
-    (left c.block_start-start.result c.args.scope.now c.turns.new.scope c.leave.new.self c.block_start-start.ensures (grown c.in_ok-first.ensures.so.1 c.in_ok-turns.ensures.so.1) c.leave.ensures.known c.leave.ensures.seen)
+    (left c.block_start-start.result c.args.scope.now c.turns.new.scope c.leave.new.self c.block_start-start.ensures (grown c.in_ok-first.ensures.so.1 c.in_ok-turns.ensures.so.1) gone.known gone.seen gone.size)
     c.in_ok-both.ensures)
 
 pub block-returns-in_err-built : goal.block-returns-in_err-built
@@ -93,7 +196,7 @@ block-returns t c =
     let on = sym c.is_checked-checked.ensures ∙ tested _ E15 c.args.span c.in_ok-needs.ensures in
     rw on
     (left_walk statement core.Block _ (statements_of c.in_ok-built.built.items) c.in_ok-block.field-0 c.args.scope.now c.statements.new.scope c.leave.new.self c.in_ok-built.ensures.so.0
-    (left c.block_start-start.result c.args.scope.now c.statements.new.scope c.leave.new.self c.block_start-start.ensures c.in_ok-built.ensures.so.1 c.leave.ensures.known c.leave.ensures.seen)
+    (left c.block_start-start.result c.args.scope.now c.statements.new.scope c.leave.new.self c.block_start-start.ensures c.in_ok-built.ensures.so.1 c.in_ok-leave.ensures.known c.in_ok-leave.ensures.seen c.in_ok-leave.ensures.size)
     c.in_ok-block.ensures)
 
 pub statements-returns-in_err-next : goal.statements-returns-in_err-next
@@ -122,7 +225,7 @@ structured-returns-in-Block t c =
     rw (block_tree c.args.written.now c.in-Block.mark c.in-Block.inner c.in-Block.span c.as_slice.result.now c.in-Block.is c.as_slice.ensures.value) c.block.ensures
 
 pub statement-returns-in-Assign : goal.statement-returns-in-Assign
-statement-returns-in-Assign t c = rw c.in-Assign.is (kept c.args.scope.now c.assignment.ensures)
+statement-returns-in-Assign t c = rw c.in-Assign.is c.assign.ensures
 
 pub statement-returns-in-Call : goal.statement-returns-in-Call
 statement-returns-in-Call t c =
@@ -145,17 +248,13 @@ structured-returns-in-For t c =
     for_walk (place_at c.args.context.now) (s.statement c.args.written.now) (s.for_initial c.in-For.initial) (option_map s.on_heap c.in-For.test) (option_map s.assignment c.in-For.step) (s.statement c.in-For.body.value) c.in-For.span (ap s.statement c.in-For.is) walk
 
 pub statement-returns-in-Return : goal.statement-returns-in-Return
-statement-returns-in-Return t c = rw c.in-Return.is (kept c.args.scope.now c.return_from.ensures)
+statement-returns-in-Return t c = rw c.in-Return.is c.return_from.ensures
 
 pub statement-returns-in-Break : goal.statement-returns-in-Break
-statement-returns-in-Break t c =
-    let g = scope c.args.scope.now in
-    rw c.in-Break.is (kept_as (rules.statement (place_at c.args.context.now) g (s.Break c.in-Break.span)) c.args.scope.now (loop_parts g core.Break c.in-Break.span) c.break_from.ensures)
+statement-returns-in-Break t c = rw c.in-Break.is c.break_from.ensures
 
 pub statement-returns-in-Continue : goal.statement-returns-in-Continue
-statement-returns-in-Continue t c =
-    let g = scope c.args.scope.now in
-    rw c.in-Continue.is (kept_as (rules.statement (place_at c.args.context.now) g (s.Continue c.in-Continue.span)) c.args.scope.now (loop_parts g core.Continue c.in-Continue.span) c.continue_with.ensures)
+statement-returns-in-Continue t c = rw c.in-Continue.is c.continue_with.ensures
 
 pub structured-returns-in-None : goal.structured-returns-in-None
 structured-returns-in-None t c =
@@ -166,14 +265,51 @@ pub structured-returns-in_err-first-in-Some : goal.structured-returns-in_err-fir
 structured-returns-in_err-first-in-Some t c =
     let broken = rw (c.deref-in-Some.ensures, c.deref-in-Some-2.ensures) at c.in_err-first-in-Some.ensures in
     if_else_walk (place_at c.args.context.now) (s.statement c.args.written.now) (trees.expression c.in-If.test.value) (s.statement c.in-If.consequent.value) (s.statement c.in-Some.alternative.value) c.in-If.span (rw (c.in-If.is, c.in-Some.is) refl)
-    (refused_walk _ c.from_residual.result c.from_residual.ensures.1 broken)
+    (refused_walk _ c.from_residual.result c.from_residual.ensures.1 broken.walks)
 
 pub structured-returns-in_ok-first-in-Some : goal.structured-returns-in_ok-first-in-Some
 structured-returns-in_ok-first-in-Some t c =
     let first = rw (c.deref-in-Some.ensures, c.deref-in-Some-2.ensures) at c.in_ok-first-in-Some.ensures in
     let second = rw c.deref-in-Some-3.ensures at c.otherwise.ensures in
     if_else_walk (place_at c.args.context.now) (s.statement c.args.written.now) (trees.expression c.in-If.test.value) (s.statement c.in-If.consequent.value) (s.statement c.in-Some.alternative.value) c.in-If.span (rw (c.in-If.is, c.in-Some.is) refl)
-    (walks_on _ first second)
+    (walks_on _ first.walks second)
 
 pub statements-loop-listed-init : goal.statements-loop-listed-init
 statements-loop-listed-init t c = record { so_far = behind_empty c.new-built.result.items _ c.new-built.ensures.items; more = none_more c.args.scope.now }
+
+pub block-leave-requires : goal.block-leave-requires
+block-leave-requires t c = still_there c.args.scope.now c.statements.new.scope c.block_start-start.result c.block_start-start.ensures c.in_ok-built.ensures.so.1
+
+pub for_loop-leave-requires : goal.for_loop-leave-requires
+for_loop-leave-requires t c = still_there c.args.scope.now c.turns.new.scope c.block_start-start.result c.block_start-start.ensures (grown c.in_ok-first.ensures.so.1 c.in_ok-turns.ensures.so.1)
+
+pub nested-leave-requires : goal.nested-leave-requires
+nested-leave-requires t c =
+    still_there c.args.scope.now c.statement.new.scope c.block_start-start.result c.block_start-start.ensures
+    (grown (other_loop c.args.in_loop c.args.scope.now c.set_in_loop.new.self c.set_in_loop.ensures.known c.set_in_loop.ensures.seen) c.in_ok-inner.ensures.so.1)
+
+pub while_loop-leave_loop-requires-clause-locals : goal.while_loop-leave_loop-requires-clause-locals
+while_loop-leave_loop-requires-clause-locals t c =
+    let entered = c.in_ok-around.ensures in
+    let parts = c.in_ok-over.ensures in
+    still_there c.args.scope.now c.nested.new.scope c.block_start-local.result c.block_start-local.ensures
+    (grown (other_flow _ _ _ c.args.scope.now c.enter_loop.new.self entered.known entered.seen entered.size)
+    (grown (other_flow _ _ _ c.enter_loop.new.self c.part.new.self parts.known parts.seen parts.size) c.in_ok-body.ensures.so.1))
+
+pub turns-end_turn-requires : goal.turns-end_turn-requires
+turns-end_turn-requires t c =
+    let entered = c.in_ok-around.ensures in
+    let parts = c.in_ok-over.ensures in
+    still_there c.args.scope.now c.nested.new.scope c.block_start-local.result c.block_start-local.ensures
+    (grown (other_flow _ _ _ c.args.scope.now c.enter_loop.new.self entered.known entered.seen entered.size)
+    (grown (other_flow _ _ _ c.enter_loop.new.self c.part.new.self parts.known parts.seen parts.size) c.in_ok-body.ensures.so.1))
+
+pub turns-leave_loop-requires-clause-locals : goal.turns-leave_loop-requires-clause-locals
+turns-leave_loop-requires-clause-locals t c =
+    let entered = c.in_ok-around.ensures in
+    let parts = c.in_ok-over.ensures in
+    let ended = c.in_ok-end_turn.ensures in
+    still_there c.args.scope.now c.optional_step.new.scope c.block_start-local.result c.block_start-local.ensures
+    (grown (other_flow _ _ _ c.args.scope.now c.enter_loop.new.self entered.known entered.seen entered.size)
+    (grown (other_flow _ _ _ c.enter_loop.new.self c.part.new.self parts.known parts.seen parts.size)
+    (grown c.in_ok-body.ensures.so.1 (grown (other_flow _ _ _ c.nested.new.scope c.end_turn.new.self ended.known ended.seen ended.size) c.in_ok-step.ensures.so.1))))

@@ -1,0 +1,15 @@
+use Rattle.std.proofs.Common.{◌+◌, ◌*◌}
+use Rattle.std.specs.Prelude.{max}
+use Rattle.ckc_core.specs.declared.program.Expr.{size-Expr}
+use Rattle.region_typing_flow.proofs.conditions.+told.Given as goal
+
+-- each call has a part that is less deep, or one as deep and a function that is lower here
+
+abbrev pub decreases-told : goal.decreases-told
+decreases-told l = 2 * size-Expr l.condition.now
+
+abbrev pub decreases-both : goal.decreases-both
+decreases-both l = 2 * max (size-Expr l.left.now) (size-Expr l.right.now) + 1
+
+abbrev pub decreases-either : goal.decreases-either
+decreases-either l = 2 * max (size-Expr l.left.now) (size-Expr l.right.now) + 1

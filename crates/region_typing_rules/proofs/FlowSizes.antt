@@ -1,0 +1,111 @@
+-- A flow speaks of as many variables behind each step as before it.
+use Rattle.std.proofs.Common.{◌≡◌, ℕ, zero, suc, Bool, true, false, not, List, length, Option, Some, None, refl, ◌∙◌}
+use Rattle.std.specs.Prelude.{◌-◌, slice_get}
+use Rattle.ckc_text.specs.declared.place.Span.{Span}
+use Rattle.bounds_exprs.specs.declared.term.Term.{Term}
+use Rattle.act_words.specs.declared.operator.Comparison.{Comparison}
+use Rattle.bounds_flow.specs.Flows.{Knowledge, left}
+use Rattle.bounds_flow.specs.Settling.{Finding, Meets, WasLost, Falls}
+use Rattle.pointer_modes.specs.Types.{CType, Int, Char, Struct, Pointer}
+use Rattle.ckc_core.specs.Core as core
+use Rattle.region_typing_rules.specs.Verdicts.{picked}
+use Rattle.region_typing_rules.specs.Scopes.{Scope}
+use Rattle.region_typing_rules.specs.Readings.{compared, pointer_local, is_null, null_told, same_told, term, told}
+use Rattle.region_typing_rules.specs.Knowing.{value_assigned, assigned_by, first_found, settled_as, settling, without_locals, outside_of, meeting_others, with_others}
+use Rattle.region_typing_rules.proofs.Verdicts.{Promises}
+
+compared_size : (c : Comparison) (a b : Option Term) (truth : Bool) (f : Knowledge) → (compared c a b truth f).vars ≡ f.vars
+compared_size c None b truth f = refl
+compared_size c (Some a) None truth f = refl
+compared_size c (Some a) (Some b) truth f = refl
+
+null_told_size : (o : Option ℕ) (truth : Bool) (f : Knowledge) → (null_told o truth f).vars ≡ f.vars
+null_told_size None truth f = refl
+null_told_size (Some local) true f = refl
+null_told_size (Some local) false f = refl
+
+one_of_size : (test : Bool) (f g : Knowledge) (n : ℕ) → f.vars ≡ n → g.vars ≡ n → (picked test f g).vars ≡ n
+one_of_size true f g n h h' = h
+one_of_size false f g n h h' = h'
+
+same_told_size : (types : List CType) (left right : core.Expression) (truth : Bool) (f : Knowledge) → (same_told types left right truth f).vars ≡ f.vars
+same_told_size types left right truth f =
+    one_of_size (is_null right) (null_told (pointer_local types left) (not truth) f) _ f.vars (null_told_size (pointer_local types left) (not truth) f)
+    (one_of_size (is_null left) (null_told (pointer_local types right) (not truth) f) f f.vars (null_told_size (pointer_local types right) (not truth) f) refl)
+
+-- behind a condition
+pub told_size : (types : List CType) (c : core.Expression) (truth : Bool) (f : Knowledge) → (told types c truth f).vars ≡ f.vars
+told_size types (core.Number number) truth f = refl
+told_size types core.Null truth f = refl
+told_size types (core.Local local bounds) truth f = null_told_size (pointer_local types (core.Local local bounds)) truth f
+told_size types (core.Load type place bounds) truth f = refl
+told_size types (core.AddressOf place bounds) truth f = refl
+told_size types (core.Negate operand site) truth f = refl
+told_size types (core.Complement operand) truth f = refl
+told_size types (core.Not operand) truth f = told_size types operand (not truth) f
+told_size types (core.Arithmetic operator left right site) truth f = refl
+told_size types (core.Compare comparison left right) truth f = compared_size comparison (term types left) (term types right) truth f
+told_size types (core.Same left right) truth f = same_told_size types left right truth f
+told_size types (core.AndAlso left right) true f = told_size types right true (told types left true f) ∙ told_size types left true f
+told_size types (core.AndAlso left right) false f = told_size types left false f
+told_size types (core.OrElse left right) true f = told_size types left true f
+told_size types (core.OrElse left right) false f = told_size types right false (told types left false f) ∙ told_size types left false f
+told_size types (core.LowByte operand) truth f = refl
+told_size types (core.Call callee arguments bounds) truth f = refl
+told_size types core.NextInput truth f = refl
+told_size types (core.Sum pointer direction number site bounds) truth f = refl
+told_size types (core.Order comparison left right site) truth f = refl
+told_size types (core.Allocate count element bounds) truth f = refl
+told_size types (core.Cast pointer bounds) truth f = refl
+
+value_assigned_size : (t : Option CType) (types : List CType) (local : ℕ) (value : core.Expression) (f : Knowledge) → (value_assigned t types local value f).vars ≡ f.vars
+value_assigned_size None types local value f = refl
+value_assigned_size (Some Int) types local value f = refl
+value_assigned_size (Some Char) types local value f = refl
+value_assigned_size (Some (Struct number)) types local value f = refl
+value_assigned_size (Some (Pointer mode kind target)) types local value f = refl
+
+-- behind an assignment
+pub assigned_size : (types : List CType) (x : core.Statement) (f : Knowledge) → (assigned_by types x f).vars ≡ f.vars
+assigned_size types core.Nothing f = refl
+assigned_size types (core.SetLocal local value) f = value_assigned_size (slice_get types local) types local value f
+assigned_size types (core.Store type place value) f = refl
+assigned_size types (core.UpdateLocal char local operator value site) f =
+    value_assigned_size (slice_get types local) types local (core.Arithmetic operator (core.Local local None) value site) f
+assigned_size types (core.Update type place operator value site) f = refl
+assigned_size types (core.Evaluate value) f = refl
+assigned_size types (core.CallAlone callee arguments) f = refl
+assigned_size types (core.Print value) f = refl
+assigned_size types (core.PutByte value) f = refl
+assigned_size types (core.Block statements) f = refl
+assigned_size types (core.If condition consequent alternative) f = refl
+assigned_size types (core.Loop condition body step) f = refl
+assigned_size types (core.Return value) f = refl
+assigned_size types core.ReturnNothing f = refl
+assigned_size types core.Break f = refl
+assigned_size types core.Continue f = refl
+
+settled_as_size : (found : Finding) (f : Knowledge) (span : Span) → Promises (λ (k : Knowledge). k.vars ≡ f.vars) (settled_as found f span)
+settled_as_size Meets f span = refl
+settled_as_size WasLost f span = tt
+settled_as_size (Falls asked) f span = tt
+
+-- behind a settling
+pub settling_size : (f : Knowledge) (span : Span) → Promises (λ (k : Knowledge). k.vars ≡ f.vars) (settling f span)
+settling_size f span = settled_as_size (first_found f.facts f.held) f span
+
+without_size : (local count : ℕ) (f : Knowledge) → (without_locals local count f).vars ≡ f.vars
+without_size local zero f = refl
+without_size local (suc count) f = without_size (suc local) count (left local f)
+
+-- where locals left their scopes
+pub outside_size : (local : ℕ) (g : Scope) (f : Knowledge) → (outside_of local g f).vars ≡ f.vars
+outside_size local g f = without_size local (length g.locals - local) f
+
+meeting_size : (local count : ℕ) (others : Option Knowledge) (f : Knowledge) → (meeting_others local count others f).vars ≡ f.vars
+meeting_size local count None f = refl
+meeting_size local count (Some o) f = refl
+
+-- where other ways met one
+pub others_size : (local : ℕ) (g : Scope) (others : Option Knowledge) (f : Knowledge) → (with_others local g others f).vars ≡ f.vars
+others_size local g others f = meeting_size local (length g.locals - local) others f

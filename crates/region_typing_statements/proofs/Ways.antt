@@ -1,0 +1,56 @@
+-- Ways that part and meet between other steps of a walk.
+use Rattle.std.proofs.Common.{◌≡◌, ℕ, Bool, true, false, Option, length, Result, Box, Global, ap, sym, ◌∙◌}
+use Rattle.std.proofs.lemmas.List.{length-map}
+use Rattle.ckc_tree.specs.Statements.{Statement}
+use Rattle.bounds_flow.specs.Flows.{Knowledge}
+use Rattle.pointer_modes.specs.Types.{ctype}
+use Rattle.ckc_core.specs.declared.program.Expr.{Expr}
+use Rattle.ckc_core.specs.Core as core
+use Rattle.region_typing_scope.specs.declared.refusals.CheckError.{CheckError}
+use Rattle.region_typing_rules.specs.Verdicts.{Verdict, passing}
+use Rattle.region_typing_rules.specs.Scopes.{Scope}
+use Rattle.region_typing_rules.specs.Expressions.{Places}
+use Rattle.region_typing_rules.specs.Readings.{told}
+use Rattle.region_typing_rules.specs.Knowing.{knowing, when, with_others}
+use Rattle.region_typing_scope.specs.declared.scope as code
+use Rattle.region_typing_scope.specs.Views.{scope}
+use Rattle.region_typing_scope.specs.OnHeap.{expression}
+use Rattle.region_typing_statements.specs.Walks.{Walks}
+use Rattle.region_typing_statements.specs.Parts.{nested, over}
+use Rattle.region_typing_statements.proofs.Walking.{from_more, other_flow}
+
+-- behind a step that speaks of numbers and pointers alone
+pub stepped : {B D : Type 0} (view : D → B) (of : Scope → Verdict (B × Scope)) (f : Knowledge) (bs cs : Option Knowledge) (a b new : code.Scope.Scope) (r : Result D CheckError)
+    → scope b ≡ record (scope a) { flow = f; breaks = bs; continues = cs } → b.visible.items ≡ a.visible.items → b.flow.vars ≡ a.flow.vars
+    → Walks view (of (scope b)) b r new → Walks view (of (record (scope a) { flow = f; breaks = bs; continues = cs })) a r new
+stepped view of f bs cs a b new r known seen size walk =
+    from_more view (of (record (scope a) { flow = f; breaks = bs; continues = cs })) (of (scope b)) a b new r (ap of (sym known)) (other_flow f bs cs a b known seen size) walk
+
+-- a nested statement on the way on which a condition came out true
+pub parted : {B D : Type 0} (at : Places) (s : Statement) (loop : Bool) (view : D → B) (next : core.Statement × Scope → Knowledge → Verdict (B × Scope)) (c : Box Expr Global) (o : Knowledge) (a b new : code.Scope.Scope) (r : Result D CheckError)
+    → scope b ≡ when (expression c) true (scope a) → o ≡ told (scope a).locals (expression c) false (scope a).flow → b.visible.items ≡ a.visible.items → b.flow.vars ≡ a.flow.vars
+    → Walks view (passing (nested at (scope b) loop s) (λ x. next x o)) b r new
+    → Walks view (passing (nested at (when (expression c) true (scope a)) loop s) (λ x. next x (told (scope a).locals (expression c) false (scope a).flow))) a r new
+parted at s loop view next c o a b new r known other seen size walk =
+    let by_scope = λ (g : Scope). passing (nested at g loop s) (λ x. next x (told (scope a).locals (expression c) false (scope a).flow)) in
+    let by_other = λ (k : Knowledge). passing (nested at (scope b) loop s) (λ x. next x k) in
+    from_more view (by_scope (when (expression c) true (scope a))) (by_other o) a b new r (ap by_scope (sym known) ∙ ap by_other (sym other)) (other_flow _ _ _ a b known seen size) walk
+
+-- one on another way
+pub turned : {B D : Type 0} (at : Places) (s : Statement) (view : D → B) (f : Knowledge) (next : core.Statement × Scope → Verdict (B × Scope)) (a b new : code.Scope.Scope) (r : Result D CheckError)
+    → scope b ≡ knowing f (scope a) → b.visible.items ≡ a.visible.items → b.flow.vars ≡ a.flow.vars
+    → Walks view (passing (nested at (scope b) (scope a).in_loop s) next) b r new
+    → Walks view (passing (nested at (knowing f (scope a)) (scope a).in_loop s) next) a r new
+turned at s view f next a b new r known seen size walk =
+    stepped view (λ g. passing (nested at g (scope a).in_loop s) next) f (scope a).breaks (scope a).continues a b new r known seen size walk
+
+-- where locals begin, as the code counts them
+pub counted : (a : code.Scope.Scope) (start : code.BlockStart.BlockStart) → start ≡ record { visible = length a.visible.items; locals = length a.locals.items; in_loop = a.in_loop } → start.locals ≡ length (scope a).locals
+counted a start is = ap (λ (b : code.BlockStart.BlockStart). b.locals) is ∙ sym (length-map a.locals.items ctype)
+
+-- behind a loop
+pub left_loop : (a n l : code.Scope.Scope) (local : ℕ) (o : Knowledge) (around : code.Ways.Ways) → scope l ≡ record (scope n) { flow = with_others local (scope n) (scope n).breaks o; breaks = around.breaks; continues = around.continues } → local ≡ length (scope a).locals
+    → around ≡ record { breaks = a.breaks; continues = a.continues } → scope l ≡ over (length (scope a).locals) o (scope a).breaks (scope a).continues (scope n)
+left_loop a n l local o around known count ways =
+    known ∙ ap (λ (k : ℕ). over k o around.breaks around.continues (scope n)) count
+    ∙ ap (λ (w : code.Ways.Ways). over (length (scope a).locals) o w.breaks w.continues (scope n)) ways

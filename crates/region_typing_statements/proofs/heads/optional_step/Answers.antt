@@ -1,0 +1,8 @@
+use Rattle.std.proofs.Common.{ap}
+use Rattle.ckc_core.specs.Core as core
+use Rattle.region_typing_scope.specs.OnHeap.{statement}
+use Rattle.region_typing_statements.proofs.Walking.{done}
+use Rattle.region_typing_statements.proofs.heads.optional_step.Goals as goal
+
+pub returns-in_ok-boxed-in-None : goal.returns-in_ok-boxed-in-None
+returns-in_ok-boxed-in-None c = rw c.in-None.is (done statement c.in_ok-boxed-in-None.field-0 core.Nothing c.args.scope.now (ap core.statement c.in_ok-boxed-in-None.ensures))
