@@ -53,7 +53,7 @@ pub mapped_there : {X Y : Type 0} (f : X → Y) (xs : List X) (k : ℕ) (x : X) 
 mapped_there f xs k x h = slice_get-map f xs k ∙ ap (option_map f) h
 
 -- an element that is mapped to the same leaves what a list is mapped to
-map_set : {X Y : Type 0} (f : X → Y) (xs : List X) (k : ℕ) (old new : X) → slice_get xs k ≡ Some old → f new ≡ f old → map f (slice_set xs k new) ≡ map f xs
+pub map_set : {X Y : Type 0} (f : X → Y) (xs : List X) (k : ℕ) (old new : X) → slice_get xs k ≡ Some old → f new ≡ f old → map f (slice_set xs k new) ≡ map f xs
 map_set f [] k old new h e = refl
 map_set f (x ∷ xs) zero old new h e = ap (λ y. y ∷ map f xs) (e ∙ ap f (sym (same_Some x old h)))
 map_set f (x ∷ xs) (suc k) old new h e = ap (λ l. f x ∷ l) (map_set f xs k old new h e)

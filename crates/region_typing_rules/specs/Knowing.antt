@@ -54,7 +54,7 @@ abbrev pub local_number : List Visible → ℕ → Option ℕ
 local_number [] name = None
 local_number (v ∷ visible) name = cond (name == v.name) (Some v.local) (local_number visible name)
 
-abbrev marked_at : Option ℕ → List Bool → List Bool
+abbrev pub marked_at : Option ℕ → List Bool → List Bool
 marked_at None marks = marks
 marked_at (Some local) marks = slice_set marks local true
 

@@ -7,6 +7,7 @@ pub mod Items
 pub mod Cores
 pub mod Examples
 pub mod NeverStuck
+pub mod KnownIsSo
 pub mod Readings
 pub mod ReadingExamples
 pub mod Typed

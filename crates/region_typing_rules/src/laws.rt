@@ -13,6 +13,7 @@ ghost use Rattle.region_typing_rules.specs.Verdicts.{Unnamed};
 ghost use Rattle.region_typing_rules.specs.Expressions.{Places};
 ghost use Rattle.region_typing_rules.specs.Cores.{checked};
 ghost use Rattle.region_typing_rules.specs.NeverStuck.{HasCore, NeverStuck, NeverUnsound, AlwaysEnds};
+ghost use Rattle.region_typing_rules.specs.KnownIsSo.{KnownIsSo, RowsAreSo, ConditionsAreSo, MarkedAlone, BodiesAreWalked};
 ghost use Rattle.region_typing_rules.specs.Typed.{IsTyped};
 ghost use Rattle.region_typing_rules.specs.Lowerable.{HasFewFunctions, IsSmallCore};
 ghost use Rattle.region_typing_rules.specs.Examples as examples;
@@ -42,6 +43,16 @@ pub fn knowing()
     ensures heads { knowing.heads }
     ensures shadows { knowing.shadows }
     ensures counts { knowing.counts }
+{}
+
+/// What the walk knows behind a statement is so in each run: of the numbers of variables, and of pointers. The body of each function
+/// of a program that breaks no rule was walked so, from a scope in which what is known is so wherever the function begins.
+pub fn known_is_so()
+    ensures statements { KnownIsSo }
+    ensures rows { RowsAreSo }
+    ensures conditions { ConditionsAreSo }
+    ensures marked { MarkedAlone }
+    ensures bodies { BodiesAreWalked }
 {}
 
 /// The core of a program that breaks no rule has types, and an audited run of what has types is never stuck.

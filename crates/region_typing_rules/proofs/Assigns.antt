@@ -1,0 +1,525 @@
+-- What is known behind an assignment is so.
+use Rattle.std.proofs.Common.{◌≡◌, ℕ, zero, suc, ◌≤◌, ℤ, pos, ◌+ℤ◌, ◌*ℤ◌, Bool, true, false, ◌==◌, cond, List, [], ◌∷◌, length, Option, Some, None, refl, sym, ◌∙◌, ap, subst, arith, inl, inr}
+use Rattle.std.specs.Prelude.{◌≢◌, ◌&&◌, slice_get, slice_set}
+use Rattle.std.proofs.lemmas.Int.{ints}
+use Rattle.std.proofs.lemmas.Bool.{cases_eq}
+use Rattle.std.proofs.lemmas.Bool.Decides.{nat_tests}
+use Rattle.std.proofs.lemmas.List.{set-set}
+use Rattle.std.proofs.lemmas.Option.{slice_get_within}
+use Rattle.act_words.specs.declared.operator.Operator.{Operator}
+use Rattle.bounds_exprs.specs.declared.term.Term.{Term}
+use Rattle.bounds_exprs.specs.Values.{value as term_number}
+use Rattle.pointer_modes.specs.declared.ctype.Mode.{Mode}
+use Rattle.pointer_modes.specs.declared.ctype.Kind.{Kind}
+use Rattle.pointer_modes.specs.Types.{CType, Int, Char, Struct, Pointer, Structure}
+use Rattle.bounds_flow.specs.Flows.{Knowledge, held_at, number_assigned, pointer_assigned}
+use Rattle.bounds_flow.specs.Conditions.{IsFlow}
+use Rattle.bounds_flow_meaning.specs.Holding.{HaveTypes, Holds, numbers_in, target_size, types_of}
+use Rattle.bounds_flow_meaning.specs.Laws.{IsGiven, IsMoved, IsMovedBy, IsPointer, IsTermOf, with_local}
+use Rattle.bounds_flow_meaning.proofs.AllSteps.{flows_hold}
+use Rattle.bounds_flow_meaning.proofs.Numbers.{local_there, found_other, found_same, int_term, same_number, same_types, still_types, type_there}
+use Rattle.ckc_core.specs.declared.program.PointerBounds.{PointerBounds}
+use Rattle.ckc_core.specs.declared.program.Site.{Site}
+use Rattle.ckc_core.specs.Outcome.{and_then, and_then-and_then}
+use Rattle.ckc_core.specs.Core as core
+use Rattle.ckc_core.specs.States.{Value, Number, Null, At, Cell, Local, State, cell_at, same_type, has_type}
+use Rattle.ckc_core.specs.Steps.{Result, Flow, Next, Broke, Continued, Returned, given, arithmetic_of, is_char, kept_if, set_if, set_local, set_over, pointer_to, store_if, store_over, store_at, leaves_zero, load_at, printed, put, no_result, called}
+use Rattle.ckc_core.specs.Meaning.{Knot, Setting, audit, effect, place, place_from, site_of, target_of, value, values}
+use Rattle.region_typing_rules.specs.Verdicts.{picked}
+use Rattle.region_typing_rules.specs.Readings.{Behind, term, is_null, is_pointer_type, pointer_local, known_at, behind_local, is_not_null}
+use Rattle.region_typing_rules.specs.Knowing.{source, moved_from, value_assigned, assigned_by}
+use Rattle.region_typing_rules.specs.KnownIsSo.{WhereGiven, IsAlike, HoldsAlike, HasLocals}
+use Rattle.region_typing_rules.proofs.Keeping.{IsAfter, after_here, value_keeps}
+use Rattle.region_typing_rules.proofs.Moving.{AssignsOnly, IsMovedTo, KnotMoves, effect_moves, set_moved}
+use Rattle.region_typing_rules.proofs.Terms.{so_on, so_always, so_both, so_further, audited_so, IsOfTerm, number_is, term_formed, formed_later, term_so}
+use Rattle.region_typing_rules.proofs.Alike.{has_after, has_alike, holds_moved, holds_after, types_alike, number_alike, IsTracked}
+use Rattle.region_typing_rules.proofs.Told.{pointer_is, pointer_so, null_given}
+use Rattle.region_typing_rules.proofs.Between.{term_below}
+
+-- a statement that goes on to the next one, of whose state this is so
+abbrev pub OnNext : (State → Type 0) → Flow → State → Type 0
+OnNext P Next s = P s
+OnNext P Broke s = ⊥
+OnNext P Continued s = ⊥
+OnNext P (Returned v) s = ⊥
+
+-- ---- lists
+
+same_Some : {X : Type 0} (x y : X) → Some x ≡ Some y → x ≡ y
+same_Some x y e = cc
+
+set_again : {X : Type 0} (xs : List X) (k : ℕ) (x : X) → slice_get xs k ≡ Some x → slice_set xs k x ≡ xs
+set_again [] k x h = absurd (cc)
+set_again (y ∷ xs) zero x h = ap (λ y. y ∷ xs) (sym (same_Some y x h))
+set_again (y ∷ xs) (suc k) x h = ap (λ xs. y ∷ xs) (set_again xs k x h)
+
+-- ---- the state before an assignment, for each that is alike behind it
+
+module _ (n x : ℕ) (old : Local) (v : Value) (t w : State) (there : slice_get t.locals x ≡ Some old) (typed : has_type old.type v ≡ true)
+    (alike : IsAlike n (with_local x old v t) w) (now : slice_get w.locals x ≡ Some (record old { value = v })) where
+  abbrev new : Local
+  new = record old { value = v }
+
+  -- with the old value
+  abbrev pub before : State
+  before = record w { locals = slice_set w.locals x (record new { value = old.value }) }
+
+  pub before_there : slice_get before.locals x ≡ Some old
+  before_there = found_same w.locals x new old.value now
+
+  pub before_back : with_local x old v before ≡ w
+  before_back = ap (λ ls. record w { locals = ls }) (set-set w.locals x (record new { value = old.value }) new ∙ set_again w.locals x new now)
+
+  pub before_alike : IsAlike n t before
+  before_alike = record {
+    blocks = alike.blocks;
+    same = same_types w.locals x new old.value now ∙ (alike.same ∙ same_types t.locals x old v there);
+    types = λ h. still_types w.locals x new old.value now (h x old there) (alike.types (still_types t.locals x old v there typed h));
+    tracked = λ y low other. elim (cases_eq y x) [
+      | inl same ↦ subst (λ y. slice_get before.locals y ≡ slice_get t.locals y) (sym same) (before_there ∙ sym there)
+      | inr ne ↦ found_other w.locals x new old.value now y ne
+          ∙ (alike.tracked y low (λ c. other (subst (λ ts. slice_get ts y ≡ Some Char) (same_types t.locals x old v there) c)) ∙ found_other t.locals x old v there y ne)
+    ];
+  }
+
+-- ---- what is known of a value
+
+-- the constructors at which the walk reads where a pointer comes from
+abbrev pub IsDirect : core.Expression → Type 0
+IsDirect (core.Number number) = Unit {0}
+IsDirect core.Null = Unit {0}
+IsDirect (core.Local x bounds) = Unit {0}
+IsDirect (core.Load type place bounds) = Unit {0}
+IsDirect (core.AddressOf place bounds) = Unit {0}
+IsDirect (core.Negate operand site) = Unit {0}
+IsDirect (core.Complement operand) = Unit {0}
+IsDirect (core.Not operand) = Unit {0}
+IsDirect (core.Arithmetic operator left right site) = Unit {0}
+IsDirect (core.Compare comparison left right) = Unit {0}
+IsDirect (core.Same left right) = Unit {0}
+IsDirect (core.AndAlso left right) = Unit {0}
+IsDirect (core.OrElse left right) = Unit {0}
+IsDirect (core.LowByte operand) = Unit {0}
+IsDirect (core.Call callee arguments bounds) = Unit {0}
+IsDirect core.NextInput = Unit {0}
+IsDirect (core.Sum pointer direction number site bounds) = ⊥
+IsDirect (core.Order comparison left right site) = Unit {0}
+IsDirect (core.Allocate count element bounds) = Unit {0}
+IsDirect (core.Cast pointer bounds) = Unit {0}
+
+abbrev pub is_address : core.Expression → Bool
+is_address (core.Number number) = false
+is_address core.Null = false
+is_address (core.Local x bounds) = false
+is_address (core.Load type place bounds) = false
+is_address (core.AddressOf place bounds) = true
+is_address (core.Negate operand site) = false
+is_address (core.Complement operand) = false
+is_address (core.Not operand) = false
+is_address (core.Arithmetic operator left right site) = false
+is_address (core.Compare comparison left right) = false
+is_address (core.Same left right) = false
+is_address (core.AndAlso left right) = false
+is_address (core.OrElse left right) = false
+is_address (core.LowByte operand) = false
+is_address (core.Call callee arguments bounds) = false
+is_address core.NextInput = false
+is_address (core.Sum pointer direction number site bounds) = false
+is_address (core.Order comparison left right site) = false
+is_address (core.Allocate count element bounds) = false
+is_address (core.Cast pointer bounds) = false
+
+-- a value, as the flow takes it where it is assigned
+pub record IsRead (types : List CType) (e : core.Expression) (v : Value) (t : State) : Type 0 where
+  pub term : IsOfTerm t.locals (term types e) v
+  pub local : (p : ℕ) → pointer_local types e ≡ Some p → (l : Local) → slice_get t.locals p ≡ Some l → l.value ≡ v
+  pub null : is_null e ≡ true → v ≡ Null
+  pub address : is_address e ≡ true → v ≢ Null
+
+source_given : (structs : List Structure) (e : core.Expression) (l : Local) (s : State) → (is_null e ≡ true → l.value ≡ Null) → IsGiven structs (source e) l s
+source_given structs (core.Number number) l s null = tt
+source_given structs core.Null l s null = null refl
+source_given structs (core.Local x bounds) l s null = tt
+source_given structs (core.Load type place bounds) l s null = tt
+source_given structs (core.AddressOf place bounds) l s null = tt
+source_given structs (core.Negate operand site) l s null = tt
+source_given structs (core.Complement operand) l s null = tt
+source_given structs (core.Not operand) l s null = tt
+source_given structs (core.Arithmetic operator left right site) l s null = tt
+source_given structs (core.Compare comparison left right) l s null = tt
+source_given structs (core.Same left right) l s null = tt
+source_given structs (core.AndAlso left right) l s null = tt
+source_given structs (core.OrElse left right) l s null = tt
+source_given structs (core.LowByte operand) l s null = tt
+source_given structs (core.Call callee arguments bounds) l s null = tt
+source_given structs core.NextInput l s null = tt
+source_given structs (core.Sum pointer direction number site bounds) l s null = tt
+source_given structs (core.Order comparison left right site) l s null = tt
+source_given structs (core.Allocate count element bounds) l s null = tt
+source_given structs (core.Cast pointer bounds) l s null = tt
+
+-- known not to be null
+known_value : (types : List CType) (f : Knowledge) (e : core.Expression) (o : Option ℕ) (v : Value) → known_at f o ≡ true → ((p : ℕ) → o ≡ Some p → (held_at f.held p).known ≡ true → v ≢ Null) → v ≢ Null
+known_value types f e None v k h = absurd (cc)
+known_value types f e (Some p) v k h = h p refl k
+
+not_null_read : (types : List CType) (f : Knowledge) (e : core.Expression) (v : Value) → (is_address e ≡ true → v ≢ Null) → ((p : ℕ) → pointer_local types e ≡ Some p → (held_at f.held p).known ≡ true → v ≢ Null) → is_not_null types f e ≡ true → v ≢ Null
+not_null_read types f (core.Number number) v address known h = known_value types f (core.Number number) (pointer_local types (core.Number number)) v h known
+not_null_read types f core.Null v address known h = known_value types f core.Null (pointer_local types core.Null) v h known
+not_null_read types f (core.Local x bounds) v address known h = known_value types f (core.Local x bounds) (pointer_local types (core.Local x bounds)) v h known
+not_null_read types f (core.Load type place bounds) v address known h = known_value types f (core.Load type place bounds) (pointer_local types (core.Load type place bounds)) v h known
+not_null_read types f (core.AddressOf place bounds) v address known h = address refl
+not_null_read types f (core.Negate operand site) v address known h = known_value types f (core.Negate operand site) (pointer_local types (core.Negate operand site)) v h known
+not_null_read types f (core.Complement operand) v address known h = known_value types f (core.Complement operand) (pointer_local types (core.Complement operand)) v h known
+not_null_read types f (core.Not operand) v address known h = known_value types f (core.Not operand) (pointer_local types (core.Not operand)) v h known
+not_null_read types f (core.Arithmetic operator left right site) v address known h = known_value types f (core.Arithmetic operator left right site) (pointer_local types (core.Arithmetic operator left right site)) v h known
+not_null_read types f (core.Compare comparison left right) v address known h = known_value types f (core.Compare comparison left right) (pointer_local types (core.Compare comparison left right)) v h known
+not_null_read types f (core.Same left right) v address known h = known_value types f (core.Same left right) (pointer_local types (core.Same left right)) v h known
+not_null_read types f (core.AndAlso left right) v address known h = known_value types f (core.AndAlso left right) (pointer_local types (core.AndAlso left right)) v h known
+not_null_read types f (core.OrElse left right) v address known h = known_value types f (core.OrElse left right) (pointer_local types (core.OrElse left right)) v h known
+not_null_read types f (core.LowByte operand) v address known h = known_value types f (core.LowByte operand) (pointer_local types (core.LowByte operand)) v h known
+not_null_read types f (core.Call callee arguments bounds) v address known h = known_value types f (core.Call callee arguments bounds) (pointer_local types (core.Call callee arguments bounds)) v h known
+not_null_read types f core.NextInput v address known h = known_value types f core.NextInput (pointer_local types core.NextInput) v h known
+not_null_read types f (core.Sum pointer direction number site bounds) v address known h = known_value types f (core.Sum pointer direction number site bounds) (pointer_local types (core.Sum pointer direction number site bounds)) v h known
+not_null_read types f (core.Order comparison left right site) v address known h = known_value types f (core.Order comparison left right site) (pointer_local types (core.Order comparison left right site)) v h known
+not_null_read types f (core.Allocate count element bounds) v address known h = known_value types f (core.Allocate count element bounds) (pointer_local types (core.Allocate count element bounds)) v h known
+not_null_read types f (core.Cast pointer bounds) v address known h = known_value types f (core.Cast pointer bounds) (pointer_local types (core.Cast pointer bounds)) v h known
+
+-- a pointer that is assigned itself stays where it is
+stays : (size : ℕ) (v : Value) → IsMoved size (pos 0) v v
+stays size (Number number) = tt
+stays size Null = tt
+stays size (At block byte) = (byte, refl, still)
+  where
+    still : pos byte ≡ pos byte +ℤ (pos 0 *ℤ pos size)
+    still = omega (arith, ints)
+
+moved_by_itself : (structs : List Structure) (x y : ℕ) (c : ℤ) (test : Bool) (old : Local) (v : Value) → (y == x) ≡ test → c ≡ pos 0 → (y ≡ x → old.value ≡ v) → IsMovedBy structs (cond test (Some c) None) old v
+moved_by_itself structs x y c true old v e none same =
+    subst (λ c. IsMoved (target_size structs old.type) c old.value v) (sym none) (subst (λ v. IsMoved (target_size structs old.type) (pos 0) old.value v) (same (same_number y x e)) (stays (target_size structs old.type) old.value))
+moved_by_itself structs x y c false old v e none same = tt
+
+-- the local that an expression is, without a constant
+record IsItself (types : List CType) (e : core.Expression) (b : Behind) : Type 0 where
+  zero : b.elements ≡ pos 0
+  local : pointer_local types e ≡ Some b.local
+
+local_itself : (types : List CType) (x : ℕ) (bounds : Option PointerBounds) (b : Behind) (test : Bool) → is_pointer_type (slice_get types x) ≡ test → picked test (Some (record { local = x; elements = pos 0 })) None ≡ Some b → IsItself types (core.Local x bounds) b
+local_itself types x bounds b true e h = let same : record { local = x; elements = pos 0 } ≡ b = cc in subst (IsItself types (core.Local x bounds)) same (record { zero = refl; local = ap (λ test. picked test (Some x) None) e })
+local_itself types x bounds b false e h = absurd (cc)
+
+itself : (types : List CType) (e : core.Expression) → IsDirect e → (b : Behind) → behind_local types e ≡ Some b → IsItself types e b
+itself types (core.Number number) direct b h = absurd (cc)
+itself types core.Null direct b h = absurd (cc)
+itself types (core.Local x bounds) direct b h = local_itself types x bounds b (is_pointer_type (slice_get types x)) refl h
+itself types (core.Load type place bounds) direct b h = absurd (cc)
+itself types (core.AddressOf place bounds) direct b h = absurd (cc)
+itself types (core.Negate operand site) direct b h = absurd (cc)
+itself types (core.Complement operand) direct b h = absurd (cc)
+itself types (core.Not operand) direct b h = absurd (cc)
+itself types (core.Arithmetic operator left right site) direct b h = absurd (cc)
+itself types (core.Compare comparison left right) direct b h = absurd (cc)
+itself types (core.Same left right) direct b h = absurd (cc)
+itself types (core.AndAlso left right) direct b h = absurd (cc)
+itself types (core.OrElse left right) direct b h = absurd (cc)
+itself types (core.LowByte operand) direct b h = absurd (cc)
+itself types (core.Call callee arguments bounds) direct b h = absurd (cc)
+itself types core.NextInput direct b h = absurd (cc)
+itself types (core.Sum pointer direction number site bounds) direct b h = absurd direct
+itself types (core.Order comparison left right site) direct b h = absurd (cc)
+itself types (core.Allocate count element bounds) direct b h = absurd (cc)
+itself types (core.Cast pointer bounds) direct b h = absurd (cc)
+
+moved_read : (structs : List Structure) (types : List CType) (x : ℕ) (e : core.Expression) (o : Option Behind) (old : Local) (v : Value) → IsDirect e → behind_local types e ≡ o → (pointer_local types e ≡ Some x → old.value ≡ v) → IsMovedBy structs (moved_from x o) old v
+moved_read structs types x e None old v direct is same = tt
+moved_read structs types x e (Some b) old v direct is same =
+    let it = itself types e direct b is in
+    moved_by_itself structs x b.local b.elements (b.local == x) old v refl it.zero (λ q. same (it.local ∙ ap Some q))
+
+-- ---- assignments
+
+pointer_value : (mode : Mode) (kind : Kind) (target : CType) (v : Value) → has_type (Pointer mode kind target) v ≡ true → IsPointer v
+pointer_value mode kind target (Number z) h = absurd (cc)
+pointer_value mode kind target Null h = tt
+pointer_value mode kind target (At block byte) h = tt
+
+int_value : (v : Value) → has_type Int v ≡ true → (z : ℤ) × (v ≡ Number z)
+int_value (Number z) h = (z, refl)
+int_value Null h = absurd (cc)
+int_value (At block byte) h = absurd (cc)
+
+pub itself_equal : (x : ℕ) → (x == x) ≡ true
+itself_equal x = grind (arith, nat_tests)
+
+char_untracked : (types : List CType) (x : ℕ) → slice_get types x ≡ Some Char → (s : State) → HasLocals types s → (y : ℕ) → IsTracked (length types) s y → (y == x) ≡ false
+char_untracked types x is s has y tracked = by (y == x) refl
+  where
+    by : (test : Bool) → (y == x) ≡ test → (y == x) ≡ false
+    by true e = absurd (tracked.1 (subst (λ z. slice_get (types_of s.locals) z ≡ Some Char) (sym (same_number y x e)) (has x Char is)))
+    by false e = e
+
+struct_value : (n : ℕ) (v : Value) → has_type (Struct n) v ≡ true → ⊥
+struct_value n (Number z) h = cc
+struct_value n Null h = cc
+struct_value n (At block byte) h = cc
+
+module _ (structs : List Structure) (types : List CType) (f : Knowledge) (flow : IsFlow f) (few : length types ≤ f.vars) where
+  module _ (x : ℕ) (e : core.Expression) (direct : IsDirect e) (v : Value) (t : State) (has : HasLocals types t) (h : HoldsAlike structs (length types) f t) (read : IsRead types e v t)
+      (old : Local) (there : slice_get t.locals x ≡ Some old) (typed : has_type old.type v ≡ true) where
+    -- its type among those of the state
+    old_type : (c : CType) → slice_get types x ≡ Some c → old.type ≡ c
+    old_type c is = same_Some old.type c (sym (type_there t.locals x old there) ∙ has x c is)
+
+    -- it is there in each state that is alike behind it
+    there_now : (w : State) → IsAlike (length types) (with_local x old v t) w → (c : CType) → slice_get types x ≡ Some c → (c ≡ Char → ⊥) → slice_get w.locals x ≡ Some (record old { value = v })
+    there_now w alike c is other =
+        alike.tracked x (slice_get_within types x c is)
+        (λ q. other (same_Some c Char (sym (has x c is) ∙ (ap (λ ts. slice_get ts x) (sym (same_types t.locals x old v there)) ∙ q))))
+        ∙ found_same t.locals x old v there
+
+    is_term : (o : Option Term) (z : ℤ) (s : State) → HaveTypes s.locals → HasLocals types s → ((a : Term) → o ≡ Some a → z ≡ term_number (numbers_in s.locals) a) → term types e ≡ o → IsTermOf o s.locals z
+    is_term None z s good has' is same = tt
+    is_term (Some a) z s good has' is same = int_term s.locals a good (formed_later types s a.var has' (term_formed types e a same).int) ∙ ap Some (sym (is a refl))
+
+    number_set : (z : ℤ) → v ≡ Number z → slice_get types x ≡ Some Int → HoldsAlike structs (length types) (number_assigned x (term types e) f) (with_local x old v t)
+    number_set z is int w alike =
+        let now = there_now w alike Int int (λ q. absurd (cc)) in
+        let b = before (length types) x old v t w there typed alike now in
+        let b_alike = before_alike (length types) x old v t w there typed alike now in
+        let held = h b b_alike in
+        let low = slice_get_within types x Int int in
+        let numbers = number_alike types t b has b_alike (term types e) z (term_formed types e) (number_is t.locals (term types e) z (subst (IsOfTerm t.locals (term types e)) is read.term)) in
+        subst (λ w. Holds structs (number_assigned x (term types e) f) w) (ap (λ v. with_local x old v b) (sym is) ∙ before_back (length types) x old v t w there typed alike now)
+        ((flows_hold structs f flow).assign_int x (term types e) b old z (omega (arith, low, few)) (term_below types f.vars e (term types e) refl few)
+        (before_there (length types) x old v t w there typed alike now) (subst (λ v. has_type old.type v ≡ true) is typed)
+        (is_term (term types e) z b held.met.types (has_alike types t b b_alike has) numbers refl) held)
+
+    pointer_set : (mode : Mode) (kind : Kind) (target : CType) → slice_get types x ≡ Some (Pointer mode kind target) → HoldsAlike structs (length types) (pointer_assigned x (source e) (moved_from x (behind_local types e)) (is_not_null types f e) f) (with_local x old v t)
+    pointer_set mode kind target is w alike =
+        let now = there_now w alike (Pointer mode kind target) is (λ q. absurd (cc)) in
+        let b = before (length types) x old v t w there typed alike now in
+        let b_alike = before_alike (length types) x old v t w there typed alike now in
+        let held = h b b_alike in
+        let b_there = before_there (length types) x old v t w there typed alike now in
+        subst (λ w. Holds structs (pointer_assigned x (source e) (moved_from x (behind_local types e)) (is_not_null types f e) f) w) (before_back (length types) x old v t w there typed alike now)
+        ((flows_hold structs f flow).assign_pointer x (source e) (moved_from x (behind_local types e)) (is_not_null types f e) b old v b_there
+        (pointer_value mode kind target v (subst (λ c. has_type c v ≡ true) (old_type (Pointer mode kind target) is) typed)) typed
+        (source_given structs e (record old { value = v }) b read.null)
+        (moved_read structs types x e (behind_local types e) old v direct refl (λ q. read.local x q old there))
+        (not_null_read types f e v read.address (known b b_alike held))
+        ((flows_hold structs f flow).forget x b held))
+      where
+        known : (b : State) → IsAlike (length types) t b → Holds structs f b → (p : ℕ) → pointer_local types e ≡ Some p → (held_at f.held p).known ≡ true → v ≢ Null
+        known b b_alike held p q k =
+            let it = pointer_is types e p q in
+            let l = local_there t.locals p it.there.0 (has p it.there.0 it.there.1) in
+            λ n. (held.pointers p l.local (b_alike.tracked p it.below (λ c. it.untold (it.there.1 ∙ (sym (has p it.there.0 it.there.1) ∙ c))) ∙ l.there)).known k (read.local p q l.local l.there ∙ n)
+
+    type_set : (c : CType) → slice_get types x ≡ Some c → HoldsAlike structs (length types) (value_assigned (Some c) types x e f) (with_local x old v t)
+    type_set Int is = let z = int_value v (subst (λ c. has_type c v ≡ true) (old_type Int is) typed) in number_set z.0 z.1 is
+    type_set Char is = holds_moved structs (length types) f flow (λ y. y == x) t (with_local x old v t) (set_moved (λ y. y == x) t x old v (itself_equal x) there typed) (char_untracked types x is t has) h
+    type_set (Struct n) is = absurd (struct_value n v (subst (λ c. has_type c v ≡ true) (old_type (Struct n) is) typed))
+    type_set (Pointer mode kind target) is = pointer_set mode kind target is
+
+  module _ (x : ℕ) (e : core.Expression) (direct : IsDirect e) (c : CType) (is : slice_get types x ≡ Some c) where
+    abbrev Assigned : Flow → State → Type 0
+    Assigned flow u = OnNext (HoldsAlike structs (length types) (value_assigned (slice_get types x) types x e f)) flow u
+
+    set_so_if : (v : Value) (t : State) → HasLocals types t → HoldsAlike structs (length types) f t → IsRead types e v t → (old : Local) → slice_get t.locals x ≡ Some old → (test : Bool) → has_type old.type v ≡ test → WhereGiven Assigned (set_if test old x v t)
+    set_so_if v t has h read old there true typed =
+        subst (λ o. HoldsAlike structs (length types) (value_assigned o types x e f) (with_local x old v t)) (sym is) (type_set x e direct v t has h read old there typed c is)
+    set_so_if v t has h read old there false typed = tt
+
+    set_so_over : (v : Value) (t : State) → HasLocals types t → HoldsAlike structs (length types) f t → IsRead types e v t → (o : Option Local) → slice_get t.locals x ≡ o → WhereGiven Assigned (set_over o x v t)
+    set_so_over v t has h read None there = tt
+    set_so_over v t has h read (Some old) there = set_so_if v t has h read old there (has_type old.type v) refl
+
+    pub set_so : (v : Value) (t : State) → HasLocals types t → HoldsAlike structs (length types) f t → IsRead types e v t → WhereGiven Assigned (set_local x v t)
+    set_so v t has h read = set_so_over v t has h read (slice_get t.locals x) refl
+
+-- ---- statements that go on
+
+pub behind_any : {A B : Type 0} (Q : B → State → Type 0) (o : Result A) (next : A → State → Result B) → ((v : A) (s : State) → WhereGiven Q (next v s)) → WhereGiven Q (and_then o next)
+behind_any {A = A} Q o next more = so_on (λ (v : A) (s : State). Unit {0}) Q o next (so_always (λ (v : A) (s : State). Unit {0}) o (λ v s. tt)) (λ v s _. more v s)
+
+abbrev pub GoesOn : Flow → State → Type 0
+GoesOn flow s = flow ≡ Next
+
+set_goes : (x : ℕ) (v : Value) (s : State) → WhereGiven GoesOn (set_local x v s)
+set_goes x v s = over (slice_get s.locals x)
+  where
+    on : (test : Bool) (old : Local) → WhereGiven GoesOn (set_if test old x v s)
+    on true old = refl
+    on false old = tt
+
+    over : (o : Option Local) → WhereGiven GoesOn (set_over o x v s)
+    over None = tt
+    over (Some old) = on (has_type old.type v) old
+
+store_goes : (type : CType) (site : Option Site) (at : ℕ × ℕ) (v : Value) (s : State) → WhereGiven GoesOn (store_at type site at v s)
+store_goes type site at v s = over (cell_at s.blocks at.0 at.1)
+  where
+    on : (test : Bool) → WhereGiven GoesOn (store_if test site at.0 at.1 v s)
+    on true = refl
+    on false = tt
+
+    over : (o : Option Cell) → WhereGiven GoesOn (store_over o type site v at.0 at.1 s)
+    over None = tt
+    over (Some old) = on (same_type type old.type && (has_type type v && leaves_zero (slice_get s.blocks at.0) at.1 v))
+
+printed_goes : (v : Value) (s : State) → WhereGiven GoesOn (printed v s)
+printed_goes (Number z) s = refl
+printed_goes Null s = tt
+printed_goes (At block byte) s = tt
+
+put_goes : (v : Value) (s : State) → WhereGiven GoesOn (put v s)
+put_goes (Number z) s = refl
+put_goes Null s = tt
+put_goes (At block byte) s = tt
+
+result_goes : (o : Option Value) (s : State) → WhereGiven GoesOn (no_result o s)
+result_goes None s = refl
+result_goes (Some v) s = tt
+
+on_next_of : (P : State → Type 0) (flow : Flow) (s : State) → flow ≡ Next → P s → OnNext P flow s
+on_next_of P flow s e h = subst (λ flow. OnNext P flow s) (sym e) h
+
+-- a statement that is no block, branch or loop, and leads on
+abbrev pub IsPlain : List CType → core.Statement → Type 0
+IsPlain types core.Nothing = Unit {0}
+IsPlain types (core.SetLocal local value) = IsDirect value × ((c : CType) × (slice_get types local ≡ Some c))
+IsPlain types (core.Store type place value) = Unit {0}
+IsPlain types (core.UpdateLocal char local operator value site) = (c : CType) × (slice_get types local ≡ Some c) × (is_char c ≡ char)
+IsPlain types (core.Update type place operator value site) = Unit {0}
+IsPlain types (core.Evaluate value) = Unit {0}
+IsPlain types (core.CallAlone callee arguments) = Unit {0}
+IsPlain types (core.Print value) = Unit {0}
+IsPlain types (core.PutByte value) = Unit {0}
+IsPlain types (core.Block statements) = ⊥
+IsPlain types (core.If condition consequent alternative) = ⊥
+IsPlain types (core.Loop condition body step) = ⊥
+IsPlain types (core.Return value) = ⊥
+IsPlain types core.ReturnNothing = ⊥
+IsPlain types core.Break = ⊥
+IsPlain types core.Continue = ⊥
+
+module _ (audited : Bool) (g : Setting) (k : Knot) (moves : KnotMoves audited g k) (structs : List Structure) (types : List CType) (f : Knowledge) (flow : IsFlow f) (few : length types ≤ f.vars) where
+  value_here : (e : core.Expression) (s : State) → WhereGiven (λ v t. IsAfter s t) (value audited g k e s)
+  value_here e s = value_keeps audited g k moves.calls s e s (after_here s)
+
+  -- ---- what is read
+
+  address_read : (e : core.Expression) (s : State) → WhereGiven (λ (v : Value) (t : State). is_address e ≡ true → v ≢ Null) (value audited g k e s)
+  address_read (core.Number number) s = so_always (λ (v : Value) (t : State). is_address (core.Number number) ≡ true → v ≢ Null) (value audited g k (core.Number number) s) (λ v t h. absurd (cc))
+  address_read core.Null s = so_always (λ (v : Value) (t : State). is_address core.Null ≡ true → v ≢ Null) (value audited g k core.Null s) (λ v t h. absurd (cc))
+  address_read (core.Local x bounds) s = so_always (λ (v : Value) (t : State). is_address (core.Local x bounds) ≡ true → v ≢ Null) (value audited g k (core.Local x bounds) s) (λ v t h. absurd (cc))
+  address_read (core.Load type place bounds) s = so_always (λ (v : Value) (t : State). is_address (core.Load type place bounds) ≡ true → v ≢ Null) (value audited g k (core.Load type place bounds) s) (λ v t h. absurd (cc))
+  address_read (core.AddressOf p bounds) s =
+      so_on (λ (v : Value) (t : State). v ≢ Null) (λ (v : Value) (t : State). true ≡ true → v ≢ Null) (and_then (place audited g k p s) pointer_to) (audit audited bounds)
+      (behind_any (λ (v : Value) (t : State). v ≢ Null) (place audited g k p s) pointer_to (λ at t q. absurd (cc)))
+      (λ v t h. audited_so (λ (v : Value) (t : State). true ≡ true → v ≢ Null) audited bounds v t (λ _. h))
+  address_read (core.Negate operand site) s = so_always (λ (v : Value) (t : State). is_address (core.Negate operand site) ≡ true → v ≢ Null) (value audited g k (core.Negate operand site) s) (λ v t h. absurd (cc))
+  address_read (core.Complement operand) s = so_always (λ (v : Value) (t : State). is_address (core.Complement operand) ≡ true → v ≢ Null) (value audited g k (core.Complement operand) s) (λ v t h. absurd (cc))
+  address_read (core.Not operand) s = so_always (λ (v : Value) (t : State). is_address (core.Not operand) ≡ true → v ≢ Null) (value audited g k (core.Not operand) s) (λ v t h. absurd (cc))
+  address_read (core.Arithmetic operator left right site) s = so_always (λ (v : Value) (t : State). is_address (core.Arithmetic operator left right site) ≡ true → v ≢ Null) (value audited g k (core.Arithmetic operator left right site) s) (λ v t h. absurd (cc))
+  address_read (core.Compare comparison left right) s = so_always (λ (v : Value) (t : State). is_address (core.Compare comparison left right) ≡ true → v ≢ Null) (value audited g k (core.Compare comparison left right) s) (λ v t h. absurd (cc))
+  address_read (core.Same left right) s = so_always (λ (v : Value) (t : State). is_address (core.Same left right) ≡ true → v ≢ Null) (value audited g k (core.Same left right) s) (λ v t h. absurd (cc))
+  address_read (core.AndAlso left right) s = so_always (λ (v : Value) (t : State). is_address (core.AndAlso left right) ≡ true → v ≢ Null) (value audited g k (core.AndAlso left right) s) (λ v t h. absurd (cc))
+  address_read (core.OrElse left right) s = so_always (λ (v : Value) (t : State). is_address (core.OrElse left right) ≡ true → v ≢ Null) (value audited g k (core.OrElse left right) s) (λ v t h. absurd (cc))
+  address_read (core.LowByte operand) s = so_always (λ (v : Value) (t : State). is_address (core.LowByte operand) ≡ true → v ≢ Null) (value audited g k (core.LowByte operand) s) (λ v t h. absurd (cc))
+  address_read (core.Call callee arguments bounds) s = so_always (λ (v : Value) (t : State). is_address (core.Call callee arguments bounds) ≡ true → v ≢ Null) (value audited g k (core.Call callee arguments bounds) s) (λ v t h. absurd (cc))
+  address_read core.NextInput s = so_always (λ (v : Value) (t : State). is_address core.NextInput ≡ true → v ≢ Null) (value audited g k core.NextInput s) (λ v t h. absurd (cc))
+  address_read (core.Sum pointer direction number site bounds) s = so_always (λ (v : Value) (t : State). is_address (core.Sum pointer direction number site bounds) ≡ true → v ≢ Null) (value audited g k (core.Sum pointer direction number site bounds) s) (λ v t h. absurd (cc))
+  address_read (core.Order comparison left right site) s = so_always (λ (v : Value) (t : State). is_address (core.Order comparison left right site) ≡ true → v ≢ Null) (value audited g k (core.Order comparison left right site) s) (λ v t h. absurd (cc))
+  address_read (core.Allocate count element bounds) s = so_always (λ (v : Value) (t : State). is_address (core.Allocate count element bounds) ≡ true → v ≢ Null) (value audited g k (core.Allocate count element bounds) s) (λ v t h. absurd (cc))
+  address_read (core.Cast pointer bounds) s = so_always (λ (v : Value) (t : State). is_address (core.Cast pointer bounds) ≡ true → v ≢ Null) (value audited g k (core.Cast pointer bounds) s) (λ v t h. absurd (cc))
+
+  abbrev IsLocalOf : core.Expression → Value → State → Type 0
+  IsLocalOf e v t = (p : ℕ) → pointer_local types e ≡ Some p → (l : Local) → slice_get t.locals p ≡ Some l → l.value ≡ v
+
+  pub read_so : (e : core.Expression) (s : State) → HaveTypes s.locals → HasLocals types s → WhereGiven (λ v t. IsAfter s t × IsRead types e v t) (value audited g k e s)
+  read_so e s good has =
+      so_further (λ v t. IsAfter s t × (IsOfTerm s.locals (term types e) v × (IsLocalOf e v t × ((is_null e ≡ true → v ≡ Null) × (is_address e ≡ true → v ≢ Null))))) (λ v t. IsAfter s t × IsRead types e v t) (value audited g k e s)
+      (so_both (λ v t. IsAfter s t) (λ v t. IsOfTerm s.locals (term types e) v × (IsLocalOf e v t × ((is_null e ≡ true → v ≡ Null) × (is_address e ≡ true → v ≢ Null)))) (value audited g k e s) (value_here e s)
+      (so_both (λ v t. IsOfTerm s.locals (term types e) v) (λ v t. IsLocalOf e v t × ((is_null e ≡ true → v ≡ Null) × (is_address e ≡ true → v ≢ Null))) (value audited g k e s) (term_so audited g k moves.calls types s.locals good has e s refl)
+      (so_both (IsLocalOf e) (λ v t. (is_null e ≡ true → v ≡ Null) × (is_address e ≡ true → v ≢ Null)) (value audited g k e s) (pointer_so audited g k moves.calls structs types e s)
+      (so_both (λ v t. is_null e ≡ true → v ≡ Null) (λ v t. is_address e ≡ true → v ≢ Null) (value audited g k e s) (null_given audited g k moves.calls structs types e s) (address_read e s)))))
+      (λ v t x. (x.0, record { term = subst (λ ls. IsOfTerm ls (term types e) v) (sym x.0.1) x.1.0; local = x.1.1.0; null = x.1.1.1.0; address = x.1.1.1.1 }))
+
+  -- ---- what is known behind them
+
+  pub goes_on : (x : core.Statement) → IsPlain types x → (s : State) → WhereGiven GoesOn (effect audited g k x s)
+  goes_on core.Nothing plain s = refl
+  goes_on (core.SetLocal x e) plain s = behind_any GoesOn (value audited g k e s) (set_local x) (λ v t. set_goes x v t)
+  goes_on (core.Store type p e) plain s =
+      behind_any GoesOn (target_of audited g k p s) _ (λ q t. behind_any GoesOn (value audited g k e t) _ (λ v u. behind_any GoesOn (place_from p q u) _ (λ at w. store_goes type (site_of p) at v w)))
+  goes_on (core.UpdateLocal char x operator e site) plain s =
+      behind_any GoesOn (given (slice_get s.locals x) s) _ (λ old t. behind_any GoesOn (value audited g k e t) _ (λ v u. behind_any GoesOn (arithmetic_of operator site old v u) _ (λ new w. behind_any GoesOn (kept_if char new w) (set_local x) (λ last y. set_goes x last y))))
+  goes_on (core.Update type p operator e site) plain s =
+      behind_any GoesOn (place audited g k p s) _ (λ at t. behind_any GoesOn (load_at type (Some site) at t) _ (λ old u. behind_any GoesOn (value audited g k e u) _ (λ v w. behind_any GoesOn (arithmetic_of operator site old v w) _
+      (λ new x. behind_any GoesOn (kept_if (is_char type) new x) (store_at type (Some site) at) (λ last y. store_goes type (Some site) at last y)))))
+  goes_on (core.Evaluate e) plain s = behind_any GoesOn (value audited g k e s) _ (λ v t. refl)
+  goes_on (core.CallAlone callee arguments) plain s = behind_any GoesOn (values audited g k arguments s) _ (λ vs t. behind_any GoesOn (called g k callee vs t) no_result (λ v u. result_goes v u))
+  goes_on (core.Print e) plain s = behind_any GoesOn (value audited g k e s) printed (λ v t. printed_goes v t)
+  goes_on (core.PutByte e) plain s = behind_any GoesOn (value audited g k e s) put (λ v t. put_goes v t)
+  goes_on (core.Block xs) plain s = absurd plain
+  goes_on (core.If c x y) plain s = absurd plain
+  goes_on (core.Loop c x y) plain s = absurd plain
+  goes_on (core.Return e) plain s = absurd plain
+  goes_on core.ReturnNothing plain s = absurd plain
+  goes_on core.Break plain s = absurd plain
+  goes_on core.Continue plain s = absurd plain
+
+  -- where no variable changes of which the flow speaks
+  unchanged : (may : ℕ → Bool) (x : core.Statement) → IsPlain types x → AssignsOnly may x → (s : State) → ((y : ℕ) → IsTracked (length types) s y → may y ≡ false) → HoldsAlike structs (length types) f s → WhereGiven (OnNext (HoldsAlike structs (length types) f)) (effect audited g k x s)
+  unchanged may x plain only s spared h =
+      so_further (λ flow u. GoesOn flow u × IsMovedTo may s u) (OnNext (HoldsAlike structs (length types) f)) (effect audited g k x s)
+      (so_both GoesOn (λ flow u. IsMovedTo may s u) (effect audited g k x s) (goes_on x plain s) (effect_moves audited g k moves may x s only))
+      (λ flow' u x. on_next_of (HoldsAlike structs (length types) f) flow' u x.0 (holds_moved structs (length types) f flow may s u x.1 spared h))
+
+  nothing_assigned : (x : core.Statement) → IsPlain types x → AssignsOnly (λ y. false) x → (s : State) → HoldsAlike structs (length types) f s → WhereGiven (OnNext (HoldsAlike structs (length types) f)) (effect audited g k x s)
+  nothing_assigned x plain only s h = unchanged (λ y. false) x plain only s (λ y tracked. refl) h
+
+  set_local_so : (x : ℕ) (e : core.Expression) → IsDirect e → (c : CType) → slice_get types x ≡ Some c → (s : State) → HasLocals types s → HoldsAlike structs (length types) f s
+      → WhereGiven (OnNext (HoldsAlike structs (length types) (value_assigned (slice_get types x) types x e f))) (effect audited g k (core.SetLocal x e) s)
+  set_local_so x e direct c is s has h =
+      so_on (λ v t. IsAfter s t × IsRead types e v t) (OnNext (HoldsAlike structs (length types) (value_assigned (slice_get types x) types x e f))) (value audited g k e s) (set_local x) (read_so e s (types_alike structs (length types) f s h) has)
+      (λ v t r. set_so structs types f flow few x e direct c is v t (has_after types s t r.0 has) (holds_after structs (length types) f s t flow r.0 h) r.1)
+
+  -- an update that keeps no byte is an assignment
+  update_is : (x : ℕ) (operator : Operator) (e : core.Expression) (site : Site) (s : State) → effect audited g k (core.UpdateLocal false x operator e site) s ≡ effect audited g k (core.SetLocal x (core.Arithmetic operator (core.Local x None) e site)) s
+  update_is x operator e site s = by (slice_get s.locals x) refl
+    where
+      by : (o : Option Local) → slice_get s.locals x ≡ o → effect audited g k (core.UpdateLocal false x operator e site) s ≡ effect audited g k (core.SetLocal x (core.Arithmetic operator (core.Local x None) e site)) s
+      by None there = rw there refl
+      by (Some old) there = rw there (sym (and_then-and_then (value audited g k e s) (arithmetic_of operator site old.value) (set_local x)))
+
+  update_so : (x : ℕ) (operator : Operator) (e : core.Expression) (site : Site) (c : CType) (char : Bool) → slice_get types x ≡ Some c → is_char c ≡ char → (s : State) → HasLocals types s → HoldsAlike structs (length types) f s
+      → WhereGiven (OnNext (HoldsAlike structs (length types) (value_assigned (slice_get types x) types x (core.Arithmetic operator (core.Local x None) e site) f))) (effect audited g k (core.UpdateLocal char x operator e site) s)
+  update_so x operator e site c false is fits s has h =
+      subst (λ o. WhereGiven (OnNext (HoldsAlike structs (length types) (value_assigned (slice_get types x) types x (core.Arithmetic operator (core.Local x None) e site) f))) o) (sym (update_is x operator e site s))
+      (set_local_so x (core.Arithmetic operator (core.Local x None) e site) tt c is s has h)
+  update_so x operator e site Char true is fits s has h =
+      subst (λ o. WhereGiven (OnNext (HoldsAlike structs (length types) (value_assigned o types x (core.Arithmetic operator (core.Local x None) e site) f))) (effect audited g k (core.UpdateLocal true x operator e site) s)) (sym is)
+      (unchanged (λ y. y == x) (core.UpdateLocal true x operator e site) (Char, is, refl) (itself_equal x) s (char_untracked types x is s has) h)
+  update_so x operator e site Int true is fits s has h = absurd (cc)
+  update_so x operator e site (Struct n) true is fits s has h = absurd (cc)
+  update_so x operator e site (Pointer mode kind target) true is fits s has h = absurd (cc)
+
+  pub plain_so : (x : core.Statement) → IsPlain types x → (s : State) → HasLocals types s → HoldsAlike structs (length types) f s → WhereGiven (OnNext (HoldsAlike structs (length types) (assigned_by types x f))) (effect audited g k x s)
+  plain_so core.Nothing plain s has h = nothing_assigned core.Nothing plain tt s h
+  plain_so (core.SetLocal x e) plain s has h = set_local_so x e plain.0 plain.1.0 plain.1.1 s has h
+  plain_so (core.Store type p e) plain s has h = nothing_assigned (core.Store type p e) plain tt s h
+  plain_so (core.UpdateLocal char x operator e site) plain s has h = update_so x operator e site plain.0 char plain.1 plain.2 s has h
+  plain_so (core.Update type p operator e site) plain s has h = nothing_assigned (core.Update type p operator e site) plain tt s h
+  plain_so (core.Evaluate e) plain s has h = nothing_assigned (core.Evaluate e) plain tt s h
+  plain_so (core.CallAlone callee arguments) plain s has h = nothing_assigned (core.CallAlone callee arguments) plain tt s h
+  plain_so (core.Print e) plain s has h = nothing_assigned (core.Print e) plain tt s h
+  plain_so (core.PutByte e) plain s has h = nothing_assigned (core.PutByte e) plain tt s h
+  plain_so (core.Block xs) plain s has h = absurd plain
+  plain_so (core.If c x y) plain s has h = absurd plain
+  plain_so (core.Loop c x y) plain s has h = absurd plain
+  plain_so (core.Return e) plain s has h = absurd plain
+  plain_so core.ReturnNothing plain s has h = absurd plain
+  plain_so core.Break plain s has h = absurd plain
+  plain_so core.Continue plain s has h = absurd plain

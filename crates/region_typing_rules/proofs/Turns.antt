@@ -1,0 +1,319 @@
+-- What is known behind a loop is so: its head fits each turn, which agrees with the state before the loop on what the loop
+-- doesn't assign.
+use Rattle.std.proofs.Common.{◌≡◌, ℕ, zero, suc, ◌+◌, ◌-◌, ◌<◌, ◌≤◌, Bool, true, false, cond, List, [], ◌∷◌, length, replicate, Option, Some, refl, sym, ◌∙◌, ap, subst, arith, ◌⊎◌, inl, inr}
+use Rattle.std.specs.Prelude.{slice_get, slice_index_or}
+use Rattle.std.specs.List.{AllByRecursion}
+use Rattle.std.proofs.lemmas.List.Elements.{All-from_recursion}
+use Rattle.ckc_tree.specs.Statements.{Assignment, Statement}
+use Rattle.pointer_modes.specs.Types.{CType, Int, Char, Struct, Pointer, Structure}
+use Rattle.act_words.specs.Touches.{Asked, Got, Ended, spend_tick}
+use Rattle.bounds_flow.specs.Flows.{at_head}
+use Rattle.bounds_flow_meaning.specs.Holding.{AreDeclared, Fits, HaveTypes, IsValid, types_of}
+use Rattle.bounds_flow_meaning.specs.Laws.{ChangesOnly, IsAmong}
+use Rattle.bounds_flow_meaning.proofs.AllSteps.{flows_hold}
+use Rattle.ckc_core.specs.Outcome.{Gives, and_then}
+use Rattle.ckc_core.specs.Core as core
+use Rattle.ckc_core.specs.States.{Value, Local, State, in_world}
+use Rattle.ckc_core.specs.Steps.{Result, Flow, Next, Broke, Continued, Returned, truth, asked, behind_turn, choose, is_char, on_next}
+use Rattle.ckc_core.specs.Meaning.{Knot, Setting, effect, knot, value}
+use Rattle.region_typing_rules.specs.Scopes.{Scope}
+use Rattle.region_typing_rules.specs.Readings.{told}
+use Rattle.region_typing_rules.specs.Knowing.{numbers_marked, step_marked, marked, at_loop, when}
+use Rattle.region_typing_rules.specs.Statements.{behind_block, behind_loop, before_step, in_loop}
+use Rattle.region_typing_rules.specs.KnownIsSo.{WhereGiven, IsAlike, FitsAlike, IsKnown, IsOnWay, IsSo, IsBetween, IsWalk, HasLocals}
+use Rattle.region_typing_rules.proofs.Verdicts.{Extends}
+use Rattle.region_typing_rules.proofs.Keeping.{IsAfter, after_here}
+use Rattle.region_typing_rules.proofs.Moving.{AssignsOnly, IsMovedTo, moved_on, moved_after, effect_moves, knots_move}
+use Rattle.region_typing_rules.proofs.Terms.{so_on, so_both}
+use Rattle.region_typing_rules.proofs.Alike.{alike_here, has_same, has_after, fits_after}
+use Rattle.region_typing_rules.proofs.Told.{told_fits}
+use Rattle.region_typing_rules.proofs.Between.{between_told}
+use Rattle.region_typing_rules.proofs.Assigns.{OnNext}
+use Rattle.region_typing_rules.proofs.Ways.{extends_length, has_before, fits_further, way_further, on_first, on_others, walk_block, walk_head, known_block, leaving_low}
+
+-- ---- the locals before a loop, with those of a later state that a flow can't tell
+
+char_is : (t : CType) → is_char t ≡ false → t ≡ Char → ⊥
+char_is Int e q = absurd (cc)
+char_is Char e q = absurd (cc)
+char_is (Struct n) e q = absurd (cc)
+char_is (Pointer m k t) e q = absurd (cc)
+
+abbrev mixed : ℕ → List Local → List Local → List Local
+mixed zero ls ms = ms
+mixed (suc n) [] ms = ms
+mixed (suc n) (a ∷ ls) [] = []
+mixed (suc n) (a ∷ ls) (b ∷ ms) = cond (is_char a.type) b a ∷ mixed n ls ms
+
+same_head : {X : Type 0} (x y : X) (xs ys : List X) → x ∷ xs ≡ y ∷ ys → x ≡ y
+same_head x y xs ys e = cc
+
+same_tail : {X : Type 0} (x y : X) (xs ys : List X) → x ∷ xs ≡ y ∷ ys → xs ≡ ys
+same_tail x y xs ys e = cc
+
+same_Some : {X : Type 0} (x y : X) → Some x ≡ Some y → x ≡ y
+same_Some x y e = cc
+
+chosen_type : (test : Bool) (a b : Local) → b.type ≡ a.type → (cond test b a).type ≡ b.type
+chosen_type true a b e = refl
+chosen_type false a b e = sym e
+
+mixed_types : (n : ℕ) (ls ms : List Local) → types_of ms ≡ types_of ls → types_of (mixed n ls ms) ≡ types_of ms
+mixed_types zero ls ms e = refl
+mixed_types (suc n) [] ms e = refl
+mixed_types (suc n) (a ∷ ls) [] e = refl
+mixed_types (suc n) (a ∷ ls) (b ∷ ms) e =
+    ap (λ t. t ∷ types_of (mixed n ls ms)) (chosen_type (is_char a.type) a b (same_head b.type a.type (types_of ms) (types_of ls) e)) ∙ ap (λ ts. b.type ∷ ts) (mixed_types n ls ms (same_tail b.type a.type (types_of ms) (types_of ls) e))
+
+-- each is that of the one list, or of the other where it is tracked
+abbrev IsMixed : ℕ → List Local → List Local → ℕ → Type 0
+IsMixed n ls ms y = (slice_get (mixed n ls ms) y ≡ slice_get ms y) ⊎ ((y < n) × ((slice_get (types_of ls) y ≡ Some Char → ⊥) × (slice_get (mixed n ls ms) y ≡ slice_get ls y)))
+
+chosen_mixed : (n : ℕ) (a b : Local) (ls ms : List Local) (test : Bool) → is_char a.type ≡ test → (slice_get (cond test b a ∷ mixed n ls ms) 0 ≡ Some b) ⊎ ((0 < suc n) × ((Some a.type ≡ Some Char → ⊥) × (slice_get (cond test b a ∷ mixed n ls ms) 0 ≡ Some a)))
+chosen_mixed n a b ls ms true e = inl refl
+chosen_mixed n a b ls ms false e = inr (omega arith, (λ q. char_is a.type e (same_Some a.type Char q), refl))
+
+later_mixed : (n : ℕ) (a b : Local) (ls ms : List Local) (y : ℕ) → IsMixed n ls ms y → IsMixed (suc n) (a ∷ ls) (b ∷ ms) (suc y)
+later_mixed n a b ls ms y h = elim h [ inl q ↦ inl q | inr q ↦ inr (let low = q.0 in omega (arith, low), q.1) ]
+
+mixed_is : (n : ℕ) (ls ms : List Local) (y : ℕ) → IsMixed n ls ms y
+mixed_is zero ls ms y = inl refl
+mixed_is (suc n) [] ms y = inl refl
+mixed_is (suc n) (a ∷ ls) [] y = inl refl
+mixed_is (suc n) (a ∷ ls) (b ∷ ms) zero = chosen_mixed n a b ls ms (is_char a.type) refl
+mixed_is (suc n) (a ∷ ls) (b ∷ ms) (suc y) = later_mixed n a b ls ms y (mixed_is n ls ms y)
+
+chosen_first : (a b : Local) (test : Bool) → is_char a.type ≡ test → (Some a.type ≡ Some Char → ⊥) → Some (cond test b a) ≡ Some a
+chosen_first a b true e other = absurd (other (ap Some (is_char_type a.type e)))
+  where
+    is_char_type : (t : CType) → is_char t ≡ true → t ≡ Char
+    is_char_type Int q = absurd (cc)
+    is_char_type Char q = refl
+    is_char_type (Struct n) q = absurd (cc)
+    is_char_type (Pointer m k t) q = absurd (cc)
+chosen_first a b false e other = refl
+
+mixed_tracked : (n : ℕ) (ls ms : List Local) (y : ℕ) → types_of ms ≡ types_of ls → y < n → (slice_get (types_of ls) y ≡ Some Char → ⊥) → slice_get (mixed n ls ms) y ≡ slice_get ls y
+mixed_tracked zero ls ms y e low other = absurd (omega (arith, low))
+mixed_tracked (suc n) [] [] y e low other = refl
+mixed_tracked (suc n) [] (b ∷ ms) y e low other = absurd (cc)
+mixed_tracked (suc n) (a ∷ ls) [] y e low other = absurd (cc)
+mixed_tracked (suc n) (a ∷ ls) (b ∷ ms) zero e low other = chosen_first a b (is_char a.type) refl other
+mixed_tracked (suc n) (a ∷ ls) (b ∷ ms) (suc y) e low other = mixed_tracked n ls ms y (same_tail b.type a.type (types_of ms) (types_of ls) e) (omega (arith, low)) other
+
+-- ---- marks, and the numbers of those that have one
+
+abbrev mark_of : List Bool → ℕ → Bool
+mark_of marks y = slice_index_or marks y true
+
+among_from : (k : ℕ) (marks : List Bool) (y : ℕ) → y < length marks → mark_of marks y ≡ true → IsAmong (numbers_marked k marks) (k + y)
+among_from k [] y low e = absurd (omega (arith, low))
+among_from k (true ∷ marks) zero low e = inl (omega arith)
+among_from k (false ∷ marks) zero low e = absurd (cc)
+among_from k (true ∷ marks) (suc y) low e = inr (subst (IsAmong (numbers_marked (suc k) marks)) (let q : suc k + y ≡ k + suc y = omega arith in q) (among_from (suc k) marks y (omega (arith, low)) e))
+among_from k (false ∷ marks) (suc y) low e = subst (IsAmong (numbers_marked (suc k) marks)) (let q : suc k + y ≡ k + suc y = omega arith in q) (among_from (suc k) marks y (omega (arith, low)) e)
+
+numbers_low : (k vars : ℕ) (marks : List Bool) → k + length marks ≤ vars → AllByRecursion (λ x. x < vars) (numbers_marked k marks)
+numbers_low k vars [] low = tt
+numbers_low k vars (true ∷ marks) low = (omega (arith, low), numbers_low (suc k) vars marks (omega (arith, low)))
+numbers_low k vars (false ∷ marks) low = numbers_low (suc k) vars marks (omega (arith, low))
+
+-- ---- the head of a loop
+
+module _ (structs : List Structure) (vars : ℕ) (g : Scope) (w : IsWalk vars g) (marks : List Bool) (many : length marks ≡ length g.locals) where
+  abbrev pub may : ℕ → Bool
+  may y = mark_of marks y
+
+  abbrev changed : List ℕ
+  changed = numbers_marked 0 marks
+
+  spared : (y : ℕ) → y < length g.locals → (IsAmong changed y → ⊥) → may y ≡ false
+  spared y low none = by (may y) refl
+    where
+      by : (test : Bool) → may y ≡ test → may y ≡ false
+      by true e = absurd (none (subst (IsAmong changed) (let q : 0 + y ≡ y = omega arith in q) (among_from 0 marks y (omega (arith, low, many)) e)))
+      by false e = e
+
+  module _ (s u v : State) (h : IsKnown structs g s) (moved : IsMovedTo may s u) (alike : IsAlike (length g.locals) u v) where
+    abbrev mix : State
+    mix = record s { locals = mixed (length g.locals) s.locals v.locals }
+
+    types_same : types_of v.locals ≡ types_of s.locals
+    types_same = alike.same ∙ moved.same
+
+    good : HaveTypes s.locals
+    good = (h s (alike_here (length g.locals) s)).holds.met.types
+
+    good_behind : HaveTypes v.locals
+    good_behind = alike.types (moved.types good)
+
+    mix_good : HaveTypes mix.locals
+    mix_good y l e = elim (mixed_is (length g.locals) s.locals v.locals y) [
+      | inl q ↦ good_behind y l (sym q ∙ e)
+      | inr q ↦ good y l (sym q.1.1 ∙ e)
+    ]
+
+    mix_alike : IsAlike (length g.locals) s mix
+    mix_alike = record {
+      blocks = refl;
+      same = mixed_types (length g.locals) s.locals v.locals types_same ∙ types_same;
+      types = λ _. mix_good;
+      tracked = λ y low other. mixed_tracked (length g.locals) s.locals v.locals y types_same low other;
+    }
+
+    unchanged : (y : ℕ) → (IsAmong changed y → ⊥) → slice_get v.locals y ≡ slice_get mix.locals y
+    unchanged y none = elim (mixed_is (length g.locals) s.locals v.locals y) [
+      | inl q ↦ sym q
+      | inr q ↦ alike.tracked y q.0 (λ c. q.1.0 (subst (λ ts. slice_get ts y ≡ Some Char) moved.same c)) ∙ (moved.others y (spared y q.0 none) ∙ sym q.1.1)
+    ]
+
+    only : ChangesOnly changed mix v
+    only = record { types = good_behind; same = sym (mixed_types (length g.locals) s.locals v.locals types_same); others = unchanged }
+
+    declared : AreDeclared structs g.flow.held v
+    declared p l e = subst (λ o. IsValid structs o l v) (sym (w.between.declared p)) tt
+
+    head_at : Fits structs (at_head changed g.flow) v
+    head_at =
+        let few = w.few in let size = w.between.size in
+        (flows_hold structs g.flow w.between.flow).enter_loop changed mix v (All-from_recursion (λ x. x < g.flow.vars) changed (numbers_low 0 g.flow.vars marks (omega (arith, few, size, many)))) only declared (h mix mix_alike)
+
+  pub head_known : (s u : State) → IsKnown structs g s → IsMovedTo may s u → FitsAlike structs (length g.locals) (at_head changed g.flow) u
+  head_known s u h moved v alike = head_at s u v h moved alike
+
+-- ---- turns
+
+-- behind the tick of a turn
+pub asked_so : {A : Type 0} (Q : Flow → State → Type 0) (o : Asked A) (s : State) (next : A → State → Result Flow) → ((v : A) (t : State) → IsAfter s t → WhereGiven Q (next v t)) → WhereGiven Q (asked o s next)
+asked_so Q (Got v world) s next more = more v (in_world world s) (after_here s)
+asked_so Q (Ended ending world) s next more = tt
+
+pub chosen_so : (Q : Flow → State → Type 0) (test : Bool) (first second : Result Flow) → (test ≡ true → WhereGiven Q first) → (test ≡ false → WhereGiven Q second) → WhereGiven Q (choose test first second)
+chosen_so Q true first second h k = h refl
+chosen_so Q false first second h k = k refl
+
+module _ (structs : List Structure) (audited : Bool) (setting : Setting) (vars : ℕ) where
+  abbrev turning : ℕ → Knot
+  turning n = knot audited setting n
+
+  module _ (g : Scope) (walk : IsWalk vars g) (body : Statement) (step : Option Assignment) (many : length (step_marked g.visible step (marked (length g.locals) g.visible body (replicate (length g.locals) false))) ≡ length g.locals)
+      (c : core.Expression) (x y : core.Statement) (inside last : Scope) (inside_walk : IsWalk vars inside) (last_walk : IsWalk vars last)
+      (inside_more : Extends g.locals inside.locals) (last_more : Extends inside.locals last.locals) (last_breaks : last.breaks ≡ inside.breaks) where
+    abbrev head : Scope
+    head = at_loop body step g
+
+    abbrev marks : List Bool
+    marks = step_marked g.visible step (marked (length g.locals) g.visible body (replicate (length g.locals) false))
+
+    abbrev changes : ℕ → Bool
+    changes = may structs vars g walk marks many
+
+    module _ (x_only : AssignsOnly changes x) (y_only : AssignsOnly changes y)
+        (x_runs : (n : ℕ) (s : State) → HasLocals inside.locals s → IsKnown structs (in_loop (when c true head)) s → WhereGiven (IsSo structs inside) (effect audited setting (turning n) x s))
+        (y_runs : (n : ℕ) (s : State) → HasLocals last.locals s → IsKnown structs (before_step g inside) s → WhereGiven (OnNext (IsKnown structs last)) (effect audited setting (turning n) y s)) where
+      abbrev Q : Flow → State → Type 0
+      Q = IsSo structs (behind_loop g head c last)
+
+      all_more : Extends g.locals last.locals
+      all_more k t e = last_more k t (inside_more k t e)
+
+      le_inside : length g.locals ≤ length inside.locals
+      le_inside = extends_length g.locals inside.locals inside_more
+
+      le_last : length inside.locals ≤ length last.locals
+      le_last = extends_length inside.locals last.locals last_more
+
+      le_all : length g.locals ≤ length last.locals
+      le_all = let a = le_inside in let b = le_last in omega (arith, a, b)
+
+      out_between : IsBetween vars (told g.locals c false head.flow)
+      out_between = between_told g.locals vars c false head.flow walk.few (walk_head vars body step g walk).between
+
+      -- out of the loop, by its condition
+      leaves : (t : State) → FitsAlike structs (length g.locals) (told g.locals c false head.flow) t → Q Next t
+      leaves t h =
+          on_first structs vars (length last.locals) t (length g.locals) (length last.locals - length g.locals) last.breaks (told g.locals c false head.flow) out_between last_walk.breaks
+          (fits_further structs (length g.locals) (length last.locals) (told g.locals c false head.flow) t le_all h)
+
+      -- and by a `break`
+      breaks_out : (t : State) → IsOnWay structs (length inside.locals) inside.breaks t → Q Next t
+      breaks_out t h =
+          on_others structs vars (length last.locals) t (length g.locals) (length last.locals - length g.locals) last.breaks (told g.locals c false head.flow) out_between last_walk.breaks (leaving_low structs vars g last last_walk le_all)
+          (subst (λ o. IsOnWay structs (length last.locals) o t) (sym last_breaks) (way_further structs (length inside.locals) (length last.locals) inside.breaks t le_last h))
+
+      -- on to the step, behind the body or by a `continue`
+      steps_on : (t : State) → IsKnown structs inside t → IsKnown structs (before_step g inside) t
+      steps_on t h =
+          on_first structs vars (length inside.locals) t (length g.locals) (length inside.locals - length g.locals) inside.continues (behind_block g inside).flow (walk_block vars g inside inside_walk).between inside_walk.continues
+          (known_block structs vars g inside inside_walk le_inside t h)
+
+      continues_on : (t : State) → IsOnWay structs (length inside.locals) inside.continues t → IsKnown structs (before_step g inside) t
+      continues_on t h =
+          on_others structs vars (length inside.locals) t (length g.locals) (length inside.locals - length g.locals) inside.continues (behind_block g inside).flow (walk_block vars g inside inside_walk).between inside_walk.continues
+          (leaving_low structs vars g inside inside_walk le_inside) h
+
+      abbrev Turns : Knot → State → Type 0
+      Turns k s = (t : State) → IsMovedTo changes s t → HasLocals last.locals t → WhereGiven Q (k.turn c x y t)
+
+      moves : (n : ℕ) (z : core.Statement) (s : State) → AssignsOnly changes z → WhereGiven (λ (flow : Flow) (t : State). IsMovedTo changes s t) (effect audited setting (turning n) z s)
+      moves n z s only = effect_moves audited setting (turning n) (knots_move audited setting n) changes z s only
+
+      has_moved : (s t : State) → IsMovedTo changes s t → HasLocals last.locals s → HasLocals last.locals t
+      has_moved s t moved has = has_same last.locals s t moved.same has
+
+      -- the step, and a further turn
+      step_on : (n : ℕ) (s t : State) → Turns (turning n) s → IsMovedTo changes s t → HasLocals last.locals t → IsKnown structs (before_step g inside) t
+          → WhereGiven Q (and_then (effect audited setting (turning n) y t) (on_next ((turning n).turn c x y)))
+      step_on n s t turns moved has h =
+          so_on (λ flow u. IsMovedTo changes t u × OnNext (IsKnown structs last) flow u) Q (effect audited setting (turning n) y t) (on_next ((turning n).turn c x y))
+          (so_both (λ flow u. IsMovedTo changes t u) (OnNext (IsKnown structs last)) (effect audited setting (turning n) y t) (moves n y t y_only) (y_runs n t has h)) by
+        where
+          by : (flow : Flow) (u : State) → IsMovedTo changes t u × OnNext (IsKnown structs last) flow u → WhereGiven Q (on_next ((turning n).turn c x y) flow u)
+          by Next u k = turns u (moved_on changes s t u moved k.0) (has_moved t u k.0 has)
+          by Broke u k = absurd k.1
+          by Continued u k = absurd k.1
+          by (Returned v) u k = absurd k.1
+
+      body_on : (n : ℕ) (s t : State) → Turns (turning n) s → IsMovedTo changes s t → HasLocals last.locals t → IsKnown structs (in_loop (when c true head)) t
+          → WhereGiven Q (and_then (effect audited setting (turning n) x t) (behind_turn (λ u. and_then (effect audited setting (turning n) y u) (on_next ((turning n).turn c x y)))))
+      body_on n s t turns moved has h =
+          so_on (λ flow u. IsMovedTo changes t u × IsSo structs inside flow u) Q (effect audited setting (turning n) x t) _
+          (so_both (λ flow u. IsMovedTo changes t u) (IsSo structs inside) (effect audited setting (turning n) x t) (moves n x t x_only) (x_runs n t (has_before inside.locals last.locals t last_more has) h)) by
+        where
+          by : (flow : Flow) (u : State) → IsMovedTo changes t u × IsSo structs inside flow u → WhereGiven Q (behind_turn (λ u. and_then (effect audited setting (turning n) y u) (on_next ((turning n).turn c x y))) flow u)
+          by Next u k = step_on n s u turns (moved_on changes s t u moved k.0) (has_moved t u k.0 has) (steps_on u k.1)
+          by Broke u k = breaks_out u k.1
+          by Continued u k = step_on n s u turns (moved_on changes s t u moved k.0) (has_moved t u k.0 has) (continues_on u k.1)
+          by (Returned v) u k = tt
+
+      -- one turn, where further ones are so
+      turn_on : (n : ℕ) (s t : State) → Turns (turning n) s → IsKnown structs g s → IsMovedTo changes s t → HasLocals last.locals t → WhereGiven Q (effect audited setting (turning n) (core.Loop c x y) t)
+      turn_on n s t turns known moved has =
+          so_on (λ v u. IsAfter t u × FitsAlike structs (length g.locals) (told g.locals c (truth v) head.flow) u) Q (value audited setting (turning n) c t) _
+          (told_fits audited setting (turning n) (knots_move audited setting n).calls structs g.locals c head.flow head_walk.between.flow (omega (arith, few, size)) t (has_before g.locals last.locals t all_more has) (head_known structs vars g walk marks many s t known moved)) by
+        where
+          head_walk : IsWalk vars head
+          head_walk = walk_head vars body step g walk
+
+          few : length g.locals ≤ vars
+          few = walk.few
+
+          size : head.flow.vars ≡ vars
+          size = head_walk.between.size
+
+          true_flow : IsBetween vars (told g.locals c true head.flow)
+          true_flow = between_told g.locals vars c true head.flow walk.few head_walk.between
+
+          by : (v : Value) (u : State) → IsAfter t u × FitsAlike structs (length g.locals) (told g.locals c (truth v) head.flow) u
+              → WhereGiven Q (choose (truth v) (asked (spend_tick setting.budget u.world) u (λ _ r. and_then (effect audited setting (turning n) x r) (behind_turn (λ u. and_then (effect audited setting (turning n) y u) (on_next ((turning n).turn c x y)))))) (Gives Next u))
+          by v u k =
+              chosen_so Q (truth v) _ (Gives Next u)
+              (λ e. asked_so Q (spend_tick setting.budget u.world) u _ (λ _ r after. body_on n s r turns
+              (moved_on changes s u r (moved_on changes s t u moved (moved_after changes t u k.0)) (moved_after changes u r after))
+              (has_after last.locals u r after (has_after last.locals t u k.0 has))
+              (fits_after structs (length g.locals) (told g.locals c true head.flow) u r true_flow.flow after (subst (λ b. FitsAlike structs (length g.locals) (told g.locals c b head.flow) u) e k.1))))
+              (λ e. leaves u (subst (λ b. FitsAlike structs (length g.locals) (told g.locals c b head.flow) u) e k.1))
+
+      pub loop_on : (n : ℕ) (s t : State) → IsKnown structs g s → IsMovedTo changes s t → HasLocals last.locals t → WhereGiven Q (effect audited setting (turning n) (core.Loop c x y) t)
+      loop_on zero s t known moved has = turn_on zero s t (λ u moved' has'. tt) known moved has
+      loop_on (suc n) s t known moved has = turn_on (suc n) s t (λ u moved' has'. loop_on n s u known moved' has') known moved has

@@ -1,0 +1,142 @@
+-- What the walk knows is so in each run: what is known behind a statement holds of the state in which it ends.
+use Rattle.std.specs.Prelude.{ℕ, ◌<◌, ◌≤◌, ◌≡◌, All, Bool, List, length, Option, None, Some, slice_get, false, replicate, slice_index_or, true}
+use Rattle.pointer_modes.specs.Types.{CType, Char, Structure}
+use Rattle.ckc_tree.specs.Statements.{Statement, Statements}
+use Rattle.ckc_tree.specs.Items.{Tree}
+use Rattle.bounds_flow.specs.Conditions.{IsFlow}
+use Rattle.bounds_flow.specs.Flows.{Knowledge, held_at}
+use Rattle.bounds_flow_meaning.specs.Holding.{Fits, HaveTypes, Holds, IsSettled, types_of}
+use Rattle.ckc_core.specs.Outcome.{Gives, Ends, Stuck, Unsound, Short}
+use Rattle.ckc_core.specs.States.{State, Grows, shapes}
+use Rattle.ckc_core.specs.Steps.{Result, Flow, Next, Broke, Continued, Returned, truth}
+use Rattle.ckc_core.specs.Meaning.{Setting, effect, effects, knot, value}
+use Rattle.ckc_core.specs.Core as core
+use Rattle.ckc_core.specs.Core.{Core}
+use Rattle.ckc_core.specs.Programs.{parted}
+use Rattle.region_typing_rules.specs.Knowing.{marked, when}
+use Rattle.region_typing_rules.specs.Verdicts.{Passes}
+use Rattle.region_typing_rules.specs.Scopes.{Scope}
+use Rattle.region_typing_rules.specs.Expressions.{Places}
+use Rattle.region_typing_rules.specs.Statements.{Walked, statement, statements}
+use Rattle.region_typing_rules.specs.NeverStuck.{HasCore}
+
+-- ---- what a step leads to
+
+-- it is so of the value that a step gives, and of the state behind it; where it gives none, nothing is said
+abbrev pub WhereGiven : {A : Type 0} → (A → State → Type 0) → Result A → Type 0
+WhereGiven P (Gives v s) = P v s
+WhereGiven P (Ends ending s) = Unit {0}
+WhereGiven P (Stuck site s) = Unit {0}
+WhereGiven P (Unsound site s) = Unit {0}
+WhereGiven P Short = Unit {0}
+
+-- ---- what is known is so
+
+-- Two states between which a flow can't tell, where so many locals are declared: the `int` variables and the pointers among these
+-- hold the same. A `char` isn't tracked, and of what is declared later nothing is said.
+pub record IsAlike (n : ℕ) (s t : State) : Type 0 where
+  pub blocks : t.blocks ≡ s.blocks
+  pub same : types_of t.locals ≡ types_of s.locals
+  pub types : HaveTypes s.locals → HaveTypes t.locals
+  pub tracked : (x : ℕ) → x < n → (slice_get (types_of s.locals) x ≡ Some Char → ⊥) → slice_get t.locals x ≡ slice_get s.locals x
+
+-- what a flow says is so, whatever those locals hold that it can't tell
+abbrev pub HoldsAlike : List Structure → ℕ → Knowledge → State → Type 0
+HoldsAlike structs n f s = (t : State) → IsAlike n s t → Holds structs f t
+
+abbrev pub FitsAlike : List Structure → ℕ → Knowledge → State → Type 0
+FitsAlike structs n f s = (t : State) → IsAlike n s t → Fits structs f t
+
+-- what is known where the walk stands is so
+abbrev pub IsKnown : List Structure → Scope → State → Type 0
+IsKnown structs g s = FitsAlike structs (length g.locals) g.flow s
+
+-- what is known of some ways that lead to the same place is so of a state on one of them
+abbrev pub IsOnWay : List Structure → ℕ → Option Knowledge → State → Type 0
+IsOnWay structs n None s = ⊥
+IsOnWay structs n (Some f) s = FitsAlike structs n f s
+
+-- what is known behind a statement is so of the state in which it ends: at the next one, or where it leads out of a loop or on
+-- to its next turn. Where it returns, nothing is known.
+abbrev pub IsSo : List Structure → Scope → Flow → State → Type 0
+IsSo structs g Next s = IsKnown structs g s
+IsSo structs g Broke s = IsOnWay structs (length g.locals) g.breaks s
+IsSo structs g Continued s = IsOnWay structs (length g.locals) g.continues s
+IsSo structs g (Returned v) s = Unit {0}
+
+-- ---- scopes of a walk
+
+-- a flow between statements, of so many variables, in which no bounds are declared
+pub record IsBetween (vars : ℕ) (f : Knowledge) : Type 0 where
+  pub flow : IsFlow f
+  pub size : f.vars ≡ vars
+  pub settled : IsSettled f
+  pub declared : (p : ℕ) → (held_at f.held p).declared ≡ None
+
+-- the same of what is known of some ways
+abbrev pub AreBetween : ℕ → Option Knowledge → Type 0
+AreBetween vars None = Unit {0}
+AreBetween vars (Some f) = IsBetween vars f
+
+-- what a walk inside a function knows, whose flows have so many variables: a flow with a variable for each local, and others beside
+-- it at the ways out of the innermost loop and to its next turn
+pub record IsWalk (vars : ℕ) (g : Scope) : Type 0 where
+  pub between : IsBetween vars g.flow
+  pub few : length g.locals ≤ vars
+  pub breaks : AreBetween vars g.breaks
+  pub continues : AreBetween vars g.continues
+
+-- the locals of a state have the types of those that are known, and maybe there are more
+abbrev pub HasLocals : List CType → State → Type 0
+HasLocals types s = (x : ℕ) (t : CType) → slice_get types x ≡ Some t → slice_get (types_of s.locals) x ≡ Some t
+
+-- ---- the law
+
+-- where a statement breaks no rule, what is known behind it is so of each state in which it ends from one of which what is known
+-- before it is so, for any number of ticks
+abbrev pub KnownIsSo : Type 0
+KnownIsSo = (at : Places) (vars : ℕ) (g : Scope) (x : Statement) (w : Walked) → statement at g x ≡ Passes w → IsWalk vars g
+    → (structs : List Structure) (audited : Bool) (setting : Setting) (ticks : ℕ) (s : State) → HasLocals w.1.locals s → IsKnown structs g s
+    → WhereGiven (IsSo structs w.1) (effect audited setting (knot audited setting ticks) w.0 s)
+
+-- the same of statements in order
+abbrev pub RowsAreSo : Type 0
+RowsAreSo = (at : Places) (vars : ℕ) (g : Scope) (xs : Statements) (w : core.Statements × Scope) → statements at g xs ≡ Passes w → IsWalk vars g
+    → (structs : List Structure) (audited : Bool) (setting : Setting) (ticks : ℕ) (s : State) → HasLocals w.1.locals s → IsKnown structs g s
+    → WhereGiven (IsSo structs w.1) (effects audited setting (knot audited setting ticks) w.0 s)
+
+-- what is known behind a condition that came out so is so
+abbrev pub ConditionsAreSo : Type 0
+ConditionsAreSo = (vars : ℕ) (g : Scope) (c : core.Expression) → IsWalk vars g → (structs : List Structure) (audited : Bool) (setting : Setting) (ticks : ℕ)
+    (s : State) → HasLocals g.locals s → IsKnown structs g s
+    → WhereGiven (λ v t. IsKnown structs (when c (truth v) g) t) (value audited setting (knot audited setting ticks) c s)
+
+-- from the one state to the other, blocks are only added, and of the locals that have marks only those change whose mark is set
+pub record ChangesMarked (marks : List Bool) (s t : State) : Type 0 where
+  pub grown : Grows (shapes s.blocks) (shapes t.blocks)
+  pub same : types_of t.locals ≡ types_of s.locals
+  pub others : (x : ℕ) → slice_index_or marks x true ≡ false → slice_get t.locals x ≡ slice_get s.locals x
+
+-- a statement changes only the locals that it marks
+abbrev pub MarkedAlone : Type 0
+MarkedAlone = (at : Places) (g : Scope) (x : Statement) (w : Walked) → statement at g x ≡ Passes w → (audited : Bool) (setting : Setting) (ticks : ℕ)
+    (s : State) → WhereGiven (λ _ t. ChangesMarked (marked (length g.locals) g.visible x (replicate (length g.locals) false)) s t)
+    (effect audited setting (knot audited setting ticks) w.0 s)
+
+-- ---- functions
+
+-- the body of a function was walked from a scope, and what is known there is so of each state in which the function may begin
+pub record HasWalk (f : core.Function) : Type 0 where
+  pub at : Places
+  pub vars : ℕ
+  pub scope : Scope
+  pub tree : Statements
+  pub behind : Scope
+  pub passes : statements at scope tree ≡ Passes (f.body, behind)
+  pub walk : IsWalk vars scope
+  pub locals : behind.locals ≡ f.locals
+  pub entry : (structs : List Structure) (s : State) → HaveTypes s.locals → IsKnown structs scope s
+
+-- the body of each function of a program that breaks no rule was
+abbrev pub BodiesAreWalked : Type 0
+BodiesAreWalked = (at : Places) (t : Tree) (c : Core) → HasCore at t c → All HasWalk (parted c).functions
