@@ -1,9 +1,13 @@
--- The lines that say why a program wasn't run, or why its run broke off. Each ends with a line feed.
+-- The lines that say that a source is accepted, or why a program wasn't run, or why its run broke off. Each ends with a line feed.
 use Rattle.std.specs.Prelude.{ℕ, List, ◌++◌, codes, decimal}
 use Rattle.ckc_text.specs.declared.place.Place.{Place}
 use Rattle.ckc_text.specs.declared.code.Code.{Code}
 use Rattle.ckc_text.specs.Texts.{number_of, name_of}
 use Rattle.act_recorder.specs.Endings.{line, placed_text}
+
+-- an accepted source: all of its code is checked
+abbrev pub accepted_text : List ℕ
+accepted_text = line (codes "[accepted all checked]")
 
 -- a refused source, at its place, as `[refused E17 2:3 bounds not proved]`
 abbrev pub refused_text : Code → Place → List ℕ

@@ -1,12 +1,20 @@
-// The lines that say why a program wasn't run, or why its run broke off.
+// The lines that say that a source is accepted, or why a program wasn't run, or why its run broke off.
 
 ghost use Rattle.std.specs.Prelude.{◌≡◌, IfOk};
-ghost use Rattle.act_recorder.specs.Diagnostics.{refused_text, act_refused_text, missing_text, usage_text};
+ghost use Rattle.act_recorder.specs.Diagnostics.{accepted_text, refused_text, act_refused_text, missing_text, usage_text};
 
 use ckc_text::code::Code;
 use ckc_text::fault::NoMemory;
 use ckc_text::place::Place;
 use std::alloc::Global;
+
+/// The line of an accepted source, all of whose code is checked.
+pub fn accepted_line(alloc: Global) -> Result<Vec<u8>, NoMemory>
+    ensures { IfOk result (λ text. text.items ≡ accepted_text) }
+{
+    let text = "[accepted all checked]\n";
+    Ok(Vec::from_slice(alloc, text.as_bytes())?)
+}
 
 /// The line of a refused source.
 pub fn refused_line(alloc: Global, code: Code, place: Place) -> Result<Vec<u8>, NoMemory>

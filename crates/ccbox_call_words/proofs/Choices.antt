@@ -1,10 +1,9 @@
 -- What words choose, and the options that choices make.
-use Rattle.std.proofs.Common.{add-one, ◌&&◌, codes, ◌≡◌, ℕ, suc, ◌+◌, ◌-◌, ◌<◌, ◌≤◌, Bool, true, false, List, [], ◌∷◌, map, length, take, drop, get_or, Option, Some, None, option_map, refl, sym, ap, ◌∙◌, Bor, arith}
+use Rattle.std.proofs.Common.{add-one, ◌≡◌, ℕ, suc, ◌+◌, ◌-◌, ◌<◌, ◌≤◌, false, List, [], ◌∷◌, map, length, take, drop, get_or, Option, Some, None, option_map, refl, sym, ap, ◌∙◌, Bor, arith}
 use Rattle.std.specs.Option.{option_and_then}
-use Rattle.std.specs.Str.{bytes_eq}
 use Rattle.std.proofs.lemmas.List.{take_all, length-drop, drop-map, drop-drop}
 use Rattle.std.proofs.Math.Seq.{drop-cons}
-use Rattle.ccbox_call_words.specs.Requests.{Options, Choice, word_choice, pair_choice, choices_of, chosen, all_chosen, may_name_file, options_of, Request, Run, request_if, request_of}
+use Rattle.ccbox_call_words.specs.Requests.{Options, Choice, word_choice, pair_choice, choices_of, chosen, all_chosen, may_name_file, request_of}
 
 -- ---- choices
 
@@ -61,16 +60,7 @@ few_words [] lt = refl
 few_words (command ∷ []) lt = refl
 few_words (command ∷ file ∷ ws) lt = absurd (omega arith)
 
-pub other_command : (ws : List (Bor (List ℕ))) (d : Bor (List ℕ)) → 2 ≤ length ws → false ≡ bytes_eq (get_or ws 0 d).now (codes "run") → None ≡ request_of (texts ws)
-other_command [] d le other = absurd (omega arith)
-other_command (command ∷ []) d le other = absurd (omega arith)
-other_command (command ∷ file ∷ ws) d le other = rw (← other) refl
-
-no_request : (run : Bool) (request : Option Request) → None ≡ request_if (run && false) request
-no_request true request = refl
-no_request false request = refl
-
 pub no_file : (ws : List (Bor (List ℕ))) (d : Bor (List ℕ)) → 2 ≤ length ws → false ≡ may_name_file (get_or ws 1 d).now → None ≡ request_of (texts ws)
 no_file [] d le other = absurd (omega arith)
 no_file (command ∷ []) d le other = absurd (omega arith)
-no_file (command ∷ file ∷ ws) d le other = rw (← other) (no_request (bytes_eq command.now (codes "run")) (option_map (Run file.now) (options_of (texts ws))))
+no_file (command ∷ file ∷ ws) d le other = rw (← other) refl

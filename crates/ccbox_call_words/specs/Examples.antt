@@ -1,6 +1,6 @@
 -- Words at work.
 use Rattle.std.specs.Prelude.{◌≡◌, ℕ, List, [], ◌∷◌, codes, Option, Some, None, pos, negsuc, true}
-use Rattle.ccbox_call_words.specs.Requests.{Options, Run, Request, request_of, no_options, input_list}
+use Rattle.ccbox_call_words.specs.Requests.{Options, Check, Split, Run, Request, request_of, no_options, input_list}
 
 abbrev run_with : List (List ℕ) → Option Request
 run_with words = request_of (codes "run" ∷ codes "a.c" ∷ words)
@@ -25,6 +25,18 @@ alone =
     × (run_with (codes "--view" ∷ []) ≡ asks (record no_options { view = true }))
     × (run_with (codes "--releases" ∷ []) ≡ asks (record no_options { releases = true }))
     × (run_with (codes "--dump" ∷ []) ≡ asks (record no_options { dump = true }))
+
+-- the commands that take a file alone
+abbrev pub commands : Type 0
+commands =
+    (request_of (codes "check" ∷ codes "a.c" ∷ []) ≡ Some (Check (codes "a.c")))
+    × (request_of (codes "split" ∷ codes "a.c" ∷ []) ≡ Some (Split (codes "a.c")))
+    × (request_of (codes "check" ∷ [] ∷ []) ≡ Some (Check []))
+    × (request_of (codes "check" ∷ []) ≡ None)
+    × (request_of (codes "split" ∷ codes "-x" ∷ []) ≡ None)
+    × (request_of (codes "check" ∷ codes "a.c" ∷ codes "b.c" ∷ []) ≡ None)
+    × (request_of (codes "check" ∷ codes "a.c" ∷ codes "--view" ∷ []) ≡ None)
+    × (request_of (codes "split" ∷ codes "a.c" ∷ codes "--base=16" ∷ []) ≡ None)
 
 -- several, in any order
 abbrev pub together : Type 0

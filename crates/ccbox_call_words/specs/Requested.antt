@@ -2,10 +2,11 @@
 use Rattle.std.specs.Prelude.{ℕ, List, [], Option, Some, None, option_map, unwrap_or}
 use Rattle.std.proofs.Common.{ℤ}
 use Rattle.std.specs.Borrow.{Bor}
-use Rattle.ccbox_call_words.specs.Requests.{Request, Run, Options, Choice, ActsFrom, InputOf, BudgetOf, SandboxOf, TrustedOf, BaseOf, View}
+use Rattle.ccbox_call_words.specs.Requests.{Request, Check, Split, Run, Options, Choice, ActsFrom, InputOf, BudgetOf, SandboxOf, TrustedOf, BaseOf, View}
 use Rattle.ccbox_call_words.specs.Requests.{Releases, Dump, input_list}
 use Rattle.ccbox_call_words.specs.declared.inputs.InputList.{InputList}
 use Rattle.ccbox_call_words.specs.declared.request.Request as code
+use Rattle.ccbox_call_words.specs.declared.request.Request.TheVariants as requests
 use Rattle.ccbox_call_words.specs.declared.request.Options as code_options
 use Rattle.ccbox_call_words.specs.declared.request.Choice as code_choice
 use Rattle.ccbox_call_words.specs.declared.request.Choice.TheVariants as choices
@@ -29,7 +30,9 @@ options o =
     }
 
 abbrev pub request : code.Request → Request
-request r = Run r.file.now (options r.options)
+request (requests.Check file) = Check file.now
+request (requests.Split file) = Split file.now
+request (requests.Run file o) = Run file.now (options o)
 
 abbrev pub requested : Option code.Request → Option Request
 requested None = None

@@ -26,8 +26,18 @@ no_options = record { acts = None; input = None; budget = None; sandbox = None; 
 
 -- what is asked for
 pub data Request : Type 0 where
-  -- to run the program of a file
+  -- to check the program of a file
+  Check : (file : List ℕ) → Request
+  -- to print its code
+  Split : (file : List ℕ) → Request
+  -- to run it
   Run : (file : List ℕ) (options : Options) → Request
+
+-- the file that is asked about
+abbrev pub file_of : Request → List ℕ
+file_of (Check file) = file
+file_of (Split file) = file
+file_of (Run file options) = file
 
 -- the settings of a run. No option asks for its code
 abbrev pub settings_of : Options → Settings
@@ -197,8 +207,21 @@ abbrev pub request_if : Bool → Option Request → Option Request
 request_if true request = request
 request_if false request = None
 
--- the request that the words spell, if they spell one: `run FILE` and options in any order
+-- a request that takes no further word
+abbrev pub alone : List (List ℕ) → Request → Option Request
+alone [] request = Some request
+alone (word ∷ words) request = None
+
+-- what a command asks about a file, with the words behind both: `check FILE`, `split FILE`, or `run FILE` and options in any order
+abbrev pub command_request : List ℕ → List ℕ → List (List ℕ) → Option Request
+command_request command file words =
+    if bytes_eq command (codes "check") then alone words (Check file)
+    else if bytes_eq command (codes "split") then alone words (Split file)
+    else if bytes_eq command (codes "run") then option_map (Run file) (options_of words)
+    else None
+
+-- the request that the words spell, if they spell one
 abbrev pub request_of : List (List ℕ) → Option Request
 request_of [] = None
 request_of (command ∷ []) = None
-request_of (command ∷ file ∷ words) = request_if (bytes_eq command (codes "run") && may_name_file file) (option_map (Run file) (options_of words))
+request_of (command ∷ file ∷ words) = request_if (may_name_file file) (command_request command file words)

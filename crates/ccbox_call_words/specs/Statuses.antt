@@ -7,7 +7,7 @@ use Rattle.ccbox_call_words.specs.declared.status.Status.TheVariants as statuses
 
 -- the number with which the program ends
 abbrev pub number_of : Status → ℕ
-number_of statuses.Exited = 0
+number_of statuses.Success = 0
 number_of statuses.SourceRefused = 1
 number_of statuses.Usage = 2
 number_of statuses.FileMissing = 3

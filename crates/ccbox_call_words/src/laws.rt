@@ -9,6 +9,7 @@ ghost use Rattle.ccbox_call_words.specs.Examples as examples;
 /// What words ask for, worked out from the definition.
 pub fn requests()
     ensures alone { examples.alone }
+    ensures commands { examples.commands }
     ensures together { examples.together }
     ensures refused { examples.refused }
     ensures twice { examples.twice }

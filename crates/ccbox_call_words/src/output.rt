@@ -1,12 +1,14 @@
-// Writing one line, and the status behind it.
+// Writing one line, or a listing, and the status behind it.
 
 ghost use Rattle.std.specs.Prelude.{◌≡◌, ℕ, List, IfOk};
 ghost use Rattle.ccbox_call_words.specs.Given.{TextGiven, LineGiven, OutcomeGiven};
 ghost use Rattle.ccbox_call_words.specs.Statuses.{number_of};
-ghost use Rattle.act_recorder.specs.Diagnostics.{refused_text, act_refused_text, missing_text, usage_text};
+ghost use Rattle.act_recorder.specs.Diagnostics.{accepted_text, refused_text, act_refused_text, missing_text, usage_text};
 
 use crate::status::{Status, status_of};
-use act_recorder::diagnostics::{act_refused_line, missing_line, refused_line, usage_line};
+use act_recorder::diagnostics::{
+    accepted_line, act_refused_line, missing_line, refused_line, usage_line,
+};
 use act_words::ending::Ending;
 use ckc_io::sink::{Sink, SinkFault};
 use ckc_io::whole::write_whole;
@@ -35,11 +37,26 @@ pub fn give_outcome<K: Sink>(
     }
 }
 
-/// Writes the line of a refused source, and answers its status, or that of a failed output or of want of memory.
+/// Writes the line of an accepted source, and answers its status, or that of a failed output or of want of memory.
+pub fn give_accepted<K: Sink>(alloc: Global, sink: &mut K) -> Status
+    ensures { LineGiven accepted_text 0 (K.written sink.old) (K.written sink.new) (K.faults sink.old) (K.faults sink.new) (number_of result) }
+{
+    give_made(sink, accepted_line(alloc), Status::Success)
+}
+
+/// The same of a listing, if it was made.
+pub fn give_listing<K: Sink>(sink: &mut K, listing: Result<Vec<u8>, NoMemory>) -> Status
+    ensures { (text : List ℕ) → IfOk listing (λ made. made.items ≡ text)
+        → LineGiven text 0 (K.written sink.old) (K.written sink.new) (K.faults sink.old) (K.faults sink.new) (number_of result) }
+{
+    give_made(sink, listing, Status::Success)
+}
+
+/// The same of a refused source.
 pub fn give_refused<K: Sink>(alloc: Global, code: Code, place: Place, sink: &mut K) -> Status
     ensures { LineGiven (refused_text code place) 1 (K.written sink.old) (K.written sink.new) (K.faults sink.old) (K.faults sink.new) (number_of result) }
 {
-    give_line(
+    give_made(
         sink,
         refused_line(alloc, code, place),
         Status::SourceRefused,
@@ -50,7 +67,7 @@ pub fn give_refused<K: Sink>(alloc: Global, code: Code, place: Place, sink: &mut
 fn give_act_refused<K: Sink>(alloc: Global, line: u64, code: Code, sink: &mut K) -> Status
     ensures { LineGiven (act_refused_text line code) 8 (K.written sink.old) (K.written sink.new) (K.faults sink.old) (K.faults sink.new) (number_of result) }
 {
-    give_line(
+    give_made(
         sink,
         act_refused_line(alloc, line, code),
         Status::LineRefused,
@@ -61,23 +78,23 @@ fn give_act_refused<K: Sink>(alloc: Global, line: u64, code: Code, sink: &mut K)
 pub fn give_missing<K: Sink>(alloc: Global, name: &str, sink: &mut K) -> Status
     ensures { LineGiven (missing_text name.now) 3 (K.written sink.old) (K.written sink.new) (K.faults sink.old) (K.faults sink.new) (number_of result) }
 {
-    give_line(sink, missing_line(alloc, name), Status::FileMissing)
+    give_made(sink, missing_line(alloc, name), Status::FileMissing)
 }
 
 /// The same of words that spell no request.
 pub fn give_usage<K: Sink>(alloc: Global, sink: &mut K) -> Status
     ensures { LineGiven usage_text 2 (K.written sink.old) (K.written sink.new) (K.faults sink.old) (K.faults sink.new) (number_of result) }
 {
-    give_line(sink, usage_line(alloc), Status::Usage)
+    give_made(sink, usage_line(alloc), Status::Usage)
 }
 
-// Writes a line that was made, unless memory ran out before.
-fn give_line<K: Sink>(sink: &mut K, line: Result<Vec<u8>, NoMemory>, status: Status) -> Status
-    ensures { (text : List ℕ) → IfOk line (λ made. made.items ≡ text)
+// Writes a text that was made, unless memory ran out before.
+fn give_made<K: Sink>(sink: &mut K, made: Result<Vec<u8>, NoMemory>, status: Status) -> Status
+    ensures { (text : List ℕ) → IfOk made (λ made. made.items ≡ text)
         → LineGiven text (number_of status) (K.written sink.old) (K.written sink.new) (K.faults sink.old) (K.faults sink.new) (number_of result) }
 {
-    match line {
-        Ok(line) => give(sink, line.as_slice(), status),
+    match made {
+        Ok(made) => give(sink, made.as_slice(), status),
         Err(NoMemory) => Status::NoMemory,
     }
 }

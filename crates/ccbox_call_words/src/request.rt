@@ -2,8 +2,8 @@
 
 ghost use Rattle.std.specs.Prelude.{◌≡◌, ◌≤◌, ◌∷◌, IfOk, IfSome, option_map, map, drop, length};
 ghost use Rattle.std.specs.Option.{option_and_then};
-ghost use Rattle.ccbox_call_words.specs.Requests.{settings_of, inputs_of, may_name_file, acts_choice, input_choice, cut_at, value_choice, word_choice, pair_choice, choices_of, chosen, options_of, request_of};
-ghost use Rattle.ccbox_call_words.specs.Requested.{requested, options as options_view, choice as choice_view};
+ghost use Rattle.ccbox_call_words.specs.Requests.{settings_of, inputs_of, may_name_file, acts_choice, input_choice, cut_at, value_choice, word_choice, pair_choice, choices_of, chosen, options_of, alone, command_request, request_of};
+ghost use Rattle.ccbox_call_words.specs.Requested.{request as request_view, requested, options as options_view, choice as choice_view};
 
 use crate::inputs::InputList;
 use crate::numbers::{base_from, number_from};
@@ -114,11 +114,15 @@ impl<'a> Options<'a> {
     }
 }
 
-/// What is asked for: to run the program of a file.
+/// What is asked for.
 #[derive(Clone, Copy)]
-pub struct Request<'a> {
-    pub file: &'a str,
-    pub options: Options<'a>,
+pub enum Request<'a> {
+    /// To check the program of a file.
+    Check { file: &'a str },
+    /// To print its code.
+    Split { file: &'a str },
+    /// To run it.
+    Run { file: &'a str, options: Options<'a> },
 }
 
 /// The request that words spell, if they spell one.
@@ -126,12 +130,31 @@ pub fn request_from<'a>(words: &[&'a str]) -> Option<Request<'a>>
     ensures { requested result ≡ request_of (map (λ word. word.now) words.now) }
 {
     match words {
-        [command, file, rest @ ..] if *command == "run" && may_name_file(file) => {
+        [command, file, rest @ ..] if may_name_file(file) => command_request(command, file, rest),
+        _ => None,
+    }
+}
+
+// What a command asks about a file, with the words behind both.
+fn command_request<'a>(command: &str, file: &'a str, rest: &[&'a str]) -> Option<Request<'a>>
+    ensures { requested result ≡ command_request command.now file.now (map (λ word. word.now) rest.now) }
+{
+    match command {
+        "check" => alone(rest, Request::Check { file }),
+        "split" => alone(rest, Request::Split { file }),
+        "run" => {
             let options = options_from(rest)?;
-            Some(Request { file, options })
+            Some(Request::Run { file, options })
         }
         _ => None,
     }
+}
+
+// A request that takes no further word.
+fn alone<'a>(rest: &[&'a str], request: Request<'a>) -> Option<Request<'a>>
+    ensures { requested result ≡ alone (map (λ word. word.now) rest.now) (request_view request.entry) }
+{
+    if rest.is_empty() { Some(request) } else { None }
 }
 
 // The options that words spell, if they spell any.

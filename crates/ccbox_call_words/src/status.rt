@@ -8,8 +8,8 @@ use act_words::ending::Ending;
 /// How a call ended. The program ends with its number.
 #[derive(Clone, Copy)]
 pub enum Status {
-    /// 0: the run exited.
-    Exited,
+    /// 0: the run exited, or the source is accepted and was checked, or its code was printed.
+    Success,
     /// 1: the source is refused.
     SourceRefused,
     /// 2: the words spell no request.
@@ -36,7 +36,7 @@ impl Status {
         ensures { result ≡ number_of self }
     {
         match self {
-            Status::Exited => 0,
+            Status::Success => 0,
             Status::SourceRefused => 1,
             Status::Usage => 2,
             Status::FileMissing => 3,
@@ -55,7 +55,7 @@ pub fn status_of(ending: &Ending) -> Status
     ensures { number_of result ≡ status_of_ending ending.now }
 {
     match ending {
-        Ending::Exit { value: _ } => Status::Exited,
+        Ending::Exit { value: _ } => Status::Success,
         Ending::Check { code: _, place: _ } => Status::CheckFailed,
         Ending::Stop { code: _, act: _ } => Status::Stopped,
     }
