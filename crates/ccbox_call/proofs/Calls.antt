@@ -14,14 +14,20 @@ use Rattle.ckc_core.specs.Core.{Core}
 use Rattle.ckc_core.specs.States.{State}
 use Rattle.sandbox_actor.specs.ActLists.{ActList, RefusedLine}
 use Rattle.run_core.specs.Runs.{Counts}
-use Rattle.ccbox_call_words.specs.Requests.{Request, Run, Options, settings_of, inputs_of, request_of}
-use Rattle.act_recorder.specs.Diagnostics.{usage_text, missing_text}
+use Rattle.check_insertion.specs.Insert.{inserted}
+use Rattle.lowering_code.specs.Images.{image_of}
+use Rattle.code_words_listing.specs.Listings.{listing}
+use Rattle.ccbox_call_words.specs.Requests.{Request, Run, Options, file_of, settings_of, inputs_of, request_of}
+use Rattle.ccbox_call_words.specs.Requests as requests
+use Rattle.act_recorder.specs.Diagnostics.{accepted_text, usage_text, missing_text}
 use Rattle.ccbox_call_words.specs.Given.{TextGiven, all, failed, LineGiven, given, unmade}
-use Rattle.ccbox_call.specs.Acceptance.{Accepts, IsRefused}
-use Rattle.ccbox_call.specs.Answers.{RunsTo, needed_line, text_of, status_with, ListAnswer, ran, CoreAnswer, acts_missing, acts, SourceAnswer, refused, accepted, FileAnswer, missing, source, Answer, IsFailure, WritesFront, GivesFront, IsCutShort, GivesWhole, Exactly, AsksToRun, AsksFor, SourceIsRefused, RunEndsWith, RunExits, CheckFails, RunStops, LineIsRefused, FileIsMissing, PrintsRun, PrintedRun, IsComplete, IsQuiet, IsUntouched}
+use Rattle.ccbox_call.specs.Acceptance.{Accepts, IsRefused, IsAcceptedCore}
+use Rattle.ccbox_call.specs.Answers.{RunsTo, needed_line, text_of, status_with, ran, CoreAnswer, acts_missing, acts, CheckAnswer, says_so, SplitAnswer, lists, SourceAnswer, refused, accepted, missing, source, AskedOf, RequestAnswer, Answer, IsFailure, WritesFront, GivesFront, IsCutShort, GivesWhole, Exactly, AsksAbout, AsksOf, AsksToRun, AsksFor, SourceIsRefused, SourceIsChecked, CodeIsListed, RunEndsWith, RunExits, Succeeds, CheckFails, RunStops, LineIsRefused, FileIsMissing, PrintsRun, PrintedRun, PrintedAccepted, IsComplete, IsQuiet, IsUntouched}
 use Rattle.ccbox_call.specs.Answers as answers
+use Rattle.ccbox_call.specs.PrintedCode.{PrintedCode}
 use Rattle.ccbox_call.specs.Calls.{StatusCounts, Gives, answered, output_failed, files_failed, no_memory, no_memory_behind, CallEnds, usage, asked}
 use Rattle.ccbox_call.proofs.OneAnswer.{one_answer}
+use Rattle.ccbox_call.proofs.PrintedCode.{parts_kept, spells_alone, kept_code, does_as}
 use Rattle.ccbox_call.proofs.Runs.{ends_over, view_over, view_before_over}
 
 -- ---- from what is asked for to its Answer
@@ -31,11 +37,18 @@ pub run_answer : (files : Files) (words : List (List ℕ)) (options : Options) (
 run_answer files words options list c ending s a runs =
     answers.asked (Run a.asks.name options) a.asks.request (source a.src a.asks.there (accepted c a.accepted (acts list a.acts (ran ending s runs))))
 
-refused_answer : (files : Files) (words : List (List ℕ)) (options : Options) (src : List ℕ) (fault : SourceFault) → AsksToRun files words options src → IsRefused src fault → (text : List ℕ) × Answer files words text 1
-refused_answer files words options src fault a r = (_, answers.asked (Run a.name options) a.request (source src a.there (refused fault r)))
+-- so has the line of an accepted source, and the listing of its code
+check_answer : (files : Files) (words : List (List ℕ)) (name : List ℕ) (c : Core) → AsksOf files words (requests.Check name) c → Answer files words accepted_text 0
+check_answer files words name c a = answers.asked (requests.Check name) a.asks.spelled (source a.src a.asks.there (accepted c a.accepted says_so))
+
+split_answer : (files : Files) (words : List (List ℕ)) (name : List ℕ) (c : Core) → AsksOf files words (requests.Split name) c → Answer files words (listing (image_of (inserted c))) 0
+split_answer files words name c a = answers.asked (requests.Split name) a.asks.spelled (source a.src a.asks.there (accepted c a.accepted lists))
+
+refused_answer : (files : Files) (words : List (List ℕ)) (request : Request) (src : List ℕ) (fault : SourceFault) → AsksAbout files words request src → IsRefused src fault → (text : List ℕ) × Answer files words text 1
+refused_answer files words request src fault a r = (_, answers.asked request a.spelled (source src a.there (refused fault r)))
 
 missing_answer : (files : Files) (words : List (List ℕ)) → FileIsMissing files words → (text : List ℕ) × Answer files words text 3
-missing_answer files words (inl m) = (missing_text m.0, answers.asked (Run m.0 m.1) m.2 (missing m.3))
+missing_answer files words (inl m) = (missing_text (file_of m.0), answers.asked m.0 m.1 (missing m.2))
 missing_answer files words (inr m) =
     let a = m.4 in
     (missing_text m.0, answers.asked (Run a.name m.1) a.request (source m.2 a.there (accepted m.3 m.5 (acts_missing m.0 m.6 m.7))))
@@ -46,24 +59,35 @@ missing_answer files words (inr m) =
 abbrev Cause : Files → List (List ℕ) → ℕ → Type 0
 Cause files words n =
     ((n ≡ 1) × SourceIsRefused files words) ⊎ (((n ≡ 3) × FileIsMissing files words) ⊎ (((n ≡ 2) × (request_of words ≡ None))
-    ⊎ ((needed : Option RefusedLine) × (ending : Ending) × (n ≡ status_with needed ending) × RunEndsWith files words needed ending)))
+    ⊎ (((n ≡ 0) × (SourceIsChecked files words ⊎ CodeIsListed files words)) ⊎ ((needed : Option RefusedLine) × (ending : Ending) × (n ≡ status_with needed ending) × RunEndsWith files words needed ending))))
 
 core_cause : (files : Files) (words : List (List ℕ)) (options : Options) (src : List ℕ) (c : Core) → AsksToRun files words options src → Accepts src c → {text : List ℕ} {n : ℕ} → CoreAnswer files options c text n → Cause files words n
 core_cause files words options src c asks is (acts_missing name e none) = inr (inl (refl, inr (name, options, src, c, asks, is, e, none)))
 core_cause files words options src c asks is (acts list there (ran ending s runs)) =
-    inr (inr (inr (needed_line list s.world.events, ending, refl, (options, list, c, s, record { src = src; asks = asks; accepted = is; acts = there }, runs, refl))))
+    inr (inr (inr (inr (needed_line list s.world.events, ending, refl, (options, list, c, s, record { src = src; asks = asks; accepted = is; acts = there }, runs, refl)))))
 
-source_cause : (files : Files) (words : List (List ℕ)) (options : Options) (src : List ℕ) → AsksToRun files words options src → {text : List ℕ} {n : ℕ} → SourceAnswer files options src text n → Cause files words n
-source_cause files words options src asks (refused fault r) = inl (refl, (options, src, fault, asks, r))
-source_cause files words options src asks (accepted c is a) = core_cause files words options src c asks is a
+check_cause : (files : Files) (words : List (List ℕ)) (name : List ℕ) (c : Core) → AsksOf files words (requests.Check name) c → {text : List ℕ} {n : ℕ} → CheckAnswer text n → Cause files words n
+check_cause files words name c a says_so = inr (inr (inr (inl (refl, inl (name, c, a)))))
 
-file_cause : (files : Files) (words : List (List ℕ)) (options : Options) (name : List ℕ) → request_of words ≡ Some (Run name options) → {text : List ℕ} {n : ℕ} → FileAnswer files options name text n → Cause files words n
-file_cause files words options name asks (missing none) = inr (inl (refl, inl (name, options, asks, none)))
-file_cause files words options name asks (source src there a) = source_cause files words options src (record { name = name; request = asks; there = there }) a
+split_cause : (files : Files) (words : List (List ℕ)) (name : List ℕ) (c : Core) → AsksOf files words (requests.Split name) c → {text : List ℕ} {n : ℕ} → SplitAnswer c text n → Cause files words n
+split_cause files words name c a lists = inr (inr (inr (inl (refl, inr (name, c, a)))))
+
+asked_cause : (files : Files) (words : List (List ℕ)) (request : Request) (src : List ℕ) (c : Core) → AsksAbout files words request src → Accepts src c → (text : List ℕ) (n : ℕ) → AskedOf files request c text n → Cause files words n
+asked_cause files words (requests.Check name) src c asks is text n a = check_cause files words name c (record { src = src; asks = asks; accepted = is }) a
+asked_cause files words (requests.Split name) src c asks is text n a = split_cause files words name c (record { src = src; asks = asks; accepted = is }) a
+asked_cause files words (Run name options) src c asks is text n a = core_cause files words options src c (record { name = name; request = asks.spelled; there = asks.there }) is a
+
+source_cause : (files : Files) (words : List (List ℕ)) (request : Request) (src : List ℕ) → AsksAbout files words request src → {text : List ℕ} {n : ℕ} → SourceAnswer (AskedOf files request) src text n → Cause files words n
+source_cause files words request src asks (refused fault r) = inl (refl, (request, src, fault, asks, r))
+source_cause files words request src asks (accepted c is a) = asked_cause files words request src c asks is _ _ a
+
+file_cause : (files : Files) (words : List (List ℕ)) (request : Request) → request_of words ≡ Some request → {text : List ℕ} {n : ℕ} → RequestAnswer files request text n → Cause files words n
+file_cause files words request e (missing none) = inr (inl (refl, inl (request, e, none)))
+file_cause files words request e (source src there a) = source_cause files words request src (record { spelled = e; there = there }) a
 
 cause : (files : Files) (words : List (List ℕ)) {text : List ℕ} {n : ℕ} → Answer files words text n → Cause files words n
 cause files words (answers.usage e) = inr (inr (inl (refl, e)))
-cause files words (answers.asked (Run name options) e a) = file_cause files words options name e a
+cause files words (answers.asked request e a) = file_cause files words request e a
 
 -- the status of a run tells which line it needed, and how it ended
 data StatusOf : ℕ → Option RefusedLine → Ending → Type 0 where
@@ -103,14 +127,15 @@ line_from files words _ _ _ (stop code act) e r = absurd (omega arith)
 line_from files words _ _ _ (refusal needed ending) e r = (needed, ending, r)
 
 -- a status that only runs have comes with a run
-of_run : (files : Files) (words : List (List ℕ)) (n : ℕ) (P : Type 0) → (n ≡ 1 → ⊥) → (n ≡ 2 → ⊥) → (n ≡ 3 → ⊥) → ((needed : Option RefusedLine) (ending : Ending) → StatusOf n needed ending → RunEndsWith files words needed ending → P) → (text : List ℕ) → Answer files words text n → P
-of_run files words n P one two three take_run text a = by (cause files words a)
+of_run : (files : Files) (words : List (List ℕ)) (n : ℕ) (P : Type 0) → (n ≡ 1 → ⊥) → (n ≡ 2 → ⊥) → (n ≡ 3 → ⊥) → (n ≡ 0 → SourceIsChecked files words ⊎ CodeIsListed files words → P) → ((needed : Option RefusedLine) (ending : Ending) → StatusOf n needed ending → RunEndsWith files words needed ending → P) → (text : List ℕ) → Answer files words text n → P
+of_run files words n P one two three done take_run text a = by (cause files words a)
   where
     by : Cause files words n → P
     by (inl x) = absurd (one x.0)
     by (inr (inl x)) = absurd (three x.0)
     by (inr (inr (inl x))) = absurd (two x.0)
-    by (inr (inr (inr x))) = take_run x.0 x.1 (subst (λ m. StatusOf m x.0 x.1) (sym x.2) (status_of_run x.0 x.1)) x.3
+    by (inr (inr (inr (inl x)))) = done x.0 x.1
+    by (inr (inr (inr (inr x)))) = take_run x.0 x.1 (subst (λ m. StatusOf m x.0 x.1) (sym x.2) (status_of_run x.0 x.1)) x.3
 
 -- no run has the status 1 or 3
 no_run : (n : ℕ) (needed : Option RefusedLine) (ending : Ending) → StatusOf n needed ending → (n ≢ 1) × (n ≢ 3)
@@ -126,7 +151,8 @@ refused_from files words text a = by (cause files words a)
     by (inl x) = x.1
     by (inr (inl x)) = absurd (omega (arith, x.0))
     by (inr (inr (inl x))) = absurd (omega (arith, x.0))
-    by (inr (inr (inr x))) = absurd ((no_run (status_with x.0 x.1) x.0 x.1 (status_of_run x.0 x.1)).0 (sym x.2))
+    by (inr (inr (inr (inl x)))) = absurd (omega (arith, x.0))
+    by (inr (inr (inr (inr x)))) = absurd ((no_run (status_with x.0 x.1) x.0 x.1 (status_of_run x.0 x.1)).0 (sym x.2))
 
 missing_from : (files : Files) (words : List (List ℕ)) (text : List ℕ) → Answer files words text 3 → FileIsMissing files words
 missing_from files words text a = by (cause files words a)
@@ -135,14 +161,15 @@ missing_from files words text a = by (cause files words a)
     by (inl x) = absurd (omega (arith, x.0))
     by (inr (inl x)) = x.1
     by (inr (inr (inl x))) = absurd (omega (arith, x.0))
-    by (inr (inr (inr x))) = absurd ((no_run (status_with x.0 x.1) x.0 x.1 (status_of_run x.0 x.1)).1 (sym x.2))
+    by (inr (inr (inr (inl x)))) = absurd (omega (arith, x.0))
+    by (inr (inr (inr (inr x)))) = absurd ((no_run (status_with x.0 x.1) x.0 x.1 (status_of_run x.0 x.1)).1 (sym x.2))
 
 -- ---- the end of a call
 
 module _ (words : List (List ℕ)) (told : Option Files) (old new : Option (List ℕ)) (before after : Counts) where
   -- what is given to a request is an Answer
-  abbrev IsTold : List ℕ → Options → List ℕ → ℕ → Type 0
-  IsTold name options text status = Told told (λ files. FileAnswer files options name text status)
+  abbrev IsTold : Request → List ℕ → ℕ → Type 0
+  IsTold request text status = Told told (λ files. RequestAnswer files request text status)
 
   module _ (files : Files) (tells : told ≡ Some files) where
     -- how a call ends where the files are told
@@ -159,16 +186,16 @@ module _ (words : List (List ℕ)) (told : Option Files) (old new : Option (List
     settled_line result e (given x) = settled_text usage_text 2 result (answers.usage e) x
     settled_line result e (unmade is same still) = nothing result same (inr (inr is))
 
-    settled_gives : (name : List ℕ) (options : Options) (result : ℕ) → request_of words ≡ Some (Run name options) → Gives (IsTold name options) old new before after result → Settled result
-    settled_gives name options _ e (answered text status is counts whole sink) = whole_answer text status (answers.asked (Run name options) e (is files tells)) whole
-    settled_gives name options _ e (output_failed text status k is more faults le front sink) = front_answer text status k 5 (answers.asked (Run name options) e (is files tells)) le front (inr (inl refl))
-    settled_gives name options _ e (files_failed same misses faults sink) = nothing 4 same (inl refl)
-    settled_gives name options _ e (no_memory same misses faults sink) = nothing 9 same (inr (inr refl))
-    settled_gives name options _ e (no_memory_behind text status k is le front misses faults sink) = front_answer text status k 9 (answers.asked (Run name options) e (is files tells)) (omega (arith, le)) front (inr (inr refl))
+    settled_gives : (request : Request) (result : ℕ) → request_of words ≡ Some request → Gives (IsTold request) old new before after result → Settled result
+    settled_gives request _ e (answered text status is counts whole sink) = whole_answer text status (answers.asked request e (is files tells)) whole
+    settled_gives request _ e (output_failed text status k is more faults le front sink) = front_answer text status k 5 (answers.asked request e (is files tells)) le front (inr (inl refl))
+    settled_gives request _ e (files_failed same misses faults sink) = nothing 4 same (inl refl)
+    settled_gives request _ e (no_memory same misses faults sink) = nothing 9 same (inr (inr refl))
+    settled_gives request _ e (no_memory_behind text status k is le front misses faults sink) = front_answer text status k 9 (answers.asked request e (is files tells)) (omega (arith, le)) front (inr (inr refl))
 
     settled : (result : ℕ) → CallEnds words told old new before after result → Settled result
     settled result (usage e line misses faults) = settled_line result e line
-    settled result (asked (Run name options) e gives) = settled_gives name options result e gives
+    settled result (asked request e gives) = settled_gives request result e gives
 
     front_of : (result : ℕ) → Settled result → GivesFront files words old new
     front_of _ (whole_answer text status b is) t n a =
@@ -210,18 +237,18 @@ module _ (words : List (List ℕ)) (told : Option Files) (old new : Option (List
     found_safe : (status : ℕ) → StatusCounts status before after → (status ≡ 4) ⊎ (status ≡ 9) → ⊥
     found_safe status counts fails = omega (arith, counts.1, fails)
 
-    cut_gives : (name : List ℕ) (options : Options) (result : ℕ) → request_of words ≡ Some (Run name options) → Gives (IsTold name options) old new before after result → Cut result
-    cut_gives name options _ e (answered text status is counts whole sink) fails = absurd (found_safe status counts fails)
-    cut_gives name options _ e (output_failed text status k is more faults le front sink) fails = absurd (omega (arith, fails))
-    cut_gives name options _ e (files_failed same misses faults sink) fails = inl same
-    cut_gives name options _ e (no_memory same misses faults sink) fails = inl same
-    cut_gives name options _ e (no_memory_behind text status k is le front misses faults sink) fails = inr (λ t n a.
-        let same = one_answer files words (answers.asked (Run name options) e (is files tells)) a in
+    cut_gives : (request : Request) (result : ℕ) → request_of words ≡ Some request → Gives (IsTold request) old new before after result → Cut result
+    cut_gives request _ e (answered text status is counts whole sink) fails = absurd (found_safe status counts fails)
+    cut_gives request _ e (output_failed text status k is more faults le front sink) fails = absurd (omega (arith, fails))
+    cut_gives request _ e (files_failed same misses faults sink) fails = inl same
+    cut_gives request _ e (no_memory same misses faults sink) fails = inl same
+    cut_gives request _ e (no_memory_behind text status k is le front misses faults sink) fails = inr (λ t n a.
+        let same = one_answer files words (answers.asked request e (is files tells)) a in
         (k, omega (arith, le, ap length same.text), front ∙ ap (λ (x : List ℕ). grown old (take k x)) same.text))
 
     pub cut_short : (result : ℕ) → CallEnds words told old new before after result → Cut result
     cut_short result (usage e line misses faults) = cut_usage result line
-    cut_short result (asked (Run name options) e gives) = cut_gives name options result e gives
+    cut_short result (asked request e gives) = cut_gives request result e gives
 
     pub printed_run : (result : ℕ) → CallEnds words told old new before after result → PrintedRun files words old new result
     printed_run result h options list c a =
@@ -241,21 +268,39 @@ module _ (words : List (List ℕ)) (told : Option Files) (old new : Option (List
     memory_alone result (usage e (given (all is same)) misses faults) files_quiet sink_quiet fails = absurd (omega arith)
     memory_alone result (usage e (given (failed k le is rises)) misses faults) files_quiet sink_quiet fails = absurd (sink_quiet rises.rose)
     memory_alone result (usage e (unmade is same still) misses faults) files_quiet sink_quiet fails = is
-    memory_alone result (asked (Run name options) e gives) files_quiet sink_quiet fails = by result gives fails
+    memory_alone result (asked request e gives) files_quiet sink_quiet fails = by result gives fails
       where
         found : (status : ℕ) → StatusCounts status before after → IsFailure status → status ≡ 9
         found status counts f = absurd (omega (arith, counts.1, f))
 
-        by : (n : ℕ) → Gives (IsTold name options) old new before after n → IsFailure n → n ≡ 9
+        by : (n : ℕ) → Gives (IsTold request) old new before after n → IsFailure n → n ≡ 9
         by _ (answered text status is counts whole sink) f = found status counts f
         by _ (output_failed text status k is more faults le front sink) f = absurd (sink_quiet sink.rose)
         by _ (files_failed same misses faults sink) f = absurd (files_quiet faults.rose)
         by _ (no_memory same misses faults sink) f = refl
         by _ (no_memory_behind text status k is le front misses faults sink) f = refl
 
+    -- the line of an accepted source
+    pub printed_accepted : (result : ℕ) → CallEnds words told old new before after result → PrintedAccepted files words old new result
+    printed_accepted result h name c a = is_given result (settled result h) (check_answer files words name c a)
+
+    -- and the listing of its code
+    pub printed_code : (result : ℕ) → CallEnds words told old new before after result → PrintedCode files words old new result
+    printed_code result h name c a =
+        let is : IsAcceptedCore c = (a.src, a.accepted) in
+        let keeps = kept_code c is in
+        record {
+          image = image_of (inserted c);
+          fits = keeps.fits;
+          format = keeps.format;
+          spells = spells_alone (image_of (inserted c)) keeps.format;
+          parts = parts_kept c;
+          does = does_as c is;
+          printed = is_given result (settled result h) (split_answer files words name c a);
+        }
+
     pub complete : (result : ℕ) → CallEnds words told old new before after result → IsQuiet before.faults after.faults → IsQuiet before.sink after.sink → IsComplete files words old new result
-    complete result h files_quiet sink_quiet options list c ending s a runs =
-        ⊎_elim inl (λ fails. inr (memory_alone result h files_quiet sink_quiet fails)) (is_given result (settled result h) (run_answer files words options list c ending s a runs))
+    complete result h files_quiet sink_quiet text n a = ⊎_elim inl (λ fails. inr (memory_alone result h files_quiet sink_quiet fails)) (is_given result (settled result h) a)
 
     -- a status that is no failure has its Answer
     answer_of : (result n : ℕ) → CallEnds words told old new before after result → result ≡ n → (IsFailure n → ⊥) → (text : List ℕ) × Answer files words text n
@@ -278,28 +323,33 @@ module _ (words : List (List ℕ)) (told : Option Files) (old new : Option (List
     safe n a b c (inr (inl e)) = b e
     safe n a b c (inr (inr e)) = c e
 
-    pub exits : (result : ℕ) → CallEnds words told old new before after result → Exactly 0 result (RunExits files words)
-    exits result h =
-        exactly 0 result (RunExits files words) h (safe 0 (omega arith) (omega arith) (omega arith))
-        (of_run files words 0 (RunExits files words) (omega arith) (omega arith) (omega arith) (λ needed ending status r. exit_from files words 0 needed ending status refl r))
-        (λ p. run_ended None (Exit p.0) 0 refl p.1)
+    success_answer : Succeeds files words → (text : List ℕ) × Answer files words text 0
+    success_answer (inl p) = run_ended None (Exit p.0) 0 refl p.1
+    success_answer (inr (inl p)) = (accepted_text, check_answer files words p.0 p.1 p.2)
+    success_answer (inr (inr p)) = (listing (image_of (inserted p.1)), split_answer files words p.0 p.1 p.2)
+
+    pub succeeds : (result : ℕ) → CallEnds words told old new before after result → Exactly 0 result (Succeeds files words)
+    succeeds result h =
+        exactly 0 result (Succeeds files words) h (safe 0 (omega arith) (omega arith) (omega arith))
+        (of_run files words 0 (Succeeds files words) (omega arith) (omega arith) (omega arith) (λ zero d. inr d) (λ needed ending status r. inl (exit_from files words 0 needed ending status refl r)))
+        success_answer
 
     pub checks : (result : ℕ) → CallEnds words told old new before after result → Exactly 6 result (CheckFails files words)
     checks result h =
         exactly 6 result (CheckFails files words) h (safe 6 (omega arith) (omega arith) (omega arith))
-        (of_run files words 6 (CheckFails files words) (omega arith) (omega arith) (omega arith) (λ needed ending status r. check_from files words 6 needed ending status refl r))
+        (of_run files words 6 (CheckFails files words) (omega arith) (omega arith) (omega arith) (λ zero d. absurd (omega arith)) (λ needed ending status r. check_from files words 6 needed ending status refl r))
         (λ p. run_ended None (Check p.0 p.1) 6 refl p.2)
 
     pub stops : (result : ℕ) → CallEnds words told old new before after result → Exactly 7 result (RunStops files words)
     stops result h =
         exactly 7 result (RunStops files words) h (safe 7 (omega arith) (omega arith) (omega arith))
-        (of_run files words 7 (RunStops files words) (omega arith) (omega arith) (omega arith) (λ needed ending status r. stop_from files words 7 needed ending status refl r))
+        (of_run files words 7 (RunStops files words) (omega arith) (omega arith) (omega arith) (λ zero d. absurd (omega arith)) (λ needed ending status r. stop_from files words 7 needed ending status refl r))
         (λ p. run_ended None (Stop p.0 p.1) 7 refl p.2)
 
     pub acts_refused : (result : ℕ) → CallEnds words told old new before after result → Exactly 8 result (LineIsRefused files words)
     acts_refused result h =
         exactly 8 result (LineIsRefused files words) h (safe 8 (omega arith) (omega arith) (omega arith))
-        (of_run files words 8 (LineIsRefused files words) (omega arith) (omega arith) (omega arith) (λ needed ending status r. line_from files words 8 needed ending status refl r))
+        (of_run files words 8 (LineIsRefused files words) (omega arith) (omega arith) (omega arith) (λ zero d. absurd (omega arith)) (λ needed ending status r. line_from files words 8 needed ending status refl r))
         (λ p. run_ended (Some p.0) p.1 8 refl p.2)
 
     pub refuses : (result : ℕ) → CallEnds words told old new before after result → Exactly 1 result (SourceIsRefused files words)
@@ -315,15 +365,15 @@ module _ (words : List (List ℕ)) (told : Option Files) (old new : Option (List
   -- words that spell no request touch no file
   pub untouched : (result : ℕ) → CallEnds words told old new before after result → request_of words ≡ None → IsUntouched before.misses after.misses before.faults after.faults
   untouched result (usage e line still quiet) none = record { misses_stay = still; faults_stay = quiet }
-  untouched result (asked (Run name options) e gives) none = absurd (cc)
+  untouched result (asked request e gives) none = absurd (cc)
 
   -- they get the line of usage
   pub usage_line : (result : ℕ) → CallEnds words told old new before after result → request_of words ≡ None → LineGiven usage_text 2 old new before.sink after.sink result
   usage_line result (usage e line still quiet) none = line
-  usage_line result (asked (Run name options) e gives) none = absurd (cc)
+  usage_line result (asked request e gives) none = absurd (cc)
 
   -- words of a call whose memory ran out before anything was read
   pub unmade_ends : (o : Option Request) → request_of words ≡ o → new ≡ old → after ≡ before → CallEnds words told old new before after 9
   unmade_ends None e same still = usage e (unmade refl same (ap (λ (c : Counts). c.sink) still)) (ap (λ (c : Counts). c.misses) still) (ap (λ (c : Counts). c.faults) still)
-  unmade_ends (Some (Run name options)) e same still =
-      asked (Run name options) e (no_memory same (subst (λ (c : Counts). before.misses ≤ c.misses) (sym still) (omega arith)) (ap (λ (c : Counts). c.faults) still) (ap (λ (c : Counts). c.sink) still))
+  unmade_ends (Some request) e same still =
+      asked request e (no_memory same (subst (λ (c : Counts). before.misses ≤ c.misses) (sym still) (omega arith)) (ap (λ (c : Counts). c.faults) still) (ap (λ (c : Counts). c.sink) still))

@@ -11,7 +11,7 @@ use Rattle.ckc_text.specs.declared.fault.SourceFault.{SourceFault}
 use Rattle.ckc_text.specs.Places.{place_at}
 use Rattle.ckc_lexer.specs.Tokens.{great, fault_at}
 use Rattle.ckc_io.specs.Counts.{Rises}
-use Rattle.ckc_io.specs.Files.{Files, Told}
+use Rattle.ckc_io.specs.Files.{Files, Told, file_at}
 use Rattle.ckc_io.specs.Written.{grown}
 use Rattle.ckc_io.proofs.Fronts.{grown-grown}
 use Rattle.act_words.specs.declared.ending.Ending.{Ending}
@@ -20,7 +20,8 @@ use Rattle.act_words.specs.declared.settings.Settings.{Settings}
 use Rattle.act_words.specs.Acts.{IsAct}
 use Rattle.act_words.specs.Checks.{is_word_number}
 use Rattle.act_words.specs.Limits.{AreAllowed}
-use Rattle.ckc_core.specs.Core.{Core}
+use Rattle.ckc_core.specs.declared.program as code
+use Rattle.ckc_core.specs.Core.{Core, core}
 use Rattle.sandbox_actor.specs.ActLists.{ActList}
 use Rattle.code_words.specs.declared.image.Image.{Image}
 use Rattle.lowering_code.specs.Correct.{KeepsMeaning}
@@ -30,11 +31,12 @@ use Rattle.run_core.specs.Runs.{Outcome, Ends, LineRefused, FileMissing, Comes, 
 use Rattle.act_recorder.specs.Diagnostics.{refused_text, act_refused_text}
 use Rattle.ccbox_call_words.specs.Statuses.{status_of}
 use Rattle.ccbox_call_words.specs.Given.{all, failed, LineGiven, given, unmade, OutcomeGiven}
-use Rattle.ccbox_call_words.specs.Requests.{Options, settings_of, inputs_of}
+use Rattle.ccbox_call_words.specs.declared.status.Status.{Status}
+use Rattle.ccbox_call_words.specs.Requests.{Request, Options, file_of, settings_of, inputs_of}
 use Rattle.check_insertion.specs.Insert.{inserted}
-use Rattle.ccbox_call.specs.Acceptance.{IsAcceptedCore, no_tokens}
-use Rattle.ccbox_call.specs.Answers.{acts_at, ListAnswer, CoreAnswer, acts, SourceAnswer, refused, accepted}
-use Rattle.ccbox_call.specs.Calls.{IsFoundStatus, StatusCounts, Gives, answered, output_failed, files_failed, no_memory, no_memory_behind}
+use Rattle.ccbox_call.specs.Acceptance.{Accepts, IsAcceptedCore, no_tokens}
+use Rattle.ccbox_call.specs.Answers.{acts_at, ListAnswer, CoreAnswer, acts, SourceAnswer, refused, accepted, missing, source, AskedOf, RequestAnswer}
+use Rattle.ccbox_call.specs.Calls.{IsFoundStatus, StatusCounts, Gives, answered, output_failed, files_failed, no_memory, no_memory_behind, RefusedAnswer, NoCoreAnswer, IsFileOf, SourceRead, ProgramRead}
 use Rattle.ccbox_call.proofs.Fronts.{core_or_fault, one_refusal}
 use Rattle.ccbox_call.proofs.ListRuns.{FromList, Answers, whole, front, answers}
 
@@ -163,16 +165,68 @@ short_file : (file : List ℕ) → length file ≤ 1048576 → take 1048577 file
 short_file file short = take_all 1048577 file (omega arith)
 
 -- a longer file is refused as what was read of it is
-long_file : (files : Files) (options : Options) (file : List ℕ) → 1048576 < length file → {text : List ℕ} {status : ℕ} → SourceAnswer files options (take 1048577 file) text status → SourceAnswer files options file text status
-long_file files options file long (refused fault r) =
+long_file : (file : List ℕ) → 1048576 < length file → {text : List ℕ} {status : ℕ} → RefusedAnswer (take 1048577 file) text status → RefusedAnswer file text status
+long_file file long (refused fault r) =
     let front = take 1048577 file in
     let same : fault ≡ fault_at E08 0 = one_refusal r (no_tokens (great (omega (arith, length-take 1048577 file, long)))) in
-    subst (λ (f : SourceFault). SourceAnswer files options file (refused_text f.code (place_at front f.span.from)) 1) (sym same) (refused (fault_at E08 0) (no_tokens (great long)))
-long_file files options file long (accepted c a x) = absurd (core_or_fault a (no_tokens (great (omega (arith, length-take 1048577 file, long)))))
+    subst (λ (f : SourceFault). RefusedAnswer file (refused_text f.code (place_at front f.span.from)) 1) (sym same) (refused (fault_at E08 0) (no_tokens (great long)))
+long_file file long (accepted c a x) = absurd x
 
-pub whole_file : (files : Files) (options : Options) (file : List ℕ) {text : List ℕ} {status : ℕ} → SourceAnswer files options (take 1048577 file) text status → SourceAnswer files options file text status
-whole_file files options file {text} {status} a = by_test (nat_lt 1048576 (length file)) refl
+-- and isn't accepted
+long_core : (file : List ℕ) (c : Core) → 1048576 < length file → Accepts (take 1048577 file) c → ⊥
+long_core file c long a = core_or_fault a (no_tokens (great (omega (arith, length-take 1048577 file, long))))
+
+whole_file : (file : List ℕ) {text : List ℕ} {status : ℕ} → RefusedAnswer (take 1048577 file) text status → RefusedAnswer file text status
+whole_file file {text} {status} a = by_test (nat_lt 1048576 (length file)) refl
   where
-    by_test : (b : Bool) → nat_lt 1048576 (length file) ≡ b → SourceAnswer files options file text status
-    by_test true long = long_file files options file (ltb-true 1048576 (length file) long) a
-    by_test false short = subst (λ f. SourceAnswer files options f text status) (short_file file (ltb-false 1048576 (length file) short)) a
+    by_test : (b : Bool) → nat_lt 1048576 (length file) ≡ b → RefusedAnswer file text status
+    by_test true long = long_file file (ltb-true 1048576 (length file) long) a
+    by_test false short = subst (λ f. RefusedAnswer f text status) (short_file file (ltb-false 1048576 (length file) short)) a
+
+whole_core : (file : List ℕ) (c : Core) → Accepts (take 1048577 file) c → Accepts file c
+whole_core file c a = by_test (nat_lt 1048576 (length file)) refl
+  where
+    by_test : (b : Bool) → nat_lt 1048576 (length file) ≡ b → Accepts file c
+    by_test true long = absurd (long_core file c (ltb-true 1048576 (length file) long) a)
+    by_test false short = subst (λ f. Accepts f c) (short_file file (ltb-false 1048576 (length file) short)) a
+
+-- what is read of a file: its bytes, up to a limit
+abbrev IsRead : Option Files → List ℕ → List ℕ → Type 0
+IsRead told name src = Told told (λ files. (file : List ℕ) × (file_at files name ≡ Some file) × (src ≡ take 1048577 file))
+
+-- a source that was read of a file has come to what the file comes to
+pub file_read : (told : Option Files) (name src read : List ℕ) (old new : Option (List ℕ)) (m m' f f' k k' : ℕ) → m' ≡ m → f' ≡ f → src ≡ read → IsRead told name read → (result : Result code.Core.Core Status) → SourceRead src old new k k' result →
+    ProgramRead told name old new (record { misses = m; faults = f; sink = k }) (record { misses = m'; faults = f'; sink = k' }) result
+file_read told name src read old new m m' f f' k k' same_misses same_faults is content (Ok program) h =
+    ((src, h.0), λ files tells. let x = content files tells in (x.0, x.1, whole_core x.0 (core program) (subst (λ s. Accepts s (core program)) (is ∙ x.2) h.0)), h.1, rw (same_misses, same_faults, h.2) refl)
+file_read told name src read old new m m' f f' k k' same_misses same_faults is content (Err status) h =
+    rw (same_misses, same_faults)
+    (gives_as (λ text n a files tells. let x = content files tells in in_file files name x.0 x.1 (whole_file x.0 (subst (λ s. RefusedAnswer s text n) (is ∙ x.2) a))) (h m f))
+  where
+    in_file : (files : Files) (name file : List ℕ) → file_at files name ≡ Some file → {text : List ℕ} {n : ℕ} → RefusedAnswer file text n → NoCoreAnswer files name text n
+    in_file files name file there a = source file there a
+
+-- ---- from a core to what is asked about its file
+
+-- a source and a file without a core have the same answer whatever is asked
+refused_alone : (src : List ℕ) (Of : Core → List ℕ → ℕ → Type 0) {text : List ℕ} {n : ℕ} → RefusedAnswer src text n → SourceAnswer Of src text n
+refused_alone src Of (refused fault r) = refused fault r
+refused_alone src Of (accepted c a x) = absurd x
+
+without_core : (files : Files) (request : Request) {text : List ℕ} {n : ℕ} → NoCoreAnswer files (file_of request) text n → RequestAnswer files request text n
+without_core files request (missing none) = missing none
+without_core files request (source src there a) = source src there (refused_alone src (AskedOf files request) a)
+
+pub no_core_gives : (told : Option Files) (request : Request) {old new : Option (List ℕ)} {before after : Counts} {result : ℕ} → Gives (λ text n. Told told (λ files. NoCoreAnswer files (file_of request) text n)) old new before after result → Gives (λ text n. Told told (λ files. RequestAnswer files request text n)) old new before after result
+no_core_gives told request h = gives_as (λ text n a files tells. without_core files request (a files tells)) h
+
+-- what is given of a core behind the reading of its file is given of the file
+pub gives_behind : (told : Option Files) (request : Request) (c : Core) {Is : List ℕ → ℕ → Type 0} {old mid new : Option (List ℕ)} {before between after : Counts} {result : ℕ} → Told told (λ files. IsFileOf files (file_of request) c) → mid ≡ old → between ≡ before →
+    ((text : List ℕ) (n : ℕ) → Is text n → Told told (λ files. AskedOf files request c text n)) → Gives Is mid new between after result → Gives (λ text n. Told told (λ files. RequestAnswer files request text n)) old new before after result
+gives_behind told request c {Is} {old} {mid} {new} {before} {between} {after} {result} there same still turn h =
+    gives_as (λ text n a files tells. let f = there files tells in source f.0 f.1 (accepted c f.2 (turn text n a files tells)))
+    (gives_from still (subst (λ o. Gives Is o new between after result) same h))
+
+-- a text that is an answer with the status 0
+pub done_gives : {Is : List ℕ → ℕ → Type 0} {old new : Option (List ℕ)} {m f k k' result : ℕ} (text : List ℕ) → Is text 0 → LineGiven text 0 old new k k' result → Gives Is old new (record { misses = m; faults = f; sink = k }) (record { misses = m; faults = f; sink = k' }) result
+done_gives text is h = line_gives text 0 is (refl, inr (inl refl, refl)) (omega arith) h

@@ -3,6 +3,7 @@ pub mod OneAnswer
 pub mod Sized
 pub mod Lowering
 pub mod Runs
+pub mod PrintedCode
 pub mod ListRuns
 pub mod Giving
 pub mod Calls

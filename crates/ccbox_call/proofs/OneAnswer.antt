@@ -9,9 +9,10 @@ use Rattle.ckc_core.specs.Outcome.{Outcome, Ends}
 use Rattle.ckc_core.specs.Core.{Core}
 use Rattle.ckc_core.specs.States.{State}
 use Rattle.sandbox_actor.specs.ActLists.{ActList, acts_of_file}
-use Rattle.ccbox_call_words.specs.Requests.{Run, Options, settings_of, inputs_of, request_of}
+use Rattle.ccbox_call_words.specs.Requests.{Request, Run, Options, file_of, settings_of, inputs_of}
+use Rattle.ccbox_call_words.specs.Requests as requests
 use Rattle.act_recorder.specs.Diagnostics.{missing_text, refused_text}
-use Rattle.ccbox_call.specs.Answers.{acts_at, RunsTo, needed_line, text_of, status_with, ListAnswer, ran, CoreAnswer, acts_missing, acts, SourceAnswer, refused, accepted, FileAnswer, missing, source, Answer, usage, asked}
+use Rattle.ccbox_call.specs.Answers.{acts_at, RunsTo, needed_line, text_of, status_with, ListAnswer, ran, CoreAnswer, acts_missing, acts, CheckAnswer, says_so, SplitAnswer, lists, SourceAnswer, refused, accepted, FileAnswer, missing, source, AskedOf, RequestAnswer, Answer, usage, asked}
 use Rattle.ccbox_call.proofs.Fronts.{one_core, core_or_fault, one_refusal}
 
 -- two texts and statuses that are the same
@@ -49,31 +50,40 @@ one_core_answer files options c {t} {u} {m} {n} (acts list there a) (acts other 
     let same : other ≡ list = cc in
     one_list c (settings_of options) (inputs_of options) list a (subst (λ l. ListAnswer c (settings_of options) (inputs_of options) l u n) same b)
 
-one_source_answer : (files : Files) (options : Options) (src : List ℕ) {t u : List ℕ} {m n : ℕ} → SourceAnswer files options src t m → SourceAnswer files options src u n → Same t u m n
-one_source_answer files options src (refused fault r) (refused other s) = record { text = ap (λ (f : SourceFault). refused_text f.code (place_at src f.span.from)) (one_refusal r s); status = refl }
-one_source_answer files options src (refused fault r) (accepted c a x) = absurd (core_or_fault a r)
-one_source_answer files options src (accepted c a x) (refused fault r) = absurd (core_or_fault a r)
-one_source_answer files options src {t} {u} {m} {n} (accepted c a x) (accepted d b y) =
-    one_core_answer files options c x (subst (λ z. CoreAnswer files options z u n) (one_core src d c b a) y)
+-- what is asked of a core has one answer
+abbrev HasOne : (Core → List ℕ → ℕ → Type 0) → Type 0
+HasOne Of = (c : Core) (t u : List ℕ) (m n : ℕ) → Of c t m → Of c u n → Same t u m n
 
-one_file_answer : (files : Files) (options : Options) (name : List ℕ) {t u : List ℕ} {m n : ℕ} → FileAnswer files options name t m → FileAnswer files options name u n → Same t u m n
-one_file_answer files options name (missing none) (missing none') = record { text = refl; status = refl }
-one_file_answer files options name (missing none) (source src there x) = absurd (cc)
-one_file_answer files options name (source src there x) (missing none) = absurd (cc)
-one_file_answer files options name {t} {u} {m} {n} (source src there x) (source other there' y) =
+one_source_answer : (Of : Core → List ℕ → ℕ → Type 0) (one : HasOne Of) (src : List ℕ) {t u : List ℕ} {m n : ℕ} → SourceAnswer Of src t m → SourceAnswer Of src u n → Same t u m n
+one_source_answer Of one src (refused fault r) (refused other s) = record { text = ap (λ (f : SourceFault). refused_text f.code (place_at src f.span.from)) (one_refusal r s); status = refl }
+one_source_answer Of one src (refused fault r) (accepted c a x) = absurd (core_or_fault a r)
+one_source_answer Of one src (accepted c a x) (refused fault r) = absurd (core_or_fault a r)
+one_source_answer Of one src {t} {u} {m} {n} (accepted c a x) (accepted d b y) =
+    one c t u m n x (subst (λ z. Of z u n) (one_core src d c b a) y)
+
+one_file_answer : (files : Files) (Of : Core → List ℕ → ℕ → Type 0) (one : HasOne Of) (name : List ℕ) {t u : List ℕ} {m n : ℕ} → FileAnswer files Of name t m → FileAnswer files Of name u n → Same t u m n
+one_file_answer files Of one name (missing none) (missing none') = record { text = refl; status = refl }
+one_file_answer files Of one name (missing none) (source src there x) = absurd (cc)
+one_file_answer files Of one name (source src there x) (missing none) = absurd (cc)
+one_file_answer files Of one name {t} {u} {m} {n} (source src there x) (source other there' y) =
     let same : other ≡ src = cc in
-    one_source_answer files options src x (subst (λ z. SourceAnswer files options z u n) same y)
+    one_source_answer Of one src x (subst (λ z. SourceAnswer Of z u n) same y)
 
--- one request is spelled
-pub one_request : (words : List (List ℕ)) (name other : List ℕ) (options options' : Options) → request_of words ≡ Some (Run name options) → request_of words ≡ Some (Run other options') → (name ≡ other) × (options ≡ options')
-one_request words name other options options' e f =
-    let same : Run name options ≡ Run other options' = cc in
-    (cc, cc)
+one_check : {t u : List ℕ} {m n : ℕ} → CheckAnswer t m → CheckAnswer u n → Same t u m n
+one_check says_so says_so = record { text = refl; status = refl }
+
+one_split : (c : Core) {t u : List ℕ} {m n : ℕ} → SplitAnswer c t m → SplitAnswer c u n → Same t u m n
+one_split c lists lists = record { text = refl; status = refl }
+
+one_asked : (files : Files) (request : Request) → HasOne (AskedOf files request)
+one_asked files (requests.Check name) c t u m n x y = one_check x y
+one_asked files (requests.Split name) c t u m n x y = one_split c x y
+one_asked files (Run name options) c t u m n x y = one_core_answer files options c x y
 
 pub one_answer : (files : Files) (words : List (List ℕ)) {t u : List ℕ} {m n : ℕ} → Answer files words t m → Answer files words u n → Same t u m n
 one_answer files words (usage e) (usage f) = record { text = refl; status = refl }
 one_answer files words (usage e) (asked request f x) = absurd (cc)
 one_answer files words (asked request e x) (usage f) = absurd (cc)
-one_answer files words {t} {u} {m} {n} (asked (Run name options) e x) (asked (Run other options') f y) =
-    let same = one_request words other name options' options f e in
-    one_file_answer files options name x (subst (λ z. FileAnswer files options z u n) same.0 (subst (λ o. FileAnswer files o other u n) same.1 y))
+one_answer files words {t} {u} {m} {n} (asked request e x) (asked other f y) =
+    let same : other ≡ request = cc in
+    one_file_answer files (AskedOf files request) (one_asked files request) (file_of request) x (subst (λ (r : Request). RequestAnswer files r u n) same y)

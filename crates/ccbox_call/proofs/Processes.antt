@@ -3,13 +3,13 @@ use Rattle.std.proofs.Common.{◌≡◌, ℕ, ◌⊎◌, inl, inr, ⊎_elim, Lis
 use Rattle.std.specs.String.{string_bytes}
 use Rattle.ckc_io.specs.Files.{Files}
 use Rattle.run_core.specs.Runs.{Counts}
-use Rattle.ccbox_call_words.specs.Requests.{Run, request_of}
+use Rattle.ccbox_call_words.specs.Requests.{request_of}
 use Rattle.act_recorder.specs.Diagnostics.{usage_text}
 use Rattle.ccbox_call_words.specs.Given.{all, failed, LineGiven, given, unmade}
 use Rattle.ccbox_call.specs.Answers.{IsFailure, IsStatus, Exactly, Tells}
 use Rattle.ccbox_call.specs.Calls.{IsFoundStatus, StatusCounts, Gives, answered, output_failed, files_failed, no_memory, no_memory_behind, CallEnds, usage, asked}
 use Rattle.ccbox_call.specs.Process.{Answers, IsUnmade, ProcessEnds}
-use Rattle.ccbox_call.proofs.Calls.{cut_short, front, whole, printed_run, complete, exits, refuses, misses, checks, stops, acts_refused, untouched, usage_line}
+use Rattle.ccbox_call.proofs.Calls.{cut_short, front, whole, printed_run, printed_accepted, printed_code, complete, succeeds, refuses, misses, checks, stops, acts_refused, untouched, usage_line}
 
 failure : (n : ℕ) → IsFailure n → IsStatus n
 failure n f = inr (inr (inr (inr (inr (inr (inr f))))))
@@ -41,7 +41,7 @@ module _ (words : List (List ℕ)) (told : Option Files) (old new : Option (List
   is_status : (n : ℕ) → CallEnds words told old new before after n → IsStatus n
   is_status n (usage e line still quiet) =
       elim (line_status n line) [ inl is ↦ inr (inr (inl is)) | inr is ↦ failure n (inr is) ]
-  is_status n (asked (Run name options) e gives) = gives_status n gives
+  is_status n (asked request e gives) = gives_status n gives
 
   no_usage : {Is : List ℕ → ℕ → Type 0} (n : ℕ) → Gives Is old new before after n → n ≡ 2 → ⊥
   no_usage _ (answered text status is counts written sink) two = omega (arith, counts.1, two)
@@ -56,7 +56,7 @@ module _ (words : List (List ℕ)) (told : Option Files) (old new : Option (List
     only = λ _. e;
     always = λ _. elim (line_status n line) [ inl is ↦ inl is | inr is ↦ inr (inr is) ];
   }
-  is_usage n (asked (Run name options) e gives) = record {
+  is_usage n (asked request e gives) = record {
     only = λ two. absurd (no_usage n gives two);
     always = λ none. absurd (cc);
   }
@@ -82,7 +82,7 @@ module _ (words : List (List ℕ)) (told : Option Files) (old new : Option (List
 
   tells_misses : (n : ℕ) → CallEnds words told old new before after n → Tells n 3 before.misses after.misses (AfterMiss n)
   tells_misses n (usage e line same quiet) = still n 3 before.misses after.misses (AfterMiss n) (λ three. omega (arith, line_status n line, three)) same
-  tells_misses n (asked (Run name options) e gives) = gives_misses n gives
+  tells_misses n (asked request e gives) = gives_misses n gives
 
   gives_faults : {Is : List ℕ → ℕ → Type 0} (n : ℕ) → Gives Is old new before after n → Tells n 4 before.faults after.faults (n ≡ 4)
   gives_faults _ (answered text status is counts written sink) = still status 4 before.faults after.faults (status ≡ 4) (λ four. omega (arith, counts.1, four)) counts.0
@@ -93,7 +93,7 @@ module _ (words : List (List ℕ)) (told : Option Files) (old new : Option (List
 
   tells_faults : (n : ℕ) → CallEnds words told old new before after n → Tells n 4 before.faults after.faults (n ≡ 4)
   tells_faults n (usage e line same quiet) = still n 4 before.faults after.faults (n ≡ 4) (λ four. omega (arith, line_status n line, four)) quiet
-  tells_faults n (asked (Run name options) e gives) = gives_faults n gives
+  tells_faults n (asked request e gives) = gives_faults n gives
 
   line_sink : (n : ℕ) → LineGiven usage_text 2 old new before.sink after.sink n → Tells n 5 before.sink after.sink (n ≡ 5)
   line_sink _ (given (all is unmoved)) = still 2 5 before.sink after.sink (2 ≡ 5) (λ five. omega arith) unmoved
@@ -109,7 +109,7 @@ module _ (words : List (List ℕ)) (told : Option Files) (old new : Option (List
 
   tells_sink : (n : ℕ) → CallEnds words told old new before after n → Tells n 5 before.sink after.sink (n ≡ 5)
   tells_sink n (usage e line same quiet) = line_sink n line
-  tells_sink n (asked (Run name options) e gives) = gives_sink n gives
+  tells_sink n (asked request e gives) = gives_sink n gives
 
   pub answers : (status : ℕ) → CallEnds words told old new before after status → Answers told words old new before after status
   answers status h =
@@ -118,9 +118,11 @@ module _ (words : List (List ℕ)) (told : Option Files) (old new : Option (List
         whole = λ files tells. whole words told old new before after files tells status h;
         cut_short = λ files tells. cut_short words told old new before after files tells status h;
         printed_run = λ files tells. printed_run words told old new before after files tells status h;
+        accepted = λ files tells. printed_accepted words told old new before after files tells status h;
+        printed_code = λ files tells. printed_code words told old new before after files tells status h;
         complete = λ files tells. complete words told old new before after files tells status h;
         is_status = is_status status h;
-        exits = λ files tells. exits words told old new before after files tells status h;
+        succeeds = λ files tells. succeeds words told old new before after files tells status h;
         refused = λ files tells. refuses words told old new before after files tells status h;
         usage = is_usage status h;
         usage_line = usage_line words told old new before after status h;

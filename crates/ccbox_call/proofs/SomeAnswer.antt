@@ -16,9 +16,10 @@ use Rattle.region_typing_rules.specs.Cores.{checked}
 use Rattle.region_typing_rules.proofs.NamedItems.{all_named}
 use Rattle.ckc_core.specs.Core.{Core}
 use Rattle.sandbox_actor.specs.ActLists.{ActList}
-use Rattle.ccbox_call_words.specs.Requests.{Request, Run, Options, request_of}
+use Rattle.ccbox_call_words.specs.Requests.{Request, Run, Options, file_of, request_of}
+use Rattle.ccbox_call_words.specs.Requests as requests
 use Rattle.ccbox_call.specs.Acceptance.{HasTree, Accepts, CoreOrFault, no_tokens, no_tree, not_built, misnamed, breaks}
-use Rattle.ccbox_call.specs.Answers.{acts_at, AsksToRun, ran, acts_missing, acts, refused, accepted, missing, source, Answer, usage, asked}
+use Rattle.ccbox_call.specs.Answers.{acts_at, AsksToRun, ran, acts_missing, acts, says_so, lists, refused, accepted, missing, source, AskedOf, Answer, usage, asked}
 use Rattle.ccbox_call.proofs.Runs.{ends_over}
 
 -- ---- a source has a core or a fault
@@ -55,31 +56,40 @@ some_core_or_fault src = let cut = some_cut src in by_cut src cut.0 cut.1
 abbrev HasAnswer : Files → List (List ℕ) → Type 0
 HasAnswer files words = (text : List ℕ) × (status : ℕ) × Answer files words text status
 
+-- what is asked of a core has an answer
+abbrev HasSome : Files → Request → Core → Type 0
+HasSome files request c = (text : List ℕ) × (status : ℕ) × AskedOf files request c text status
+
 module _ (files : Files) (words : List (List ℕ)) where
   by_acts : (name : List ℕ) (options : Options) (src : List ℕ) (c : Core) → request_of words ≡ Some (Run name options) → file_at files name ≡ Some src → Accepts src c
-      → (o : Option (List ℕ)) → options.acts ≡ o → (list : Option ActList) → acts_at files o ≡ list → HasAnswer files words
+      → (o : Option (List ℕ)) → options.acts ≡ o → (list : Option ActList) → acts_at files o ≡ list → HasSome files (Run name options) c
   by_acts name options src c request there is None e None acts_are = absurd (cc)
   by_acts name options src c request there is (Some file) e None acts_are = by_file (file_at files file) refl
     where
-      by_file : (o : Option (List ℕ)) → file_at files file ≡ o → HasAnswer files words
-      by_file None gone = (_, _, asked (Run name options) request (source src there (accepted c is (acts_missing file e gone))))
+      by_file : (o : Option (List ℕ)) → file_at files file ≡ o → HasSome files (Run name options) c
+      by_file None gone = (_, _, acts_missing file e gone)
       by_file (Some text) found = absurd (cc)
   by_acts name options src c request there is o e (Some list) acts_are =
       let at : acts_at files options.acts ≡ Some list = cc in
       let asks : AsksToRun files words options src = record { name = name; request = request; there = there } in
       let end = ends_over files words options list c (record { src = src; asks = asks; accepted = is; acts = at }) in
-      (_, _, asked (Run name options) request (source src there (accepted c is (acts list at (ran end.0 end.1 end.2)))))
+      (_, _, acts list at (ran end.0 end.1 end.2))
 
-  by_source : (name : List ℕ) (options : Options) → request_of words ≡ Some (Run name options) → (o : Option (List ℕ)) → file_at files name ≡ o → HasAnswer files words
-  by_source name options request None gone = (_, _, asked (Run name options) request (missing gone))
-  by_source name options request (Some src) there =
-      ⊎_elim (λ x. by_acts name options src x.0 request there x.1 options.acts refl (acts_at files options.acts) refl)
-      (λ x. (_, _, asked (Run name options) request (source src there (refused x.0 x.1))))
+  by_core : (request : Request) (src : List ℕ) (c : Core) → request_of words ≡ Some request → file_at files (file_of request) ≡ Some src → Accepts src c → HasSome files request c
+  by_core (requests.Check name) src c e there is = (_, _, says_so)
+  by_core (requests.Split name) src c e there is = (_, _, lists)
+  by_core (Run name options) src c e there is = by_acts name options src c e there is options.acts refl (acts_at files options.acts) refl
+
+  by_source : (request : Request) → request_of words ≡ Some request → (o : Option (List ℕ)) → file_at files (file_of request) ≡ o → HasAnswer files words
+  by_source request e None gone = (_, _, asked request e (missing gone))
+  by_source request e (Some src) there =
+      ⊎_elim (λ x. let a = by_core request src x.0 e there x.1 in (a.0, a.1, asked request e (source src there (accepted x.0 x.1 a.2))))
+      (λ x. (_, _, asked request e (source src there (refused x.0 x.1))))
       (some_core_or_fault src)
 
   by_request : (o : Option Request) → request_of words ≡ o → HasAnswer files words
   by_request None e = (_, _, usage e)
-  by_request (Some (Run name options)) e = by_source name options e (file_at files name) refl
+  by_request (Some request) e = by_source request e (file_at files (file_of request)) refl
 
 pub some_answer : (files : Files) (words : List (List ℕ)) → (text : List ℕ) × (status : ℕ) × Answer files words text status
 some_answer files words = by_request files words (request_of words) refl

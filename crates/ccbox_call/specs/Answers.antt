@@ -23,9 +23,13 @@ use Rattle.sandbox_actor.specs.Answers.{Moment}
 use Rattle.sandbox_actor.specs.ActLists.{ActList, RefusedLine, no_acts, acts_of_file}
 use Rattle.run_core_transcript.specs.Texts.{run_text, front_text}
 use Rattle.run_core.specs.Moments.{due_in, before_due}
+use Rattle.check_insertion.specs.Insert.{inserted}
+use Rattle.code_words_listing.specs.Listings.{listing}
 use Rattle.lowering_code.specs.Correct.{blocks_meant}
-use Rattle.ccbox_call_words.specs.Requests.{Request, Run, Options, settings_of, inputs_of, request_of}
-use Rattle.act_recorder.specs.Diagnostics.{usage_text, missing_text, refused_text, act_refused_text}
+use Rattle.lowering_code.specs.Images.{image_of}
+use Rattle.ccbox_call_words.specs.Requests.{Request, Run, Options, file_of, settings_of, inputs_of, request_of}
+use Rattle.ccbox_call_words.specs.Requests as requests
+use Rattle.act_recorder.specs.Diagnostics.{accepted_text, usage_text, missing_text, refused_text, act_refused_text}
 use Rattle.ccbox_call_words.specs.Statuses.{status_of}
 use Rattle.ccbox_call.specs.Acceptance.{Accepts, IsRefused}
 
@@ -69,26 +73,40 @@ pub data ListAnswer (c : Core) (settings : Settings) (inputs : List ℤ) (list :
   ran : (ending : Ending) (s : State) → RunsTo c settings inputs list ending s
       → ListAnswer c settings inputs list (text_of settings list ending s) (status_with (needed_line list s.world.events) ending)
 
--- of a core
+-- of a core whose run is asked for
 pub data CoreAnswer (files : Files) (options : Options) (c : Core) : List ℕ → ℕ → Type 0 where
   acts_missing : (name : List ℕ) → options.acts ≡ Some name → file_at files name ≡ None → CoreAnswer files options c (missing_text name) 3
   acts : {text : List ℕ} {status : ℕ} (list : ActList) → acts_at files options.acts ≡ Some list
       → ListAnswer c (settings_of options) (inputs_of options) list text status → CoreAnswer files options c text status
 
--- of a source
-pub data SourceAnswer (files : Files) (options : Options) (src : List ℕ) : List ℕ → ℕ → Type 0 where
-  refused : (fault : SourceFault) → IsRefused src fault → SourceAnswer files options src (refused_text fault.code (place_at src fault.span.from)) 1
-  accepted : {text : List ℕ} {status : ℕ} (c : Core) → Accepts src c → CoreAnswer files options c text status → SourceAnswer files options src text status
+-- of one that is checked
+pub data CheckAnswer : List ℕ → ℕ → Type 0 where
+  says_so : CheckAnswer accepted_text 0
+
+-- of one whose code is asked for
+pub data SplitAnswer (c : Core) : List ℕ → ℕ → Type 0 where
+  lists : SplitAnswer c (listing (image_of (inserted c))) 0
+
+-- of a source, by what is asked of its core
+pub data SourceAnswer (Of : Core → List ℕ → ℕ → Type 0) (src : List ℕ) : List ℕ → ℕ → Type 0 where
+  refused : (fault : SourceFault) → IsRefused src fault → SourceAnswer Of src (refused_text fault.code (place_at src fault.span.from)) 1
+  accepted : {text : List ℕ} {status : ℕ} (c : Core) → Accepts src c → Of c text status → SourceAnswer Of src text status
 
 -- of a file
-pub data FileAnswer (files : Files) (options : Options) (name : List ℕ) : List ℕ → ℕ → Type 0 where
-  missing : file_at files name ≡ None → FileAnswer files options name (missing_text name) 3
-  source : {text : List ℕ} {status : ℕ} (src : List ℕ) → file_at files name ≡ Some src → SourceAnswer files options src text status
-      → FileAnswer files options name text status
+pub data FileAnswer (files : Files) (Of : Core → List ℕ → ℕ → Type 0) (name : List ℕ) : List ℕ → ℕ → Type 0 where
+  missing : file_at files name ≡ None → FileAnswer files Of name (missing_text name) 3
+  source : {text : List ℕ} {status : ℕ} (src : List ℕ) → file_at files name ≡ Some src → SourceAnswer Of src text status
+      → FileAnswer files Of name text status
+
+-- what a request asks of a core
+abbrev pub AskedOf : Files → Request → Core → List ℕ → ℕ → Type 0
+AskedOf files (requests.Check name) c text status = CheckAnswer text status
+AskedOf files (requests.Split name) c text status = SplitAnswer c text status
+AskedOf files (Run name options) c text status = CoreAnswer files options c text status
 
 -- of a request
 abbrev pub RequestAnswer : Files → Request → List ℕ → ℕ → Type 0
-RequestAnswer files (Run name options) text status = FileAnswer files options name text status
+RequestAnswer files request text status = FileAnswer files (AskedOf files request) (file_of request) text status
 
 -- of the words
 pub data Answer (files : Files) (words : List (List ℕ)) : List ℕ → ℕ → Type 0 where
@@ -128,7 +146,18 @@ pub record Exactly (n status : ℕ) (P : Type 0) : Type 0 where
 
 -- ---- causes
 
--- the words ask to run this source with these options
+-- the words spell a request about a file that is there, with these bytes
+pub record AsksAbout (files : Files) (words : List (List ℕ)) (request : Request) (src : List ℕ) : Type 0 where
+  pub spelled : request_of words ≡ Some request
+  pub there : file_at files (file_of request) ≡ Some src
+
+-- they spell a request about a source with this core
+pub record AsksOf (files : Files) (words : List (List ℕ)) (request : Request) (c : Core) : Type 0 where
+  pub src : List ℕ
+  pub asks : AsksAbout files words request src
+  pub accepted : Accepts src c
+
+-- they ask to run this source with these options
 pub record AsksToRun (files : Files) (words : List (List ℕ)) (options : Options) (src : List ℕ) : Type 0 where
   pub name : List ℕ
   pub request : request_of words ≡ Some (Run name options)
@@ -142,7 +171,15 @@ pub record AsksFor (files : Files) (words : List (List ℕ)) (options : Options)
   pub acts : acts_at files options.acts ≡ Some list
 
 abbrev pub SourceIsRefused : Files → List (List ℕ) → Type 0
-SourceIsRefused files words = (options : Options) × (src : List ℕ) × (fault : SourceFault) × AsksToRun files words options src × IsRefused src fault
+SourceIsRefused files words = (request : Request) × (src : List ℕ) × (fault : SourceFault) × AsksAbout files words request src × IsRefused src fault
+
+-- the source is accepted, and the words ask whether it is
+abbrev pub SourceIsChecked : Files → List (List ℕ) → Type 0
+SourceIsChecked files words = (name : List ℕ) × (c : Core) × AsksOf files words (requests.Check name) c
+
+-- the source is accepted, and they ask for its code
+abbrev pub CodeIsListed : Files → List (List ℕ) → Type 0
+CodeIsListed files words = (name : List ℕ) × (c : Core) × AsksOf files words (requests.Split name) c
 
 -- the source is accepted, and its run ends so, or needs this refused line before
 abbrev pub RunEndsWith : Files → List (List ℕ) → Option RefusedLine → Ending → Type 0
@@ -152,6 +189,10 @@ RunEndsWith files words needed ending =
 
 abbrev pub RunExits : Files → List (List ℕ) → Type 0
 RunExits files words = (value : ℤ) × RunEndsWith files words None (Exit value)
+
+-- all that is asked for is done
+abbrev pub Succeeds : Files → List (List ℕ) → Type 0
+Succeeds files words = RunExits files words ⊎ (SourceIsChecked files words ⊎ CodeIsListed files words)
 
 abbrev pub CheckFails : Files → List (List ℕ) → Type 0
 CheckFails files words = (code : Code) × (place : Place) × RunEndsWith files words None (Check code place)
@@ -163,7 +204,7 @@ abbrev pub LineIsRefused : Files → List (List ℕ) → Type 0
 LineIsRefused files words = (refused : RefusedLine) × (ending : Ending) × RunEndsWith files words (Some refused) ending
 
 abbrev pub SourceIsMissing : Files → List (List ℕ) → Type 0
-SourceIsMissing files words = (name : List ℕ) × (options : Options) × (request_of words ≡ Some (Run name options)) × (file_at files name ≡ None)
+SourceIsMissing files words = (request : Request) × (request_of words ≡ Some request) × (file_at files (file_of request) ≡ None)
 
 -- the source is accepted, and the file of acts isn't there
 abbrev pub ActsAreMissing : Files → List (List ℕ) → Type 0
@@ -202,12 +243,15 @@ abbrev pub PrintedRun : Files → List (List ℕ) → Option (List ℕ) → Opti
 PrintedRun files words old new status =
     (options : Options) (list : ActList) (c : Core) → AsksFor files words options list c → PrintsRun options list c old new status
 
--- where no failure is counted, the run of an accepted source is printed whole, unless memory runs out
+-- where the words ask whether an accepted source is accepted, the line that says so is printed, unless something fails
+abbrev pub PrintedAccepted : Files → List (List ℕ) → Option (List ℕ) → Option (List ℕ) → ℕ → Type 0
+PrintedAccepted files words old new status =
+    (name : List ℕ) (c : Core) → AsksOf files words (requests.Check name) c → ((status ≡ 0) × (new ≡ grown old accepted_text)) ⊎ IsFailure status
+
+-- where no failure is counted, the Answer is given whole, unless memory runs out
 abbrev pub IsComplete : Files → List (List ℕ) → Option (List ℕ) → Option (List ℕ) → ℕ → Type 0
 IsComplete files words old new status =
-    (options : Options) (list : ActList) (c : Core) (ending : Ending) (s : State) → AsksFor files words options list c
-    → RunsTo c (settings_of options) (inputs_of options) list ending s →
-    ((status ≡ status_with (needed_line list s.world.events) ending) × (new ≡ grown old (text_of (settings_of options) list ending s))) ⊎ (status ≡ 9)
+    (text : List ℕ) (n : ℕ) → Answer files words text n → ((status ≡ n) × (new ≡ grown old text)) ⊎ (status ≡ 9)
 
 -- a count of failures didn't rise
 abbrev pub IsQuiet : ℕ → ℕ → Type 0

@@ -1,15 +1,20 @@
 -- How a call of the program ends, part by part: what it wrote, its status, and the counts of failures.
-use Rattle.std.specs.Prelude.{◌≡◌, ℕ, ◌<◌, ◌≤◌, ◌⊎◌, All, IsTrue, List, length, take, Option, Some, None}
+use Rattle.std.specs.Prelude.{◌≡◌, ℕ, ◌<◌, ◌≤◌, ◌⊎◌, All, IsTrue, List, length, take, Option, Some, None, Result, Ok, Err}
 use Rattle.act_words.specs.Checks.{is_word_number}
 use Rattle.act_words.specs.Limits.{AreAllowed}
 use Rattle.ckc_io.specs.Counts.{Rises}
-use Rattle.ckc_io.specs.Files.{Files, Told}
+use Rattle.ckc_io.specs.Files.{Files, Told, file_at}
 use Rattle.ckc_io.specs.Written.{grown}
+use Rattle.ckc_core.specs.declared.program as code
+use Rattle.ckc_core.specs.Core.{Core, core}
 use Rattle.run_core.specs.Runs.{Counts}
 use Rattle.ccbox_call_words.specs.Requests.{Request, Options, settings_of, inputs_of, request_of}
 use Rattle.act_recorder.specs.Diagnostics.{usage_text}
 use Rattle.ccbox_call_words.specs.Given.{LineGiven}
-use Rattle.ccbox_call.specs.Answers.{RequestAnswer}
+use Rattle.ccbox_call_words.specs.declared.status.Status.{Status}
+use Rattle.ccbox_call_words.specs.Statuses.{number_of}
+use Rattle.ccbox_call.specs.Acceptance.{Accepts, IsAcceptedCore}
+use Rattle.ccbox_call.specs.Answers.{SourceAnswer, FileAnswer, RequestAnswer}
 
 -- the options may be run with: their settings are allowed, and their input numbers have 32 bits
 pub record MayRun (options : Options) : Type 0 where
@@ -40,6 +45,33 @@ pub data Gives (Is : List ℕ → ℕ → Type 0) (old new : Option (List ℕ)) 
   -- memory ran out behind a front of the answer
   no_memory_behind : (text : List ℕ) (status k : ℕ) → Is text status → k < length text → new ≡ grown old (take k text) → before.misses ≤ after.misses
       → after.faults ≡ before.faults → after.sink ≡ before.sink → Gives Is old new before after 9
+
+-- the text and the status of a source, and of a file, without a core: the file isn't there, or its source is refused
+abbrev pub RefusedAnswer : List ℕ → List ℕ → ℕ → Type 0
+RefusedAnswer src text status = SourceAnswer (λ c t n. ⊥) src text status
+
+abbrev pub NoCoreAnswer : Files → List ℕ → List ℕ → ℕ → Type 0
+NoCoreAnswer files name text status = FileAnswer files (λ c t n. ⊥) name text status
+
+-- the file is there, and is a source with this core
+abbrev pub IsFileOf : Files → List ℕ → Core → Type 0
+IsFileOf files name c = (src : List ℕ) × (file_at files name ≡ Some src) × Accepts src c
+
+-- what the front end and the line of a refusal come to: a core, and nothing was written; or the status behind the answer of a
+-- source without one
+abbrev pub SourceRead : List ℕ → (old new : Option (List ℕ)) (sink sink' : ℕ) → Result code.Core.Core Status → Type 0
+SourceRead src old new sink sink' (Ok program) = Accepts src (core program) × (new ≡ old) × (sink' ≡ sink)
+SourceRead src old new sink sink' (Err status) =
+    (misses faults : ℕ) → Gives (RefusedAnswer src) old new (record { misses = misses; faults = faults; sink = sink })
+    (record { misses = misses; faults = faults; sink = sink' }) (number_of status)
+
+-- what reading the program of a file comes to: a core, and nothing was written; or the status behind the answer of a file without
+-- one
+abbrev pub ProgramRead : Option Files → List ℕ → (old new : Option (List ℕ)) (before after : Counts) → Result code.Core.Core Status → Type 0
+ProgramRead told name old new before after (Ok program) =
+    IsAcceptedCore (core program) × Told told (λ files. IsFileOf files name (core program)) × (new ≡ old) × (after ≡ before)
+ProgramRead told name old new before after (Err status) =
+    Gives (λ text n. Told told (λ files. NoCoreAnswer files name text n)) old new before after (number_of status)
 
 -- how a call ends
 pub data CallEnds (words : List (List ℕ)) (told : Option Files) (old new : Option (List ℕ)) (before after : Counts) (result : ℕ) : Type 0 where

@@ -1,4 +1,5 @@
 pub mod Acceptance
 pub mod Answers
+pub mod PrintedCode
 pub mod Calls
 pub mod Process

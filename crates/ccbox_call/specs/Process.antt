@@ -14,8 +14,9 @@ use Rattle.act_recorder.specs.Diagnostics.{usage_text}
 use Rattle.ccbox_call_words.specs.Given.{LineGiven}
 use Rattle.ccbox_call_words.specs.Requests.{request_of}
 use Rattle.ccbox_call.specs.Calls.{CallEnds}
-use Rattle.ccbox_call.specs.Answers.{GivesFront, GivesWhole, IsCutShort, IsFailure, IsStatus, Exactly, Tells, SourceIsRefused, FileIsMissing, RunExits}
-use Rattle.ccbox_call.specs.Answers.{CheckFails, RunStops, LineIsRefused, PrintedRun, IsComplete, IsQuiet, IsUntouched}
+use Rattle.ccbox_call.specs.Answers.{GivesFront, GivesWhole, IsCutShort, IsFailure, IsStatus, Exactly, Tells, SourceIsRefused, FileIsMissing, Succeeds}
+use Rattle.ccbox_call.specs.Answers.{CheckFails, RunStops, LineIsRefused, PrintedRun, PrintedAccepted, IsComplete, IsQuiet, IsUntouched}
+use Rattle.ccbox_call.specs.PrintedCode.{PrintedCode}
 
 -- the words of an outcome without any: memory ran out, or one of them is no text, and then they count as none
 abbrev pub words_without : ErrorKind → Option (List (List ℕ))
@@ -33,9 +34,11 @@ pub record Answers (told : Option Files) (words : List (List ℕ)) (old new : Op
   pub whole : Told told (λ files. GivesWhole files words old new status ⊎ IsFailure status)
   pub cut_short : Told told (λ files. (status ≡ 4) ⊎ (status ≡ 9) → IsCutShort files words old new)
   pub printed_run : Told told (λ files. PrintedRun files words old new status)
+  pub accepted : Told told (λ files. PrintedAccepted files words old new status)
+  pub printed_code : Told told (λ files. PrintedCode files words old new status)
   pub complete : Told told (λ files. IsQuiet before.faults after.faults → IsQuiet before.sink after.sink → IsComplete files words old new status)
   pub is_status : IsStatus status
-  pub exits : Told told (λ files. Exactly 0 status (RunExits files words))
+  pub succeeds : Told told (λ files. Exactly 0 status (Succeeds files words))
   pub refused : Told told (λ files. Exactly 1 status (SourceIsRefused files words))
   pub usage : Exactly 2 status (request_of words ≡ None)
   pub usage_line : request_of words ≡ None → LineGiven usage_text 2 old new before.sink after.sink status

@@ -3,13 +3,16 @@
 ghost use Rattle.std.specs.Prelude.{◌≡◌, ◌⊎◌, ℕ, List, map, None};
 ghost use Rattle.ckc_io.specs.Files.{Told};
 ghost use Rattle.ccbox_call_words.specs.Requests.{request_of};
-ghost use Rattle.ccbox_call.specs.Answers.{GivesFront, GivesWhole, IsCutShort, IsFailure, IsStatus, Exactly, Tells, SourceIsRefused, FileIsMissing, RunExits, CheckFails, RunStops, LineIsRefused, PrintedRun, IsComplete, IsQuiet, IsUntouched};
+ghost use Rattle.ccbox_call.specs.Answers.{GivesFront, GivesWhole, IsCutShort, IsFailure, IsStatus, Exactly, Tells, SourceIsRefused, FileIsMissing, Succeeds, CheckFails, RunStops, LineIsRefused, PrintedRun, PrintedAccepted, IsComplete, IsQuiet, IsUntouched};
+ghost use Rattle.ccbox_call.specs.PrintedCode.{PrintedCode};
 ghost use Rattle.ccbox_call_words.specs.Given.{LineGiven};
 ghost use Rattle.ccbox_call_words.specs.Statuses.{number_of};
 ghost use Rattle.act_recorder.specs.Diagnostics.{usage_text};
 ghost use Rattle.ccbox_call.specs.Calls.{CallEnds};
 
+use crate::check::check_file;
 use crate::run::run_file;
+use crate::split::split_file;
 use ccbox_call_words::output::give_usage;
 use ccbox_call_words::request::{Request, request_from};
 use ccbox_call_words::status::Status;
@@ -39,13 +42,24 @@ pub fn ccbox<F: Shelf, K: Sink>(
     // memory, the acts that were taken, and the releases.
     ensures printed_run { Told (F.files shelf.old) (λ files.
         PrintedRun files (map (λ word. word.now) words.now) (K.written sink.old) (K.written sink.new) (number_of result)) }
+
+    // Where the words ask whether a source is accepted, and it is, the line that says so is printed.
+    ensures accepted { Told (F.files shelf.old) (λ files.
+        PrintedAccepted files (map (λ word. word.now) words.now) (K.written sink.old) (K.written sink.new) (number_of result)) }
+
+    // Where they ask for the code of an accepted source, the listing of an image is printed that has the source's parts and
+    // does what the source means, at every base address.
+    ensures printed_code { Told (F.files shelf.old) (λ files.
+        PrintedCode files (map (λ word. word.now) words.now) (K.written sink.old) (K.written sink.new) (number_of result)) }
+
+    // Where no failure of the files and of the output is counted, the Answer is given whole, unless memory ran out.
     ensures complete { Told (F.files shelf.old) (λ files.
         IsQuiet (F.faults shelf.old) (F.faults shelf.new) → IsQuiet (K.faults sink.old) (K.faults sink.new) →
         IsComplete files (map (λ word. word.now) words.now) (K.written sink.old) (K.written sink.new) (number_of result)) }
 
     // Where each status comes.
     ensures status { IsStatus (number_of result) }
-    ensures exits { Told (F.files shelf.old) (λ files. Exactly 0 (number_of result) (RunExits files (map (λ word. word.now) words.now))) }
+    ensures succeeds { Told (F.files shelf.old) (λ files. Exactly 0 (number_of result) (Succeeds files (map (λ word. word.now) words.now))) }
     ensures refused { Told (F.files shelf.old) (λ files. Exactly 1 (number_of result) (SourceIsRefused files (map (λ word. word.now) words.now))) }
     ensures usage { Exactly 2 (number_of result) (request_of (map (λ word. word.now) words.now) ≡ None) }
     ensures usage_line { request_of (map (λ word. word.now) words.now) ≡ None
@@ -79,7 +93,9 @@ pub(crate) fn status_of_call<F: Shelf, K: Sink>(
         (record { misses = F.misses shelf.new; faults = F.faults shelf.new; sink = K.faults sink.new }) (number_of result) }
 {
     match request_from(words) {
-        Some(Request { file, options }) => run_file(alloc, file, &options, shelf, sink),
+        Some(Request::Check { file }) => check_file(alloc, file, shelf, sink),
+        Some(Request::Split { file }) => split_file(alloc, file, shelf, sink),
+        Some(Request::Run { file, options }) => run_file(alloc, file, &options, shelf, sink),
         None => give_usage(alloc, sink),
     }
 }

@@ -2,7 +2,11 @@
 #![tactic(auto)]
 
 pub mod call;
+mod check;
 pub mod front;
+mod image;
 pub mod laws;
 pub mod process;
+mod program;
 mod run;
+mod split;

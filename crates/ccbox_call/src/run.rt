@@ -1,37 +1,28 @@
 // Running the program of a file.
 
-ghost use Rattle.std.specs.Prelude.{◌≡◌, false, IsTrue, IfOk};
+ghost use Rattle.std.specs.Prelude.{◌≡◌, false, IsTrue};
 ghost use Rattle.std.specs.List.{All};
 ghost use Rattle.act_words.specs.Acts.{IsAct};
 ghost use Rattle.act_words.specs.Checks.{is_word_number};
 ghost use Rattle.act_words.specs.Limits.{AreAllowed};
-ghost use Rattle.ckc_text.specs.Places.{place_at};
 ghost use Rattle.ckc_io.specs.Files.{Told};
 ghost use Rattle.ckc_core.specs.Core.{core};
-ghost use Rattle.check_insertion.specs.Insert.{inserted};
-ghost use Rattle.lowering_code.specs.Correct.{KeepsMeaning};
-ghost use Rattle.ccbox_call.specs.Acceptance.{IsAcceptedCore, IsRefused};
-ghost use Rattle.ccbox_call.specs.Answers.{ListAnswer, CoreAnswer, SourceAnswer, FileAnswer};
+ghost use Rattle.ccbox_call.specs.Acceptance.{IsAcceptedCore};
+ghost use Rattle.ccbox_call.specs.Answers.{ListAnswer, CoreAnswer, RequestAnswer};
+ghost use Rattle.ccbox_call_words.specs.Requests.{Run};
 ghost use Rattle.ccbox_call_words.specs.Statuses.{number_of};
 ghost use Rattle.ccbox_call_words.specs.Requested.{options as options_view};
 ghost use Rattle.ccbox_call.specs.Calls.{MayRun, Gives};
 
-use crate::front::front;
+use crate::image::image_of;
+use crate::program::read_program;
 use act_words::settings::Settings;
-use ccbox_call_words::output::{give_missing, give_outcome, give_refused};
+use ccbox_call_words::output::{give_missing, give_outcome};
 use ccbox_call_words::request::Options;
 use ccbox_call_words::status::Status;
-use check_insertion::insert::insert;
 use ckc_core::program::Core;
 use ckc_io::shelf::Shelf;
 use ckc_io::sink::Sink;
-use ckc_io::whole::{ReadFault, read_whole};
-use ckc_lexer_tokens::limits::MAX_SOURCE;
-use ckc_text::fault::{NoMemory, Refused, SourceFault};
-use ckc_text::place::{Place, place_of};
-use code_words::image::Image;
-use lowering::lower::lower;
-use partitioner::split::split;
 use run_core::run::run;
 use sandbox_actor::actor::ActorFault;
 use sandbox_actor::list_actor::ListActor;
@@ -46,51 +37,15 @@ pub fn run_file<F: Shelf, K: Sink>(
     sink: &mut K,
 ) -> Status
     requires { MayRun (options_view options.now) }
-    ensures { Gives (λ text status. Told (F.files shelf.old) (λ files. FileAnswer files (options_view options.now) file.now text status))
+    ensures { Gives (λ text status. Told (F.files shelf.old) (λ files. RequestAnswer files (Run file.now (options_view options.now)) text status))
         (K.written sink.old) (K.written sink.new)
         (record { misses = F.misses shelf.old; faults = F.faults shelf.old; sink = K.faults sink.old })
         (record { misses = F.misses shelf.new; faults = F.faults shelf.new; sink = K.faults sink.new }) (number_of result) }
 {
-    match read_whole(alloc, shelf, file, MAX_SOURCE + 1) {
-        Ok(src) => run_source(alloc, src.as_slice(), options, shelf, sink),
-        Err(ReadFault::Missing) => give_missing(alloc, file, sink),
-        Err(ReadFault::Failed) => Status::FilesFailed,
-        Err(ReadFault::NoMemory) => Status::NoMemory,
-    }
-}
-
-// Runs a source.
-fn run_source<F: Shelf, K: Sink>(
-    alloc: Global,
-    src: &[u8],
-    options: &Options,
-    shelf: &mut F,
-    sink: &mut K,
-) -> Status
-    requires { MayRun (options_view options.now) }
-    ensures { Gives (λ text status. Told (F.files shelf.old) (λ files. SourceAnswer files (options_view options.now) src.now text status))
-        (K.written sink.old) (K.written sink.new)
-        (record { misses = F.misses shelf.old; faults = F.faults shelf.old; sink = K.faults sink.old })
-        (record { misses = F.misses shelf.new; faults = F.faults shelf.new; sink = K.faults sink.new }) (number_of result) }
-{
-    match front(alloc, src) {
+    match read_program(alloc, file, shelf, sink) {
         Ok(program) => run_program(alloc, &program, options, shelf, sink),
-        Err(Refused::Source(fault)) => {
-            let place = place_of_fault(src, &fault);
-            give_refused(alloc, fault.code, place, sink)
-        }
-        Err(Refused::NoMemory) => Status::NoMemory,
+        Err(status) => status,
     }
-}
-
-// The place of a fault: where its span starts.
-fn place_of_fault(src: &[u8], fault: &SourceFault) -> Place
-    requires { IsRefused src.now fault.now }
-    ensures { result ≡ place_at src.now fault.now.span.from }
-{
-    // Behind the last byte every place is the same.
-    let at = (fault.span.from as usize).min(src.len());
-    place_of(src, at)
 }
 
 // Runs a program with the acts that the options ask for.
@@ -125,16 +80,6 @@ fn run_program<F: Shelf, K: Sink>(
         // No act is asked for yet.
         Err(ActorFault::Ended | ActorFault::Line { line: _, code: _ }) => unreachable!(),
     }
-}
-
-// The code of a program with its checks.
-fn image_of(alloc: Global, program: &Core) -> Result<Image, NoMemory>
-    requires accepted { IsAcceptedCore (core program.now) }
-    ensures { IfOk result (λ image. KeepsMeaning (inserted (core program.now)) image) }
-{
-    let parts = split(alloc, program)?;
-    let erased = insert(alloc, program, &parts)?;
-    lower(alloc, &erased)
 }
 
 // Runs the code of a program with an actor.

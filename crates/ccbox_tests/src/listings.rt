@@ -1,5 +1,8 @@
-// Listings that are read, and the lines that are refused of other texts.
+// Listings that are read, and the lines that are refused of other texts; listings that are printed of programs.
 
+use ccbox_call::call::ccbox;
+use ckc_io::mem_shelf::MemShelf;
+use ckc_io::mem_sink::MemSink;
 use code_words_listing::listing::list;
 use code_words_listing::read_listing::{ListRefused, read_list};
 use std::alloc::Global;
@@ -70,6 +73,34 @@ fn is_read(alloc: Global, text: &[u8], refused: Option<u32>) -> bool {
         Err(ListRefused::Line(line)) => refused == Some(line),
         Err(ListRefused::NoMemory) => false,
     }
+}
+
+// Programs whose code is printed.
+static PROGRAMS: [&str; 3] = [
+    "int g = 1; int main(void) { ptr<int> p = &g; *p = 41; return g + 1; }\n",
+    "_Tainted char t(int a, int b); void put(char c) { putchar(c); }\nint main(void) { put(t(2147483647, -1)); print_int(next_input()); return 0; }\n",
+    "struct s { char c; int v; ptr<struct s> n; }; struct s a; int low = -2147483647;\nint f(int n, ptr<int> p) { while (n) { n -= 1; if (n == 3) continue; *p += n % 5 | ~n; } return *p << 1; }\nint main(void) { a.n = &a; a.n->v = low - 1; return f(9, &a.v) / a.c; }\n",
+];
+
+// Whether the code of a program is printed as a listing that is read.
+fn is_printed(alloc: Global, source: &str) -> bool {
+    let Ok(mut sink) = MemSink::with_room(alloc, 4096, 4096) else {
+        return false;
+    };
+    let mut shelf = MemShelf::new(alloc);
+    let _ = shelf.add("a.c", source.as_bytes());
+    let status = ccbox(alloc, &["split", "a.c"], &mut shelf, &mut sink).number();
+    status == 0 && is_read(alloc, sink.bytes(), None)
+}
+
+/// Fails with the first program whose code is printed otherwise.
+pub fn printed_listings(alloc: Global) -> Result<(), Fail> {
+    for source in &PROGRAMS {
+        if !is_printed(alloc, source) {
+            return Err(Fail::new(*source));
+        }
+    }
+    Ok(())
 }
 
 /// Fails with the first text that is read otherwise.

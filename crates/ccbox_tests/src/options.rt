@@ -9,8 +9,16 @@ use std::test::Fail;
 const REFUSED: &str = "[usage] ccbox check|split|run|record|big|exec@@@
 [usage] ccbox check|split|run|record|big|exec@run@@
 [usage] ccbox check|split|run|record|big|exec@run a.c b.c@@
-[usage] ccbox check|split|run|record|big|exec@check a.c@@
-[usage] ccbox check|split|run|record|big|exec@split a.c@@
+[usage] ccbox check|split|run|record|big|exec@check@@
+[usage] ccbox check|split|run|record|big|exec@split@@
+[usage] ccbox check|split|run|record|big|exec@check a.c b.c@@
+[usage] ccbox check|split|run|record|big|exec@split a.c b.c@@
+[usage] ccbox check|split|run|record|big|exec@check a.c --view@@
+[usage] ccbox check|split|run|record|big|exec@split a.c --base=16@@
+[usage] ccbox check|split|run|record|big|exec@check -a@@
+[usage] ccbox check|split|run|record|big|exec@split --a.c@@
+[usage] ccbox check|split|run|record|big|exec@Check a.c@@
+[usage] ccbox check|split|run|record|big|exec@record a.c@@
 [usage] ccbox check|split|run|record|big|exec@run -a@@
 [usage] ccbox check|split|run|record|big|exec@ a.c@@
 [usage] ccbox check|split|run|record|big|exec@Run a.c@@
@@ -75,7 +83,25 @@ const ASKED: &str =
 {"out":"01"}¶{"out":"ab"}¶{"out":"2d350a"}¶[check C7 1:74 zero divisor]¶[block 65552 4 03000000]@run a.c --releases --dump@@int g = 3; int main(void) { putchar(1); putchar(171); print_int(-5); g = 1 / 0; return 0; }
 [refused E28 1:1 no main]@run a.c@@"#;
 
-static TABLES: [Table; 2] = [Table(Question::Call, REFUSED), Table(Question::Call, ASKED)];
+// Sources that are checked, and whose code is printed.
+const CHECKED: &str = r#"[accepted all checked]@check a.c@@int main(void) { return 0; }
+[accepted all checked]@check a.c@@int main(void) { while (1) { } }
+[accepted all checked]@check a.c@@int main(void) { ptr<int> p = 0; return *p; }
+[refused E28 1:1 no main]@check a.c@@
+[refused E06 1:27 syntax]@check a.c@@int main(void) { return 1 }
+[refused E02 2:9 no token]@check a.c@@int main(void) {¶  return 07; }
+[missing nofile]@check nofile@@int main(void) { return 0; }
+[missing ]@check @@int main(void) { return 0; }
+[refused E28 1:1 no main]@split a.c@@
+[refused E06 1:27 syntax]@split a.c@@int main(void) { return 1 }
+[missing nofile]@split nofile@@int main(void) { return 0; }
+ccbox listing 1¶trusted¶block 0 4 07000000¶fun 0 main args 0 slots 3 stack 1 result int¶gaddr 0¶ld4¶ret¶const 0¶ret¶end¶main 0¶sandbox¶close@split a.c@@int g = 7; int main(void) { return g; }"#;
+
+static TABLES: [Table; 3] = [
+    Table(Question::Call, REFUSED),
+    Table(Question::Call, ASKED),
+    Table(Question::Call, CHECKED),
+];
 
 /// Fails unless the words of the command line do what they must.
 pub fn options(alloc: Global) -> Result<(), Fail> {

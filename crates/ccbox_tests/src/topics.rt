@@ -6,7 +6,7 @@ use crate::facts::entailment;
 use crate::files::files_and_outputs;
 use crate::flows::flows;
 use crate::limits::limits;
-use crate::listings::listings;
+use crate::listings::{listings, printed_listings};
 use crate::memories::memories_and_layouts;
 use crate::options::options;
 use crate::printing::printing;
@@ -51,7 +51,8 @@ fn libraries(rt: HostRuntime) -> Result<(), Fail> {
     entailment(rt.alloc())?;
     flows(rt.alloc())?;
     memories_and_layouts(rt.alloc())?;
-    listings(rt.alloc())
+    listings(rt.alloc())?;
+    printed_listings(rt.alloc())
 }
 
 #[test]

@@ -1,4 +1,4 @@
-use Rattle.ccbox_call.proofs.Calls.{front, whole, cut_short, printed_run, complete, exits, refuses, misses, checks, stops, acts_refused, untouched, usage_line}
+use Rattle.ccbox_call.proofs.Calls.{front, whole, cut_short, printed_run, printed_accepted, printed_code, complete, succeeds, refuses, misses, checks, stops, acts_refused, untouched, usage_line}
 use Rattle.ccbox_call.proofs.call.ccbox.Goals as goal
 
 pub returns-clause-cut_short : goal.returns-clause-cut_short
@@ -16,8 +16,14 @@ returns-clause-printed_run g c = λ files told. printed_run _ _ _ _ _ _ files to
 pub returns-clause-complete : goal.returns-clause-complete
 returns-clause-complete g c = λ files told. complete _ _ _ _ _ _ files told _ c.status_of_call.ensures
 
-pub returns-clause-exits : goal.returns-clause-exits
-returns-clause-exits g c = λ files told. exits _ _ _ _ _ _ files told _ c.status_of_call.ensures
+pub returns-clause-accepted : goal.returns-clause-accepted
+returns-clause-accepted g c = λ files told. printed_accepted _ _ _ _ _ _ files told _ c.status_of_call.ensures
+
+pub returns-clause-printed_code : goal.returns-clause-printed_code
+returns-clause-printed_code g c = λ files told. printed_code _ _ _ _ _ _ files told _ c.status_of_call.ensures
+
+pub returns-clause-succeeds : goal.returns-clause-succeeds
+returns-clause-succeeds g c = λ files told. succeeds _ _ _ _ _ _ files told _ c.status_of_call.ensures
 
 pub returns-clause-refused : goal.returns-clause-refused
 returns-clause-refused g c = λ files told. refuses _ _ _ _ _ _ files told _ c.status_of_call.ensures

@@ -10,5 +10,5 @@ returns-in_default g c = no_memory refl (omega arith) refl refl
 
 pub returns : goal.returns
 returns g c =
-    outcome_gives (core c.args.program.now) c.in-Ok.image c.args.settings.now c.args.inputs.now c.args.actor.now c.requires.accepted c.in-Ok.ensures c.requires.allowed c.requires.words c.requires.acts
+    outcome_gives (core c.args.program.now) c.in-Ok.image c.args.settings.now c.args.inputs.now c.args.actor.now c.requires.accepted c.in-Ok.ensures.meaning c.requires.allowed c.requires.words c.requires.acts
     _ _ _ _ _ c.run-outcome.result _ _ _ _ _ _ _ (number_of c.give_outcome.result) c.run-outcome.ensures.writes c.run-outcome.ensures.counts c.give_outcome.ensures
