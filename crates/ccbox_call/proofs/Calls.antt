@@ -5,7 +5,7 @@ use Rattle.std.proofs.lemmas.List.{take_all}
 use Rattle.ckc_text.specs.declared.code.Code.{Code}
 use Rattle.ckc_text.specs.declared.place.Place.{Place}
 use Rattle.ckc_text.specs.declared.fault.SourceFault.{SourceFault}
-use Rattle.ckc_io.specs.Files.{Files, Told}
+use Rattle.ckc_io.specs.Files.{Files}
 use Rattle.ckc_io.specs.Written.{grown}
 use Rattle.ckc_io.proofs.Fronts.{grown-nothing}
 use Rattle.act_words.specs.declared.ending.Ending.{Ending}
@@ -16,7 +16,7 @@ use Rattle.sandbox_actor.specs.ActLists.{ActList, RefusedLine}
 use Rattle.run_core.specs.Runs.{Counts}
 use Rattle.check_insertion.specs.Insert.{inserted}
 use Rattle.lowering_code.specs.Images.{image_of}
-use Rattle.code_words_listing.specs.Listings.{listing}
+use Rattle.code_words_listing.specs.Listings.{listing, InFormat}
 use Rattle.ccbox_call_words.specs.Requests.{Request, Run, Options, file_of, settings_of, inputs_of, request_of}
 use Rattle.ccbox_call_words.specs.Requests as requests
 use Rattle.act_recorder.specs.Diagnostics.{accepted_text, usage_text, missing_text}
@@ -24,8 +24,8 @@ use Rattle.ccbox_call_words.specs.Given.{TextGiven, all, failed, LineGiven, give
 use Rattle.ccbox_call.specs.Acceptance.{Accepts, IsRefused, IsAcceptedCore}
 use Rattle.ccbox_call.specs.Answers.{RunsTo, needed_line, text_of, status_with, ran, CoreAnswer, acts_missing, acts, CheckAnswer, says_so, SplitAnswer, lists, SourceAnswer, refused, accepted, missing, source, AskedOf, RequestAnswer, Answer, IsFailure, WritesFront, GivesFront, IsCutShort, GivesWhole, Exactly, AsksAbout, AsksOf, AsksToRun, AsksFor, SourceIsRefused, SourceIsChecked, CodeIsListed, RunEndsWith, RunExits, Succeeds, CheckFails, RunStops, LineIsRefused, FileIsMissing, PrintsRun, PrintedRun, PrintedAccepted, IsComplete, IsQuiet, IsUntouched}
 use Rattle.ccbox_call.specs.Answers as answers
-use Rattle.ccbox_call.specs.PrintedCode.{PrintedCode}
-use Rattle.ccbox_call.specs.Calls.{StatusCounts, Gives, answered, output_failed, files_failed, no_memory, no_memory_behind, CallEnds, usage, asked}
+use Rattle.ccbox_call.specs.PrintedCode.{SpellsAlone, PrintedCode}
+use Rattle.ccbox_call.specs.Calls.{StatusCounts, Gives, answered, output_failed, files_failed, no_memory, no_memory_behind, IsFileOf, IsInFormat, IsGiven, CallEnds, usage, asked}
 use Rattle.ccbox_call.proofs.OneAnswer.{one_answer}
 use Rattle.ccbox_call.proofs.PrintedCode.{parts_kept, spells_alone, kept_code, does_as}
 use Rattle.ccbox_call.proofs.Runs.{ends_over, view_over, view_before_over}
@@ -167,10 +167,6 @@ missing_from files words text a = by (cause files words a)
 -- ---- the end of a call
 
 module _ (words : List (List ℕ)) (told : Option Files) (old new : Option (List ℕ)) (before after : Counts) where
-  -- what is given to a request is an Answer
-  abbrev IsTold : Request → List ℕ → ℕ → Type 0
-  IsTold request text status = Told told (λ files. RequestAnswer files request text status)
-
   module _ (files : Files) (tells : told ≡ Some files) where
     -- how a call ends where the files are told
     data Settled : ℕ → Type 0 where
@@ -186,12 +182,12 @@ module _ (words : List (List ℕ)) (told : Option Files) (old new : Option (List
     settled_line result e (given x) = settled_text usage_text 2 result (answers.usage e) x
     settled_line result e (unmade is same still) = nothing result same (inr (inr is))
 
-    settled_gives : (request : Request) (result : ℕ) → request_of words ≡ Some request → Gives (IsTold request) old new before after result → Settled result
-    settled_gives request _ e (answered text status is counts whole sink) = whole_answer text status (answers.asked request e (is files tells)) whole
-    settled_gives request _ e (output_failed text status k is more faults le front sink) = front_answer text status k 5 (answers.asked request e (is files tells)) le front (inr (inl refl))
+    settled_gives : (request : Request) (result : ℕ) → request_of words ≡ Some request → Gives (IsGiven told request) old new before after result → Settled result
+    settled_gives request _ e (answered text status is counts whole sink) = whole_answer text status (answers.asked request e (is files tells).0) whole
+    settled_gives request _ e (output_failed text status k is more faults le front sink) = front_answer text status k 5 (answers.asked request e (is files tells).0) le front (inr (inl refl))
     settled_gives request _ e (files_failed same misses faults sink) = nothing 4 same (inl refl)
     settled_gives request _ e (no_memory same misses faults sink) = nothing 9 same (inr (inr refl))
-    settled_gives request _ e (no_memory_behind text status k is le front misses faults sink) = front_answer text status k 9 (answers.asked request e (is files tells)) (omega (arith, le)) front (inr (inr refl))
+    settled_gives request _ e (no_memory_behind text status k is le front misses faults sink) = front_answer text status k 9 (answers.asked request e (is files tells).0) (omega (arith, le)) front (inr (inr refl))
 
     settled : (result : ℕ) → CallEnds words told old new before after result → Settled result
     settled result (usage e line misses faults) = settled_line result e line
@@ -237,13 +233,13 @@ module _ (words : List (List ℕ)) (told : Option Files) (old new : Option (List
     found_safe : (status : ℕ) → StatusCounts status before after → (status ≡ 4) ⊎ (status ≡ 9) → ⊥
     found_safe status counts fails = omega (arith, counts.1, fails)
 
-    cut_gives : (request : Request) (result : ℕ) → request_of words ≡ Some request → Gives (IsTold request) old new before after result → Cut result
+    cut_gives : (request : Request) (result : ℕ) → request_of words ≡ Some request → Gives (IsGiven told request) old new before after result → Cut result
     cut_gives request _ e (answered text status is counts whole sink) fails = absurd (found_safe status counts fails)
     cut_gives request _ e (output_failed text status k is more faults le front sink) fails = absurd (omega (arith, fails))
     cut_gives request _ e (files_failed same misses faults sink) fails = inl same
     cut_gives request _ e (no_memory same misses faults sink) fails = inl same
     cut_gives request _ e (no_memory_behind text status k is le front misses faults sink) fails = inr (λ t n a.
-        let same = one_answer files words (answers.asked request e (is files tells)) a in
+        let same = one_answer files words (answers.asked request e (is files tells).0) a in
         (k, omega (arith, le, ap length same.text), front ∙ ap (λ (x : List ℕ). grown old (take k x)) same.text))
 
     pub cut_short : (result : ℕ) → CallEnds words told old new before after result → Cut result
@@ -273,7 +269,7 @@ module _ (words : List (List ℕ)) (told : Option Files) (old new : Option (List
         found : (status : ℕ) → StatusCounts status before after → IsFailure status → status ≡ 9
         found status counts f = absurd (omega (arith, counts.1, f))
 
-        by : (n : ℕ) → Gives (IsTold request) old new before after n → IsFailure n → n ≡ 9
+        by : (n : ℕ) → Gives (IsGiven told request) old new before after n → IsFailure n → n ≡ 9
         by _ (answered text status is counts whole sink) f = found status counts f
         by _ (output_failed text status k is more faults le front sink) f = absurd (sink_quiet sink.rose)
         by _ (files_failed same misses faults sink) f = absurd (files_quiet faults.rose)
@@ -284,6 +280,31 @@ module _ (words : List (List ℕ)) (told : Option Files) (old new : Option (List
     pub printed_accepted : (result : ℕ) → CallEnds words told old new before after result → PrintedAccepted files words old new result
     printed_accepted result h name c a = is_given result (settled result h) (check_answer files words name c a)
 
+    -- the code that is printed is in the format
+    given_code : (request : Request) (name : List ℕ) (c : Core) → request ≡ requests.Split name → IsFileOf files name c → (result : ℕ) → Gives (IsGiven told request) old new before after result → InFormat (image_of (inserted c)) ⊎ IsFailure result
+    given_code request name c same f _ (answered text status is counts given_all sink) = inl (subst (IsInFormat files) same (is files tells).1 c f)
+    given_code request name c same f _ (output_failed text status k is more faults le part sink) = inr (inr (inl refl))
+    given_code request name c same f _ (files_failed unwritten misses faults sink) = inr (inl refl)
+    given_code request name c same f _ (no_memory unwritten misses faults sink) = inr (inr (inr refl))
+    given_code request name c same f _ (no_memory_behind text status k is le part misses faults sink) = inr (inr (inr refl))
+
+    code_given : (result : ℕ) → CallEnds words told old new before after result → (name : List ℕ) (c : Core) → AsksOf files words (requests.Split name) c → InFormat (image_of (inserted c)) ⊎ IsFailure result
+    code_given result (usage e line misses faults) name c a = absurd (no_request (sym e ∙ a.asks.spelled))
+      where
+        no_request : {r : Request} → None ≡ Some r → ⊥
+        no_request e = cc
+    code_given result (asked request e gives) name c a = given_code request name c (one_request (sym e ∙ a.asks.spelled)) (a.src, a.asks.there, a.accepted) result gives
+      where
+        one_request : {r s : Request} → Some r ≡ Some s → r ≡ s
+        one_request e = cc
+
+    printed_alone : (result : ℕ) → CallEnds words told old new before after result → (name : List ℕ) (c : Core) → AsksOf files words (requests.Split name) c
+        → ((result ≡ 0) × (new ≡ grown old (listing (image_of (inserted c))))) ⊎ IsFailure result
+        → ((result ≡ 0) × (new ≡ grown old (listing (image_of (inserted c)))) × SpellsAlone (image_of (inserted c))) ⊎ IsFailure result
+    printed_alone result h name c a (inr fails) = inr fails
+    printed_alone result h name c a (inl whole) =
+        ⊎_elim (λ f. inl (whole.0, whole.1, spells_alone (image_of (inserted c)) (kept_code c (a.src, a.accepted)).format f)) inr (code_given result h name c a)
+
     -- and the listing of its code
     pub printed_code : (result : ℕ) → CallEnds words told old new before after result → PrintedCode files words old new result
     printed_code result h name c a =
@@ -293,10 +314,9 @@ module _ (words : List (List ℕ)) (told : Option Files) (old new : Option (List
           image = image_of (inserted c);
           fits = keeps.fits;
           format = keeps.format;
-          spells = spells_alone (image_of (inserted c)) keeps.format;
           parts = parts_kept c;
           does = does_as c is;
-          printed = is_given result (settled result h) (split_answer files words name c a);
+          printed = printed_alone result h name c a (is_given result (settled result h) (split_answer files words name c a));
         }
 
     pub complete : (result : ℕ) → CallEnds words told old new before after result → IsQuiet before.faults after.faults → IsQuiet before.sink after.sink → IsComplete files words old new result

@@ -1,5 +1,5 @@
 -- How the parts of a call give their answers.
-use Rattle.std.proofs.Common.{◌≡◌, ℕ, ℤ, ◌+◌, ◌<◌, ◌≤◌, nat_lt, Bool, true, false, inl, inr, List, ◌++◌, length, take, Option, Some, refl, sym, ap, ◌∙◌, subst, arith, length-append, [], ◌∷◌}
+use Rattle.std.proofs.Common.{◌≡◌, ℕ, ℤ, ◌+◌, ◌<◌, ◌≤◌, nat_lt, Bool, true, false, inl, inr, List, ◌++◌, length, take, Option, Some, None, refl, sym, ap, ◌∙◌, subst, arith, length-append, [], ◌∷◌}
 use Rattle.std.specs.Prelude.{All, IsTrue, Result, Ok, Err, codes, decimal}
 use Rattle.ckc_text.specs.Texts.{number_of, name_of}
 use Rattle.std.proofs.lemmas.Bool.{ltb-true, ltb-false}
@@ -33,11 +33,14 @@ use Rattle.ccbox_call_words.specs.Statuses.{status_of}
 use Rattle.ccbox_call_words.specs.Given.{all, failed, LineGiven, given, unmade, OutcomeGiven}
 use Rattle.ccbox_call_words.specs.declared.status.Status.{Status}
 use Rattle.ccbox_call_words.specs.Requests.{Request, Options, file_of, settings_of, inputs_of}
+use Rattle.ccbox_call_words.specs.Requests as requests
 use Rattle.check_insertion.specs.Insert.{inserted}
+use Rattle.lowering_code.specs.Images.{image_of}
+use Rattle.code_words_listing.specs.Listings.{InFormat}
 use Rattle.ccbox_call.specs.Acceptance.{Accepts, IsAcceptedCore, no_tokens}
 use Rattle.ccbox_call.specs.Answers.{acts_at, ListAnswer, CoreAnswer, acts, SourceAnswer, refused, accepted, missing, source, AskedOf, RequestAnswer}
-use Rattle.ccbox_call.specs.Calls.{IsFoundStatus, StatusCounts, Gives, answered, output_failed, files_failed, no_memory, no_memory_behind, RefusedAnswer, NoCoreAnswer, IsFileOf, SourceRead, ProgramRead}
-use Rattle.ccbox_call.proofs.Fronts.{core_or_fault, one_refusal}
+use Rattle.ccbox_call.specs.Calls.{IsFoundStatus, StatusCounts, Gives, answered, output_failed, files_failed, no_memory, no_memory_behind, RefusedAnswer, NoCoreAnswer, IsFileOf, IsInFormat, IsGiven, SourceRead, ProgramRead}
+use Rattle.ccbox_call.proofs.Fronts.{one_core, core_or_fault, one_refusal}
 use Rattle.ccbox_call.proofs.ListRuns.{FromList, Answers, whole, front, answers}
 
 -- an answer of one kind is an answer of another
@@ -217,14 +220,41 @@ without_core : (files : Files) (request : Request) {text : List ℕ} {n : ℕ} �
 without_core files request (missing none) = missing none
 without_core files request (source src there a) = source src there (refused_alone src (AskedOf files request) a)
 
-pub no_core_gives : (told : Option Files) (request : Request) {old new : Option (List ℕ)} {before after : Counts} {result : ℕ} → Gives (λ text n. Told told (λ files. NoCoreAnswer files (file_of request) text n)) old new before after result → Gives (λ text n. Told told (λ files. RequestAnswer files request text n)) old new before after result
-no_core_gives told request h = gives_as (λ text n a files tells. without_core files request (a files tells)) h
+refused_core : (src : List ℕ) (c : Core) {text : List ℕ} {n : ℕ} → RefusedAnswer src text n → Accepts src c → ⊥
+refused_core src c (refused fault r) a = core_or_fault a r
+refused_core src c (accepted d b x) a = absurd x
+
+no_core_there : (files : Files) (name : List ℕ) (c : Core) {text : List ℕ} {n : ℕ} → NoCoreAnswer files name text n → IsFileOf files name c → ⊥
+no_core_there files name c (missing none) f = let e : None ≡ Some f.0 = sym none ∙ f.1 in cc
+no_core_there files name c {text} {n} (source src there a) f =
+    let same : src ≡ f.0 = some_same (sym there ∙ f.1) in
+    refused_core f.0 c (subst (λ (s : List ℕ). RefusedAnswer s text n) same a) f.2
+  where
+    some_same : {x y : List ℕ} → Some x ≡ Some y → x ≡ y
+    some_same e = cc
+
+no_code : (files : Files) (request : Request) {text : List ℕ} {n : ℕ} → NoCoreAnswer files (file_of request) text n → IsInFormat files request
+no_code files (requests.Check name) a = tt
+no_code files (requests.Split name) a = λ c f. absurd (no_core_there files name c a f)
+no_code files (requests.Run name options) a = tt
+
+pub no_core_gives : (told : Option Files) (request : Request) {old new : Option (List ℕ)} {before after : Counts} {result : ℕ} → Gives (λ text n. Told told (λ files. NoCoreAnswer files (file_of request) text n)) old new before after result → Gives (IsGiven told request) old new before after result
+no_core_gives told request h = gives_as (λ text n a files tells. (without_core files request (a files tells), no_code files request (a files tells))) h
+
+-- a core's code is in the format, and so is that of each core of the same file
+pub same_code : (files : Files) (name : List ℕ) (c : Core) → IsFileOf files name c → InFormat (image_of (inserted c)) → IsInFormat files (requests.Split name)
+same_code files name c f is d g =
+    let sources : f.0 ≡ g.0 = some_same (sym f.1 ∙ g.1) in
+    subst (λ (x : Core). InFormat (image_of (inserted x))) (one_core g.0 c d (subst (λ (s : List ℕ). Accepts s c) sources f.2) g.2) is
+  where
+    some_same : {x y : List ℕ} → Some x ≡ Some y → x ≡ y
+    some_same e = cc
 
 -- what is given of a core behind the reading of its file is given of the file
 pub gives_behind : (told : Option Files) (request : Request) (c : Core) {Is : List ℕ → ℕ → Type 0} {old mid new : Option (List ℕ)} {before between after : Counts} {result : ℕ} → Told told (λ files. IsFileOf files (file_of request) c) → mid ≡ old → between ≡ before →
-    ((text : List ℕ) (n : ℕ) → Is text n → Told told (λ files. AskedOf files request c text n)) → Gives Is mid new between after result → Gives (λ text n. Told told (λ files. RequestAnswer files request text n)) old new before after result
+    ((text : List ℕ) (n : ℕ) → Is text n → Told told (λ files. AskedOf files request c text n × IsInFormat files request)) → Gives Is mid new between after result → Gives (IsGiven told request) old new before after result
 gives_behind told request c {Is} {old} {mid} {new} {before} {between} {after} {result} there same still turn h =
-    gives_as (λ text n a files tells. let f = there files tells in source f.0 f.1 (accepted c f.2 (turn text n a files tells)))
+    gives_as (λ text n a files tells. let f = there files tells in let b = turn text n a files tells in (source f.0 f.1 (accepted c f.2 b.0), b.1))
     (gives_from still (subst (λ o. Gives Is o new between after result) same h))
 
 -- a text that is an answer with the status 0

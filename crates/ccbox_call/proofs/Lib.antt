@@ -3,6 +3,7 @@ pub mod OneAnswer
 pub mod Sized
 pub mod Lowering
 pub mod Runs
+pub mod Formats
 pub mod PrintedCode
 pub mod ListRuns
 pub mod Giving

@@ -1,14 +1,13 @@
 -- The code of an accepted program has the program's parts, and does what the program means.
 use Rattle.std.proofs.Common.{◌≡◌, ℕ, suc, List, [], ◌∷◌, map, refl, ap}
-use Rattle.std.specs.Prelude.{All}
+use Rattle.std.specs.Prelude.{IfOk, Result, Ok, Err}
 use Rattle.ckc_core.specs.Core.{Core, Function}
 use Rattle.ckc_core.specs.Programs.{trusted_of}
 use Rattle.check_insertion.specs.Insert.{function, inserted}
 use Rattle.code_words.specs.Formats.{KeepsFormat}
 use Rattle.code_words.specs.Functions.{Func}
 use Rattle.code_words.specs.Images.{Image}
-use Rattle.code_words_listing.specs.Lines.{IsAllowed}
-use Rattle.code_words_listing.specs.Listings.{lines_of, InFormat}
+use Rattle.code_words_listing.specs.Listings.{InFormat}
 use Rattle.code_words_listing.proofs.ImagesBack.{listing-injective}
 use Rattle.code_words_listing.proofs.PacedLines.{listing-stands}
 use Rattle.lowering_code.specs.Code.{result_kind}
@@ -17,6 +16,8 @@ use Rattle.lowering_code.specs.Images.{functions_from, image_of}
 use Rattle.lowering_code.proofs.Fits.{image_keeps}
 use Rattle.ccbox_call.specs.Acceptance.{IsAcceptedCore}
 use Rattle.ccbox_call.specs.PrintedCode.{HasPartsOf, SpellsAlone, DoesAs}
+use Rattle.ccbox_call.specs.Words.{FitsWords}
+use Rattle.ccbox_call.proofs.Formats.{in_format}
 use Rattle.ccbox_call.proofs.Runs.{lowerable, ends, inserted_ends}
 
 -- functions keep their names, their parameters and what they return
@@ -47,13 +48,17 @@ parts_kept c =
       sandbox_functions = refl;
     }
 
-in_format : (image : Image) → KeepsFormat image → All IsAllowed (lines_of image) → InFormat image
-in_format image k lines = record { functions = k.functions; imports = k.imports; callbacks = k.callbacks; bodies = k.bodies; imported = k.imported; callable = k.callable; lines = lines }
+pub spells_alone : (image : Image) → KeepsFormat image → InFormat image → SpellsAlone image
+spells_alone image k f = record { in_format = f; stands = listing-stands image f k.paced; alone = λ other g same. listing-injective other image g f same }
 
-pub spells_alone : (image : Image) → KeepsFormat image → All IsAllowed (lines_of image) → SpellsAlone image
-spells_alone image k lines =
-    let f = in_format image k lines in
-    record { stands = listing-stands image f k.paced; alone = λ other g same. listing-injective other image g f same }
+-- a fact holds wherever a call gives something
+pub if_ok : {A E : Type 0} (P : Type 0) (r : Result A E) → P → IfOk r (λ x. P)
+if_ok P (Ok x) p = p
+if_ok P (Err e) p = tt
+
+-- a core whose numbers fit their words has an image in the format
+pub code_in_format : (c : Core) → IsAcceptedCore c → FitsWords (image_of (inserted c)) → InFormat (image_of (inserted c))
+code_in_format c is fits = in_format (inserted c) (lowerable c is) fits
 
 pub kept_code : (c : Core) → IsAcceptedCore c → KeepsMeaning (inserted c) (image_of (inserted c))
 kept_code c is = image_keeps (inserted c) (lowerable c is)

@@ -7,8 +7,11 @@ use Rattle.ckc_io.specs.Files.{Files, Told, file_at}
 use Rattle.ckc_io.specs.Written.{grown}
 use Rattle.ckc_core.specs.declared.program as code
 use Rattle.ckc_core.specs.Core.{Core, core}
+use Rattle.check_insertion.specs.Insert.{inserted}
+use Rattle.lowering_code.specs.Images.{image_of}
+use Rattle.code_words_listing.specs.Listings.{InFormat}
 use Rattle.run_core.specs.Runs.{Counts}
-use Rattle.ccbox_call_words.specs.Requests.{Request, Options, settings_of, inputs_of, request_of}
+use Rattle.ccbox_call_words.specs.Requests.{Request, Check, Split, Run, Options, settings_of, inputs_of, request_of}
 use Rattle.act_recorder.specs.Diagnostics.{usage_text}
 use Rattle.ccbox_call_words.specs.Given.{LineGiven}
 use Rattle.ccbox_call_words.specs.declared.status.Status.{Status}
@@ -73,6 +76,16 @@ ProgramRead told name old new before after (Ok program) =
 ProgramRead told name old new before after (Err status) =
     Gives (λ text n. Told told (λ files. NoCoreAnswer files name text n)) old new before after (number_of status)
 
+-- the code that a request prints is in the format
+abbrev pub IsInFormat : Files → Request → Type 0
+IsInFormat files (Check name) = Unit {0}
+IsInFormat files (Split name) = (c : Core) → IsFileOf files name c → InFormat (image_of (inserted c))
+IsInFormat files (Run name options) = Unit {0}
+
+-- what is given to a request
+abbrev pub IsGiven : Option Files → Request → List ℕ → ℕ → Type 0
+IsGiven told request text status = Told told (λ files. RequestAnswer files request text status × IsInFormat files request)
+
 -- how a call ends
 pub data CallEnds (words : List (List ℕ)) (told : Option Files) (old new : Option (List ℕ)) (before after : Counts) (result : ℕ) : Type 0 where
   -- the words spell no request, and no file was touched
@@ -80,5 +93,5 @@ pub data CallEnds (words : List (List ℕ)) (told : Option Files) (old new : Opt
       → CallEnds words told old new before after result
   -- they spell a request, which has an answer
   asked : (request : Request) → request_of words ≡ Some request
-      → Gives (λ text status. Told told (λ files. RequestAnswer files request text status)) old new before after result
+      → Gives (IsGiven told request) old new before after result
       → CallEnds words told old new before after result

@@ -19,8 +19,7 @@ use Rattle.code_words.specs.Functions.{Func}
 use Rattle.code_words.specs.Images.{Image}
 use Rattle.code_words.specs.Runs.{CodeRun}
 use Rattle.code_words.specs.Table as machine
-use Rattle.code_words_listing.specs.Lines.{IsAllowed}
-use Rattle.code_words_listing.specs.Listings.{lines_of, listing, InFormat}
+use Rattle.code_words_listing.specs.Listings.{listing, InFormat}
 use Rattle.code_words_listing.specs.Verdicts.{Verdict}
 use Rattle.lowering_code.specs.Code.{result_kind}
 use Rattle.lowering_code.specs.Correct.{SameEnd}
@@ -57,22 +56,21 @@ DoesAs c image =
     (settings : Settings) (inputs : List ℤ) (acts : List Act) → AreAllowed settings → All (λ z. IsTrue (is_word_number z)) inputs → All IsAct acts
     → RunsAs c image settings inputs acts
 
--- the listing of an image is a text of which no line is refused, and no other image in the format has it
+-- an image is in the format; no line of its listing is refused, and no other image in the format has this listing
 pub record SpellsAlone (image : Image) : Type 0 where
+  pub in_format : InFormat image
   pub stands : Verdict (listing image) None
   pub alone : (other : Image) → InFormat other → listing other ≡ listing image → other ≡ image
 
--- an image fits all settings that are allowed, keeps the format and the pace of a listing, has the parts of the core and does what
--- the core means; its listing spells this image alone, where each line of it may stand in a listing; and the listing is printed,
--- unless something fails
+-- an image fits all settings that are allowed, keeps the orders and limits of a listing and the pace, has the parts of the core and
+-- does what the core means; and its listing, which spells this image alone, is printed, unless something fails
 pub record PrintsCode (c : Core) (old new : Option (List ℕ)) (status : ℕ) : Type 0 where
   pub image : Image
   pub fits : (settings : Settings) → AreAllowed settings → Fits image settings
   pub format : KeepsFormat image
-  pub spells : All IsAllowed (lines_of image) → SpellsAlone image
   pub parts : HasPartsOf c image
   pub does : DoesAs c image
-  pub printed : ((status ≡ 0) × (new ≡ grown old (listing image))) ⊎ IsFailure status
+  pub printed : ((status ≡ 0) × (new ≡ grown old (listing image)) × SpellsAlone image) ⊎ IsFailure status
 
 abbrev pub PrintedCode : Files → List (List ℕ) → Option (List ℕ) → Option (List ℕ) → ℕ → Type 0
 PrintedCode files words old new status = (name : List ℕ) (c : Core) → AsksOf files words (Split name) c → PrintsCode c old new status

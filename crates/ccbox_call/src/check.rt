@@ -1,8 +1,6 @@
 // Checking the program of a file.
 
-ghost use Rattle.ckc_io.specs.Files.{Told};
-ghost use Rattle.ccbox_call.specs.Answers.{RequestAnswer};
-ghost use Rattle.ccbox_call.specs.Calls.{Gives};
+ghost use Rattle.ccbox_call.specs.Calls.{Gives, IsGiven};
 ghost use Rattle.ccbox_call_words.specs.Requests.{Check};
 ghost use Rattle.ccbox_call_words.specs.Statuses.{number_of};
 
@@ -20,7 +18,7 @@ pub fn check_file<F: Shelf, K: Sink>(
     shelf: &mut F,
     sink: &mut K,
 ) -> Status
-    ensures { Gives (λ text status. Told (F.files shelf.old) (λ files. RequestAnswer files (Check file.now) text status))
+    ensures { Gives (IsGiven (F.files shelf.old) (Check file.now))
         (K.written sink.old) (K.written sink.new)
         (record { misses = F.misses shelf.old; faults = F.faults shelf.old; sink = K.faults sink.old })
         (record { misses = F.misses shelf.new; faults = F.faults shelf.new; sink = K.faults sink.new }) (number_of result) }

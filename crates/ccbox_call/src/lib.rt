@@ -10,3 +10,4 @@ pub mod process;
 mod program;
 mod run;
 mod split;
+mod words;

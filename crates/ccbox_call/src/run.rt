@@ -8,11 +8,11 @@ ghost use Rattle.act_words.specs.Limits.{AreAllowed};
 ghost use Rattle.ckc_io.specs.Files.{Told};
 ghost use Rattle.ckc_core.specs.Core.{core};
 ghost use Rattle.ccbox_call.specs.Acceptance.{IsAcceptedCore};
-ghost use Rattle.ccbox_call.specs.Answers.{ListAnswer, CoreAnswer, RequestAnswer};
+ghost use Rattle.ccbox_call.specs.Answers.{ListAnswer, CoreAnswer};
 ghost use Rattle.ccbox_call_words.specs.Requests.{Run};
 ghost use Rattle.ccbox_call_words.specs.Statuses.{number_of};
 ghost use Rattle.ccbox_call_words.specs.Requested.{options as options_view};
-ghost use Rattle.ccbox_call.specs.Calls.{MayRun, Gives};
+ghost use Rattle.ccbox_call.specs.Calls.{MayRun, Gives, IsGiven};
 
 use crate::image::image_of;
 use crate::program::read_program;
@@ -37,7 +37,7 @@ pub fn run_file<F: Shelf, K: Sink>(
     sink: &mut K,
 ) -> Status
     requires { MayRun (options_view options.now) }
-    ensures { Gives (λ text status. Told (F.files shelf.old) (λ files. RequestAnswer files (Run file.now (options_view options.now)) text status))
+    ensures { Gives (IsGiven (F.files shelf.old) (Run file.now (options_view options.now)))
         (K.written sink.old) (K.written sink.new)
         (record { misses = F.misses shelf.old; faults = F.faults shelf.old; sink = K.faults sink.old })
         (record { misses = F.misses shelf.new; faults = F.faults shelf.new; sink = K.faults sink.new }) (number_of result) }

@@ -41,22 +41,21 @@ pub fn give_outcome<K: Sink>(
 pub fn give_accepted<K: Sink>(alloc: Global, sink: &mut K) -> Status
     ensures { LineGiven accepted_text 0 (K.written sink.old) (K.written sink.new) (K.faults sink.old) (K.faults sink.new) (number_of result) }
 {
-    give_made(sink, accepted_line(alloc), Status::Success)
+    give_line(sink, accepted_line(alloc), Status::Success)
 }
 
-/// The same of a listing, if it was made.
-pub fn give_listing<K: Sink>(sink: &mut K, listing: Result<Vec<u8>, NoMemory>) -> Status
-    ensures { (text : List ℕ) → IfOk listing (λ made. made.items ≡ text)
-        → LineGiven text 0 (K.written sink.old) (K.written sink.new) (K.faults sink.old) (K.faults sink.new) (number_of result) }
+/// The same of a listing.
+pub fn give_listing<K: Sink>(sink: &mut K, listing: &[u8]) -> Status
+    ensures { TextGiven listing.now 0 (K.written sink.old) (K.written sink.new) (K.faults sink.old) (K.faults sink.new) (number_of result) }
 {
-    give_made(sink, listing, Status::Success)
+    give(sink, listing, Status::Success)
 }
 
 /// The same of a refused source.
 pub fn give_refused<K: Sink>(alloc: Global, code: Code, place: Place, sink: &mut K) -> Status
     ensures { LineGiven (refused_text code place) 1 (K.written sink.old) (K.written sink.new) (K.faults sink.old) (K.faults sink.new) (number_of result) }
 {
-    give_made(
+    give_line(
         sink,
         refused_line(alloc, code, place),
         Status::SourceRefused,
@@ -67,7 +66,7 @@ pub fn give_refused<K: Sink>(alloc: Global, code: Code, place: Place, sink: &mut
 fn give_act_refused<K: Sink>(alloc: Global, line: u64, code: Code, sink: &mut K) -> Status
     ensures { LineGiven (act_refused_text line code) 8 (K.written sink.old) (K.written sink.new) (K.faults sink.old) (K.faults sink.new) (number_of result) }
 {
-    give_made(
+    give_line(
         sink,
         act_refused_line(alloc, line, code),
         Status::LineRefused,
@@ -78,23 +77,23 @@ fn give_act_refused<K: Sink>(alloc: Global, line: u64, code: Code, sink: &mut K)
 pub fn give_missing<K: Sink>(alloc: Global, name: &str, sink: &mut K) -> Status
     ensures { LineGiven (missing_text name.now) 3 (K.written sink.old) (K.written sink.new) (K.faults sink.old) (K.faults sink.new) (number_of result) }
 {
-    give_made(sink, missing_line(alloc, name), Status::FileMissing)
+    give_line(sink, missing_line(alloc, name), Status::FileMissing)
 }
 
 /// The same of words that spell no request.
 pub fn give_usage<K: Sink>(alloc: Global, sink: &mut K) -> Status
     ensures { LineGiven usage_text 2 (K.written sink.old) (K.written sink.new) (K.faults sink.old) (K.faults sink.new) (number_of result) }
 {
-    give_made(sink, usage_line(alloc), Status::Usage)
+    give_line(sink, usage_line(alloc), Status::Usage)
 }
 
-// Writes a text that was made, unless memory ran out before.
-fn give_made<K: Sink>(sink: &mut K, made: Result<Vec<u8>, NoMemory>, status: Status) -> Status
-    ensures { (text : List ℕ) → IfOk made (λ made. made.items ≡ text)
+// Writes a line that was made, unless memory ran out before.
+fn give_line<K: Sink>(sink: &mut K, line: Result<Vec<u8>, NoMemory>, status: Status) -> Status
+    ensures { (text : List ℕ) → IfOk line (λ made. made.items ≡ text)
         → LineGiven text (number_of status) (K.written sink.old) (K.written sink.new) (K.faults sink.old) (K.faults sink.new) (number_of result) }
 {
-    match made {
-        Ok(made) => give(sink, made.as_slice(), status),
+    match line {
+        Ok(line) => give(sink, line.as_slice(), status),
         Err(NoMemory) => Status::NoMemory,
     }
 }

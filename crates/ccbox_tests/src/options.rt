@@ -89,7 +89,7 @@ const CHECKED: &str = r#"[accepted all checked]@check a.c@@int main(void) { retu
 [accepted all checked]@check a.c@@int main(void) { ptr<int> p = 0; return *p; }
 [refused E28 1:1 no main]@check a.c@@
 [refused E06 1:27 syntax]@check a.c@@int main(void) { return 1 }
-[refused E02 2:9 no token]@check a.c@@int main(void) {¶  return 07; }
+[refused E02 2:10 no token]@check a.c@@int main(void) {¶  return 07; }
 [missing nofile]@check nofile@@int main(void) { return 0; }
 [missing ]@check @@int main(void) { return 0; }
 [refused E28 1:1 no main]@split a.c@@

@@ -8,7 +8,7 @@ use Rattle.ccbox_call.proofs.check.check_file.Goals as goal
 pub returns-in-Ok : goal.returns-in-Ok
 returns-in-Ok g c =
     gives_behind (g.F.Shelf.files c.args.shelf.now) (Check c.args.file.now) (core c.in-Ok._program) c.in-Ok.ensures.program.1 c.in-Ok.ensures.program.2 c.in-Ok.ensures.program.3
-    (λ text status a files tells. a) (done_gives {Is = CheckAnswer} accepted_text says_so c.give_accepted.ensures)
+    (λ text status a files tells. (a, tt)) (done_gives {Is = CheckAnswer} accepted_text says_so c.give_accepted.ensures)
 
 pub returns-in-Err : goal.returns-in-Err
 returns-in-Err g c = no_core_gives (g.F.Shelf.files c.args.shelf.now) (Check c.args.file.now) c.in-Err.ensures.program

@@ -8,7 +8,7 @@ use Rattle.ccbox_call.proofs.run.run_file.Goals as goal
 pub returns-in-Ok : goal.returns-in-Ok
 returns-in-Ok g c =
     gives_behind (g.F.Shelf.files c.args.shelf.now) (Run c.args.file.now (options_view c.args.options.now)) (core c.in-Ok.program) c.in-Ok.ensures.program.1 c.in-Ok.ensures.program.2 c.in-Ok.ensures.program.3
-    (λ text status a files tells. a files (c.in-Ok.ensures.files ∙ tells)) c.run_program.ensures
+    (λ text status a files tells. (a files (c.in-Ok.ensures.files ∙ tells), tt)) c.run_program.ensures
 
 pub returns-in-Err : goal.returns-in-Err
 returns-in-Err g c = no_core_gives (g.F.Shelf.files c.args.shelf.now) (Run c.args.file.now (options_view c.args.options.now)) c.in-Err.ensures.program
