@@ -1,5 +1,6 @@
 -- An actor of the sandbox's code as its parts see it, and what a step of it does.
-use Rattle.std.specs.Prelude.{◌≡◌, ℕ, ◌+◌, ◌^◌, ◌<◌, ◌≤◌, nat_le, nat_lt, if◌then◌else◌, Bool, true, false, List, [], ◌∷◌, length, take, reverse, Option, Some, None, option_map}
+use Rattle.std.specs.Prelude.{◌≡◌, ℕ, ◌+◌, ◌^◌, ◌<◌, ◌≤◌, nat_le, nat_lt, if◌then◌else◌, Bool, true, false}
+use Rattle.std.specs.Prelude.{List, [], ◌∷◌, length, take, reverse, Option, Some, None, option_map}
 use Rattle.act_words.specs.declared.act as code
 use Rattle.act_words.specs.Acts.{Seen, SeenBytes, SeenCall, SeenReply, Stop, act_view}
 use Rattle.flat_bytes.specs.Words.{word_at}
@@ -12,7 +13,8 @@ use Rattle.code_words.specs.declared.op.Op.{Op}
 use Rattle.code_words.specs.declared.op.Op.TheVariants as ops
 use Rattle.code_words.specs.Functions.{Func}
 use Rattle.code_words.specs.Images.{Image}
-use Rattle.code_words.specs.SandboxCode.{Frame, Held, Calls, Entered, CallsBack, Runs, Looks, Rests, State, Step, Goes, Acts, stop, function_of, act, answered, runs_for}
+use Rattle.code_words.specs.SandboxCode.{Frame, Held, Calls, Entered, CallsBack, Runs, Looks, Rests, State, Step, Goes, Acts}
+use Rattle.code_words.specs.SandboxCode.{stop, function_of, act, answered, runs_for}
 use Rattle.sandbox_actor_code.specs.CallFrames.{Call}
 use Rattle.sandbox_actor_code.specs.declared.waiting_calls.Awaited.{Awaited}
 use Rattle.sandbox_actor_code.specs.declared.waiting_calls.Awaited.TheVariants as awaited
