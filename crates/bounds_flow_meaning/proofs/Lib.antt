@@ -1,4 +1,5 @@
 pub mod Numbers
+pub mod Rows
 pub mod Validity
 pub mod Facts
 pub mod Formed

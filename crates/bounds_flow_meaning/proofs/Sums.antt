@@ -1,8 +1,9 @@
 -- Bounds of pointers that expressions make of pointers.
-use Rattle.std.proofs.Common.{ℕ, zero, suc, ◌+◌, ◌*◌, ◌≡◌, pos, negsuc, neg_ℤ, ◌+ℤ◌, ◌*ℤ◌, ◌≤ℤ◌, Bool, true, false, Option, None, Some, List, [], ◌∷◌, ◌++◌, length, map, refl, sym, ap, ◌∙◌, subst, arith}
-use Rattle.std.specs.Prelude.{slice_get, nat_le, int_le, sum}
+use Rattle.std.proofs.Common.{ℕ, zero, suc, ◌+◌, ◌-◌, ◌*◌, ◌≡◌, ◌<◌, ◌≤◌, ℤ, pos, negsuc, neg_ℤ, ◌+ℤ◌, ◌*ℤ◌, ◌≤ℤ◌, Bool, true, false, Option, None, Some, List, [], ◌∷◌, ◌++◌, length, map, refl, sym, ap, ◌∙◌, subst, arith, append_assoc}
+use Rattle.std.specs.Prelude.{slice_get, nat_le, int_le, int_lt, sum}
 use Rattle.std.proofs.lemmas.Int.{ints}
 use Rattle.std.proofs.lemmas.Bool.{and_from}
+use Rattle.std.proofs.lemmas.Option.{same_Some}
 use Rattle.std.proofs.lemmas.Bool.Decides.{nat_tests}
 use Rattle.std.proofs.lemmas.List.{map-append}
 use Rattle.std.proofs.lemmas.List.Sums.{sum-map, sum_by-append}
@@ -11,21 +12,23 @@ use Rattle.bounds_exprs.specs.declared.term.Term.{Term}
 use Rattle.bounds_exprs.specs.declared.term.Bounds.{Bounds}
 use Rattle.bounds_exprs.specs.Normal.{constant}
 use Rattle.bounds_exprs.specs.Terms.{within_limit}
-use Rattle.pointer_modes.specs.Types.{Structure}
+use Rattle.pointer_modes.specs.Types.{CType, Int, Char, Struct, Pointer, Structure}
+use Rattle.pointer_modes.specs.Layout.{size_of}
 use Rattle.ckc_core.specs.declared.program.Site.{Site}
 use Rattle.ckc_core.specs.Outcome.{Gives}
 use Rattle.ckc_core.specs.Programs.{Initial}
-use Rattle.ckc_core.specs.States.{Value, Null, At, Cell, Block, Local, State, shape, shapes, strides}
-use Rattle.ckc_core.specs.Bounds.{Ends, base_byte, block_size, ends_at, is_valid, lie_within, term_value}
+use Rattle.ckc_core.specs.States.{Value, Null, At, Cell, Block, Local, State, Shape, shape, shapes, strides}
+use Rattle.ckc_core.specs.Bounds.{Ends, base_byte, block_size, ends_at, ends_from, is_valid, lie_within, term_value}
 use Rattle.ckc_core.specs.Meaning.{sound_if}
 use Rattle.ckc_core.specs.Pointers.{cells_of_elements, counter_behind, element_cells, element_size, made_if, reaches}
 use Rattle.bounds_flow_meaning.specs.Holding.{IsValid, at_node, target_size}
+use Rattle.bounds_flow_meaning.specs.Rows.{AreCellsBehind, AreCellsOf, AreElements, HasRow, LeadsOn}
 use Rattle.bounds_flow_meaning.specs.Sums.{AuditsPass, BasesStay, BlocksGrow, EndsMoveBack, IsNew, NewBlocksCount, NullIsValid, VariablesAreBases, counted}
-use Rattle.bounds_flow_meaning.proofs.Validity.{base_found, between_parts, ends_made, ends_same, grown_valid, grows_here, int_to, moved_ends, null_valid, valid_from, valid_to, valid_with}
+use Rattle.bounds_flow_meaning.proofs.Validity.{IsValidAt, base_found, between_parts, both_true, ends_made, ends_parts, ends_same, grown_valid, grows_here, int_to, kept, moved_ends, nat_more, null_valid, shape_there, times_plus, valid_from, valid_to}
 
 pub audits_pass : AuditsPass
 audits_pass structs s None l site h = refl
-audits_pass structs s (Some b) l site h = ap (λ test. sound_if test site l.value s) (h site)
+audits_pass structs s (Some b) l site h = ap (λ test. sound_if test site l.value s) (h.passes site)
 
 pub null_is_valid : NullIsValid
 null_is_valid structs s bounds l e = null_valid structs bounds l s e
@@ -34,40 +37,81 @@ pub blocks_grow : BlocksGrow
 blocks_grow structs s t bounds l grows same h = grown_valid structs bounds l s t grows same h
 
 pub variables_are_bases : VariablesAreBases
-variables_are_bases structs s p l b there none h site =
-    valid_with (at_node b n site) (at_node (record b { base = Some p }) n site) l.value s s (grows_here (shapes s.blocks)) (λ block byte e at are.
+variables_are_bases structs s p l b there none h =
+    kept structs b (record b { base = Some p }) l s s (grows_here (shapes s.blocks)) (λ site block byte e at are.
     let found : base_byte (Some p) s.locals block byte ≡ base_byte b.base s.locals block byte = base_found s.locals p l block byte byte there at ∙ sym (ap (λ o. base_byte o s.locals block byte) none) in
-    ends_same n (base_byte b.base s.locals block byte) (base_byte (Some p) s.locals block byte) (term_value b.lo s.locals) (term_value b.lo s.locals) (term_value b.hi s.locals) (term_value b.hi s.locals) found refl refl ∙ are) (h site)
+    ends_same n (base_byte b.base s.locals block byte) (base_byte (Some p) s.locals block byte) (term_value b.lo s.locals) (term_value b.lo s.locals) (term_value b.hi s.locals) (term_value b.hi s.locals) found refl refl ∙ are) h
   where
     n : ℕ
     n = target_size structs l.type
 
+same_of : (block byte other there : ℕ) → At block byte ≡ At other there → block ≡ other
+same_of block byte other there e = cc
+
+same_at : (block byte other there : ℕ) → At block byte ≡ At other there → byte ≡ there
+same_at block byte other there e = cc
+
 reached : (o : Option Block) (held : Block) (place : ℕ) → o ≡ Some held → reaches o place ≡ true → nat_le place (block_size held) ≡ true
 reached o held place e h = subst (λ o. reaches o place ≡ true) e h
 
+ends_size : (size : ℕ) (base : Option ℕ) (lo hi : Option ℤ) (e : Ends) → ends_from size base lo hi ≡ Some e → size ≡ e.size
+ends_size size base lo hi e h = ap (λ (e : Ends). e.size) (ends_parts size base lo hi e h).are
+
+-- Places that are whole elements away from one of a pointer's places are whole elements away from the others: c elements to the one
+-- and n from there on are c + n elements.
+leads_moved : (structs : List Structure) (blocks : List Shape) (t : CType) (block byte place : ℕ) (c : ℤ) (e : Ends) → pos place ≡ pos byte +ℤ (c *ℤ pos e.size)
+    → LeadsOn structs blocks t block byte e → LeadsOn structs blocks t block place e
+leads_moved structs blocks Int block byte place c e step h = tt
+leads_moved structs blocks Char block byte place c e step h = tt
+leads_moved structs blocks (Struct number) block byte place c e step h = tt
+leads_moved structs blocks (Pointer mode kind target) block byte place c e step h =
+    λ n further on lies. h (c +ℤ n) further (let sum = times_plus c n e.size in omega (arith, ints, step, on, sum)) lies
+
 -- a pointer that is valid, at another place of its block
-module _ (structs : List Structure) (s : State) (l : Local) (block byte place : ℕ) (b d : Bounds) (at' : l.value ≡ At block byte) (reach : reaches (slice_get s.blocks block) place ≡ true) where
+module _ (structs : List Structure) (s : State) (l : Local) (block byte place : ℕ) (c : ℤ) (b d : Bounds) (at' : l.value ≡ At block byte)
+    (step : pos place ≡ pos byte +ℤ (c *ℤ pos (target_size structs l.type))) (reach : reaches (slice_get s.blocks block) place ≡ true) where
   abbrev size : ℕ
   size = target_size structs l.type
 
   moved_valid : ((site : Site) (e : Ends) → ends_at (at_node b size site) s.locals block byte ≡ Some e → ends_at (at_node d size site) s.locals block place ≡ Some e) → IsValid structs (Some b) l s
       → IsValid structs (Some d) (record l { value = At block place }) s
-  moved_valid ends h site =
-      let v = valid_from (at_node b size site) block byte s (subst (λ v. is_valid (at_node b size site) v s ≡ true) at' (h site)) in
-      valid_to (at_node d size site) block place s
-      (record { held = v.held; ends = v.ends; found = v.found; are = ends site v.ends v.are; place = reached (slice_get s.blocks block) v.held place v.found reach; fits = v.fits })
+  moved_valid ends h = record { passes = passes; leads = leads }
+    where
+      valid_before : (site : Site) → IsValidAt (at_node b size site) block byte s
+      valid_before site = valid_from (at_node b size site) block byte s (subst (λ v. is_valid (at_node b size site) v s ≡ true) at' (h.passes site))
+
+      passes : (site : Site) → is_valid (at_node d size site) (At block place) s ≡ true
+      passes site =
+          let v = valid_before site in
+          valid_to (at_node d size site) block place s
+          (record { held = v.held; ends = v.ends; found = v.found; are = ends site v.ends v.are; place = reached (slice_get s.blocks block) v.held place v.found reach; fits = v.fits })
+
+      leads_here : (site : Site) (e : Ends) → ends_at (at_node d size site) s.locals block place ≡ Some e → LeadsOn structs (shapes s.blocks) l.type block place e
+      leads_here site e are =
+          let v = valid_before site in
+          let same : v.ends ≡ e = same_Some v.ends e (sym (ends site v.ends v.are) ∙ are) in
+          let sized : size ≡ v.ends.size = ends_size size (base_byte b.base s.locals block byte) (term_value b.lo s.locals) (term_value b.hi s.locals) v.ends v.are in
+          subst (λ e. LeadsOn structs (shapes s.blocks) l.type block place e) same
+          (leads_moved structs (shapes s.blocks) l.type block byte place c v.ends (step ∙ ap (λ n. pos byte +ℤ (c *ℤ pos n)) sized) (h.leads site block byte v.ends at' v.are))
+
+      leads : (site : Site) (other there : ℕ) (e : Ends) → At block place ≡ At other there → ends_at (at_node d size site) s.locals other there ≡ Some e → LeadsOn structs (shapes s.blocks) l.type other there e
+      leads site other there e same are =
+          let blocks : block ≡ other = same_of block place other there same in
+          let bytes : place ≡ there = same_at block place other there same in
+          subst (λ k. LeadsOn structs (shapes s.blocks) l.type k there e) blocks (subst (λ k. LeadsOn structs (shapes s.blocks) l.type block k e) bytes
+          (leads_here site e (ap (λ k. ends_at (at_node d size site) s.locals block k) bytes ∙ (ap (λ k. ends_at (at_node d size site) s.locals k there) blocks ∙ are))))
 
 pub ends_move_back : EndsMoveBack
 ends_move_back structs s l block byte place c b d at' step reach none moved h =
-    moved_valid structs s l block byte place b d at' reach (λ site e are.
+    moved_valid structs s l block byte place c b d at' step reach (λ site e are.
     let here : base_byte b.base s.locals block byte ≡ Some byte = ap (λ o. base_byte o s.locals block byte) none in
     let base : d.base ≡ None = (between_parts b.base (within_limit b.lo.var (b.lo.plus +ℤ neg_ℤ c)) (within_limit b.hi.var (b.hi.plus +ℤ neg_ℤ c)) d moved).base ∙ none in
     let there : base_byte d.base s.locals block place ≡ Some place = ap (λ o. base_byte o s.locals block place) base in
     moved_ends (target_size structs l.type) byte place c b d s.locals s.locals (base_byte b.base s.locals block byte) (base_byte d.base s.locals block place) e (λ t. refl) moved there step here are) h
 
 pub bases_stay : BasesStay
-bases_stay structs s l block byte place q b at' reach base h =
-    moved_valid structs s l block byte place b b at' reach (λ site e are.
+bases_stay structs s l block byte place q c b at' step reach base h =
+    moved_valid structs s l block byte place c b b at' step reach (λ site e are.
     let same : base_byte b.base s.locals block place ≡ base_byte b.base s.locals block byte = ap (λ o. base_byte o s.locals block place) base ∙ sym (ap (λ o. base_byte o s.locals block byte) base) in
     ends_same (target_size structs l.type) (base_byte b.base s.locals block byte) (base_byte b.base s.locals block place) (term_value b.lo s.locals) (term_value b.lo s.locals) (term_value b.hi s.locals) (term_value b.hi s.locals) same refl refl ∙ are) h
 
@@ -94,16 +138,53 @@ cells_size (suc n) element =
     let more = cells_size n element in
     omega (arith, parts, first, more)
 
+-- each element stands between those before it and those behind
+cells_split : (k m : ℕ) (element : List Initial) → cells_of_elements (k + suc m) element ≡ cells_of_elements k element ++ element_cells element ++ cells_of_elements m element
+cells_split zero m element = ap (λ n. cells_of_elements n element) (let same : 0 + suc m ≡ suc m = omega arith in same)
+cells_split (suc k) m element =
+    let next : suc k + suc m ≡ suc (k + suc m) = omega arith in
+    let one = element_cells element in
+    let before = cells_of_elements k element in
+    let after = cells_of_elements m element in
+    ap (λ n. cells_of_elements n element) next ∙ (ap (λ cells. one ++ cells) (cells_split k m element)
+    ∙ (sym (append_assoc one (before ++ one) after) ∙ ap (λ cells. cells ++ after) (sym (append_assoc one before one))))
+
 new_there : {X : Type 0} (xs : List X) (x : X) → slice_get (xs ++ x ∷ []) (length xs) ≡ Some x
 new_there [] x = refl
 new_there (y ∷ xs) x = new_there xs x
 
-lies : (e : Ends) (size : ℕ) → pos 0 ≤ℤ e.low → e.high ≤ℤ pos size → lie_within e size ≡ true
+pub lies : (e : Ends) (size : ℕ) → pos 0 ≤ℤ e.low → e.high ≤ℤ pos size → lie_within e size ≡ true
 lies e size low high = by (int_le e.low e.high) refl
   where
     by : (b : Bool) → int_le e.low e.high ≡ b → lie_within e size ≡ true
     by true q = rw q (and_from (int_le (pos 0) e.low) (int_le e.high (pos size)) (int_to (pos 0) e.low low) (int_to e.high (pos size) high))
     by false q = rw q refl
+
+pub less_of : (m n : ℕ) (b : ℤ) → int_lt (pos m) b ≡ true → b ≤ℤ pos n → m < n
+less_of m n b h le = grind (arith, ints)
+
+no_place : (k size place : ℕ) → pos place ≡ pos 0 +ℤ (negsuc k *ℤ pos (suc size)) → ⊥
+no_place k size place step = omega (arith, ints, step)
+
+-- a byte that is so many elements behind the first one, and before the end of the last
+record IsElement (n size place : ℕ) : Type 0 where
+  number : ℕ
+  below : number < n
+  is : place ≡ number * size
+
+less_times : (k n size : ℕ) → k * size < n * size → k < n
+less_times k n size h = by (nat_le n k) refl
+  where
+    by : (b : Bool) → nat_le n k ≡ b → k < n
+    by true e = (let le : n ≤ k = grind (arith, nat_tests) in let more = nat_more n k size le in absurd (omega (arith, h, more)))
+    by false e = grind (arith, nat_tests)
+
+element_of : (k : ℤ) (n size place : ℕ) → pos place ≡ pos 0 +ℤ (k *ℤ pos size) → place < n * size → IsElement n size place
+element_of (pos k) n size place step lt =
+    let is : place ≡ k * size = omega (arith, ints, step) in
+    record { number = k; below = less_times k n size (subst (λ place. place < n * size) is lt); is = is }
+element_of (negsuc k) n zero place step lt = absurd (let none : n * 0 ≡ 0 = omega arith in omega (arith, none, lt))
+element_of (negsuc k) n (suc size) place step lt = absurd (no_place k size place step)
 
 -- what is given is one value in one state
 same_value : (a v : Value) (r u : State) → Gives a r ≡ Gives v u → a ≡ v
@@ -112,27 +193,80 @@ same_value a v r u e = cc
 same_state : (a v : Value) (r u : State) → Gives a r ≡ Gives v u → r ≡ u
 same_state a v r u e = cc
 
-module _ (structs : List Structure) (element : List Initial) (t : Term) (l : Local) (s : State) (sized : element_size element ≡ target_size structs l.type) where
+module _ (structs : List Structure) (element : List Initial) (t : Term) (l : Local) (s : State) (sized : element_size element ≡ target_size structs l.type) (cells : AreCellsBehind structs l.type element) where
   abbrev made : ℕ → Block
   made n = record { cells = cells_of_elements n element; zero_ended = false }
 
+  -- a value of the type stands at each element
+  element_row : (target : CType) (n k : ℕ) → AreCellsOf structs target element → k < n → HasRow structs (shape (made n)) (k * element_size element) target
+  element_row target n k cells lt =
+      let more = n - suc k in
+      let count : n ≡ k + suc more = omega (arith, lt) in
+      let whole : cells_of_elements n element ≡ cells_of_elements k element ++ element_cells element ++ cells_of_elements more element =
+      ap (λ n. cells_of_elements n element) count ∙ cells_split k more element in
+      subst (λ cells. HasRow structs (shape (record { cells = cells; zero_ended = false })) (k * element_size element) target) (sym whole) (cells k (cells_of_elements more element))
+
+  abbrev made_blocks : ℕ → List Block
+  made_blocks n = s.blocks ++ made n ∷ []
+
+  made_elements : (target : CType) (n size : ℕ) (e : Ends) → AreCellsOf structs target element → element_size element ≡ size → e.size ≡ size → pos 0 ≤ℤ e.low → e.high ≤ℤ pos (n * size)
+      → AreElements structs (shapes (made_blocks n)) target (length s.blocks) 0 e
+  made_elements target n size e cells same sized low high k place step lies =
+      let parts = both_true (int_le e.low (pos place)) (int_lt (pos place) e.high) lies in
+      let lt : place < n * size = less_of place (n * size) e.high parts.1 high in
+      let at' : IsElement n size place = element_of k n size place (step ∙ ap (λ m. pos 0 +ℤ (k *ℤ pos m)) sized) lt in
+      let row = element_row target n at'.number cells at'.below in
+      record {
+        shape = shape (made n);
+        found = shape_there (made_blocks n) (length s.blocks) (made n) (new_there s.blocks (made n));
+        row = subst (λ byte. HasRow structs (shape (made n)) byte target) (ap (λ m. at'.number * m) same ∙ sym at'.is) row;
+      }
+
+  made_leads : (type : CType) (n : ℕ) (e : Ends) → AreCellsBehind structs type element → element_size element ≡ target_size structs type → e.size ≡ target_size structs type → pos 0 ≤ℤ e.low
+      → e.high ≤ℤ pos (n * target_size structs type) → LeadsOn structs (shapes (made_blocks n)) type (length s.blocks) 0 e
+  made_leads Int n e cells same sized low high = tt
+  made_leads Char n e cells same sized low high = tt
+  made_leads (Struct number) n e cells same sized low high = tt
+  made_leads (Pointer mode kind target) n e cells same sized low high = made_elements target n (size_of structs target) e cells same sized low high
+
   made_valid : (n : ℕ) → term_value t s.locals ≡ Some (pos n)
       → IsValid structs (Some (counted t)) (record l { value = At (length s.blocks) 0 }) (record s { blocks = s.blocks ++ made n ∷ [] })
-  made_valid n h site =
-      let size = target_size structs l.type in
-      let bytes : block_size (made n) ≡ n * size = cells_size n element ∙ ap (λ k. n * k) sized in
-      let e : Ends = record { low = pos 0 +ℤ ((pos 0 +ℤ pos 0) *ℤ pos size); high = pos 0 +ℤ (pos n *ℤ pos size); size = size } in
-      valid_to (at_node (counted t) size site) (length s.blocks) 0 (record s { blocks = s.blocks ++ made n ∷ [] }) (record {
-        held = made n;
-        ends = e;
-        found = new_there s.blocks (made n);
-        are = ends_made size 0 (pos 0 +ℤ pos 0) (pos n) (Some 0) (term_value (constant (pos 0)) s.locals) (term_value t s.locals) refl refl h;
-        place = grind (arith, nat_tests);
-        fits = lies e (block_size (made n)) (omega (arith, ints)) (omega (arith, ints, bytes));
-      })
+  made_valid n h = record { passes = passes; leads = leads }
+    where
+      size : ℕ
+      size = target_size structs l.type
+
+      e : Ends
+      e = record { low = pos 0 +ℤ ((pos 0 +ℤ pos 0) *ℤ pos size); high = pos 0 +ℤ (pos n *ℤ pos size); size = size }
+
+      are : (site : Site) → ends_at (at_node (counted t) size site) s.locals (length s.blocks) 0 ≡ Some e
+      are site = ends_made size 0 (pos 0 +ℤ pos 0) (pos n) (Some 0) (term_value (constant (pos 0)) s.locals) (term_value t s.locals) refl refl h
+
+      passes : (site : Site) → is_valid (at_node (counted t) size site) (At (length s.blocks) 0) (record s { blocks = made_blocks n }) ≡ true
+      passes site =
+          let bytes : block_size (made n) ≡ n * size = cells_size n element ∙ ap (λ k. n * k) sized in
+          valid_to (at_node (counted t) size site) (length s.blocks) 0 (record s { blocks = made_blocks n }) (record {
+            held = made n;
+            ends = e;
+            found = new_there s.blocks (made n);
+            are = are site;
+            place = grind (arith, nat_tests);
+            fits = lies e (block_size (made n)) (omega (arith, ints)) (omega (arith, ints, bytes));
+          })
+
+      leads : (site : Site) (block byte : ℕ) (f : Ends) → At (length s.blocks) 0 ≡ At block byte → ends_at (at_node (counted t) size site) s.locals block byte ≡ Some f
+          → LeadsOn structs (shapes (made_blocks n)) l.type block byte f
+      leads site block byte f same found =
+          let blocks : length s.blocks ≡ block = same_of (length s.blocks) 0 block byte same in
+          let bytes : 0 ≡ byte = same_at (length s.blocks) 0 block byte same in
+          let ends : e ≡ f = same_Some e f (sym (are site) ∙ (ap (λ k. ends_at (at_node (counted t) size site) s.locals (length s.blocks) k) bytes
+          ∙ (ap (λ k. ends_at (at_node (counted t) size site) s.locals k byte) blocks ∙ found))) in
+          subst (λ k. LeadsOn structs (shapes (made_blocks n)) l.type k byte f) blocks (subst (λ k. LeadsOn structs (shapes (made_blocks n)) l.type (length s.blocks) k f) bytes
+          (subst (λ f. LeadsOn structs (shapes (made_blocks n)) l.type (length s.blocks) 0 f) ends
+          (made_leads l.type n e cells sized refl (omega (arith, ints)) (omega (arith, ints)))))
 
   null_new : IsNew structs (counted t) (record l { value = Null }) s s
-  null_new = record { valid = λ site. refl; grows = grows_here (shapes s.blocks); locals = refl }
+  null_new = record { valid = null_valid structs (Some (counted t)) (record l { value = Null }) s refl; grows = grows_here (shapes s.blocks); locals = refl }
 
   given : (a v : Value) (r u : State) → Gives a r ≡ Gives v u → IsNew structs (counted t) (record l { value = a }) s r → IsNew structs (counted t) (record l { value = v }) s u
   given a v r u e h =
@@ -147,5 +281,6 @@ module _ (structs : List Structure) (element : List Initial) (t : Term) (l : Loc
       (record { valid = made_valid n h; grows = (shape (made n) ∷ [], map-append shape s.blocks (made n ∷ [])); locals = refl })
 
 pub new_blocks_count : NewBlocksCount
-new_blocks_count structs room element t (negsuc n) l v s u h sized e = given structs element t l s sized Null v s u e (null_new structs element t l s sized)
-new_blocks_count structs room element t (pos n) l v s u h sized e = made_new structs element t l s sized (is_refused room (counter_behind first_offset s.blocks) (n * element_size element)) n v u h e
+new_blocks_count structs room element t (negsuc n) l v s u h sized cells e = given structs element t l s sized cells Null v s u e (null_new structs element t l s sized cells)
+new_blocks_count structs room element t (pos n) l v s u h sized cells e =
+    made_new structs element t l s sized cells (is_refused room (counter_behind first_offset s.blocks) (n * element_size element)) n v u h e

@@ -1,6 +1,6 @@
 -- Pointers that are valid with bounds.
-use Rattle.std.proofs.Common.{ℕ, zero, suc, ◌*◌, ◌≤◌, ◌≡◌, ℤ, pos, negsuc, neg_ℤ, ◌+ℤ◌, ◌*ℤ◌, ◌≤ℤ◌, Bool, true, false, cond, ◌==◌, Option, None, Some, List, [], ◌∷◌, ◌++◌, refl, sym, ap, ◌∙◌, subst, arith, append-nil, ◌⊎◌, inl, inr}
-use Rattle.std.specs.Prelude.{slice_get, ◌&&◌, ◌||◌, nat_le, int_le, sum}
+use Rattle.std.proofs.Common.{ℕ, zero, suc, ◌*◌, ◌≤◌, ◌≡◌, ℤ, pos, negsuc, neg_ℤ, ◌+ℤ◌, ◌*ℤ◌, ◌≤ℤ◌, Bool, true, false, cond, ◌==◌, Option, None, Some, List, [], ◌∷◌, refl, sym, ap, ◌∙◌, subst, arith, append-nil, ◌⊎◌, inl, inr}
+use Rattle.std.specs.Prelude.{slice_get, ◌&&◌, ◌||◌, nat_le, int_le, int_lt, sum}
 use Rattle.std.proofs.lemmas.Int.{ints}
 use Rattle.std.proofs.lemmas.Option.{same_Some, cond_some}
 use Rattle.std.proofs.lemmas.Bool.{and_from}
@@ -10,14 +10,17 @@ use Rattle.bounds_exprs.specs.declared.term.Bounds.{Bounds}
 use Rattle.bounds_exprs.specs.Terms.{is_var, within_limit}
 use Rattle.bounds_exprs.specs.Changes.{between, is_named, lowered, moved_back, moved_by}
 use Rattle.subsumption.specs.Facts.{TermsHold, term_value as value}
-use Rattle.pointer_modes.specs.Types.{Structure}
+use Rattle.pointer_modes.specs.Types.{CType, Int, Char, Struct, Pointer, Structure}
 use Rattle.ckc_core.specs.declared.program.Site.{Site}
 use Rattle.ckc_core.specs.declared.program.PointerBounds.{PointerBounds}
 use Rattle.ckc_core.specs.States.{Value, Number, Null, At, Block, Local, State, Shape, Grows, shape, shapes}
 use Rattle.ckc_core.specs.Bounds.{Ends, term_value, base_byte, ends_from, ends_at, block_size, lie_within, is_valid}
+use Rattle.ckc_core.specs.Pointers.{lies_below}
 use Rattle.bounds_flow_meaning.specs.Holding.{AreInts, HaveTypes, IsValid, at_node, numbers_in, target_size, types_of}
 use Rattle.bounds_flow_meaning.specs.Laws.{IsMoved, IsPointer, with_local}
+use Rattle.bounds_flow_meaning.specs.Rows.{LeadsOn}
 use Rattle.bounds_flow_meaning.proofs.Numbers.{IsNumber, found_same, int_term, limited_value, lowered_value, number_base, other_base, other_term, pointer_term, replaced, same_number, term_number, term_raised}
+use Rattle.bounds_flow_meaning.proofs.Rows.{leads_grown, still_there}
 
 -- ---- tests
 
@@ -35,13 +38,16 @@ int_from a b h = grind (arith, ints)
 pub int_to : (a b : ℤ) → a ≤ℤ b → int_le a b ≡ true
 int_to a b h = grind (arith, ints)
 
+less_still : (a b c : ℤ) → int_lt a b ≡ true → b ≤ℤ c → int_lt a c ≡ true
+less_still a b c h le = grind (arith, ints)
+
 pub is_this : (x : ℕ) (o : Option ℕ) → is_var x o ≡ true → o ≡ Some x
 is_this x None h = absurd (cc)
 is_this x (Some y) h = ap Some (same_number y x h)
 
 -- ---- sums and products
 
-nat_more : (a b n : ℕ) → a ≤ b → a * n ≤ b * n
+pub nat_more : (a b n : ℕ) → a ≤ b → a * n ≤ b * n
 nat_more a b n h = grind arith
 
 times_le : (a b : ℤ) (n : ℕ) → a ≤ℤ b → (a *ℤ pos n) ≤ℤ (b *ℤ pos n)
@@ -66,10 +72,18 @@ times_apart a c (suc n) =
     let r = times_suc a n in
     let h = times_apart a c n in omega (arith, ints, p, q, r, h)
 
+pub times_plus : (a c : ℤ) (n : ℕ) → (a +ℤ c) *ℤ pos n ≡ (a *ℤ pos n) +ℤ (c *ℤ pos n)
+times_plus a c zero = (let p = times_zero (a +ℤ c) in let q = times_zero c in let r = times_zero a in omega (arith, ints, p, q, r))
+times_plus a c (suc n) =
+    let p = times_suc (a +ℤ c) n in
+    let q = times_suc c n in
+    let r = times_suc a n in
+    let h = times_plus a c n in omega (arith, ints, p, q, r, h)
+
 -- ---- ends
 
 -- the parts of ends that there are
-record AreEnds (size : ℕ) (base : Option ℕ) (lo hi : Option ℤ) (e : Ends) : Type 0 where
+pub record AreEnds (size : ℕ) (base : Option ℕ) (lo hi : Option ℤ) (e : Ends) : Type 0 where
   pub byte : ℕ
   pub low : ℤ
   pub high : ℤ
@@ -78,7 +92,7 @@ record AreEnds (size : ℕ) (base : Option ℕ) (lo hi : Option ℤ) (e : Ends) 
   pub at_high : hi ≡ Some high
   pub are : record { low = pos byte +ℤ (low *ℤ pos size); high = pos byte +ℤ (high *ℤ pos size); size = size } ≡ e
 
-ends_parts : (size : ℕ) (base : Option ℕ) (lo hi : Option ℤ) (e : Ends) → ends_from size base lo hi ≡ Some e → AreEnds size base lo hi e
+pub ends_parts : (size : ℕ) (base : Option ℕ) (lo hi : Option ℤ) (e : Ends) → ends_from size base lo hi ≡ Some e → AreEnds size base lo hi e
 ends_parts size None lo hi e h = absurd (cc)
 ends_parts size (Some byte) None hi e h = absurd (cc)
 ends_parts size (Some byte) (Some low) None e h = absurd (cc)
@@ -136,12 +150,7 @@ valid_to p block byte s h = rw (h.found, h.are) (and_from (nat_le byte (block_si
 pub grows_here : (b : List Shape) → Grows b b
 grows_here b = ([], sym (append-nil b))
 
-still_there : {X : Type 0} (xs more : List X) (k : ℕ) (x : X) → slice_get xs k ≡ Some x → slice_get (xs ++ more) k ≡ Some x
-still_there [] more k x h = absurd (cc)
-still_there (y ∷ xs) more zero x h = h
-still_there (y ∷ xs) more (suc k) x h = still_there xs more k x h
-
-shape_there : (blocks : List Block) (k : ℕ) (b : Block) → slice_get blocks k ≡ Some b → slice_get (shapes blocks) k ≡ Some (shape b)
+pub shape_there : (blocks : List Block) (k : ℕ) (b : Block) → slice_get blocks k ≡ Some b → slice_get (shapes blocks) k ≡ Some (shape b)
 shape_there [] k b h = absurd (cc)
 shape_there (c ∷ blocks) zero b h = ap Some (ap shape (same_Some c b h))
 shape_there (c ∷ blocks) (suc k) b h = shape_there blocks k b h
@@ -181,17 +190,43 @@ alike_here l = record { type = refl; value = inl refl }
 number_invalid : (p : PointerBounds) (v : Value) (s : State) → IsNumber v → is_valid p v s ≡ true → ⊥
 number_invalid p v s n h = let e : is_valid p (Number n.number) s ≡ true = subst (λ v. is_valid p v s ≡ true) n.is h in cc
 
+-- where the ends of a pointer stay, and blocks are only added
+pub kept : (structs : List Structure) (b c : Bounds) (l : Local) (s t : State) → Grows (shapes s.blocks) (shapes t.blocks)
+    → ((site : Site) (block byte : ℕ) (e : Ends) → l.value ≡ At block byte → ends_at (at_node b (target_size structs l.type) site) s.locals block byte ≡ Some e
+    → ends_at (at_node c (target_size structs l.type) site) t.locals block byte ≡ Some e) → IsValid structs (Some b) l s → IsValid structs (Some c) l t
+kept structs b c l s t grows ends h = record { passes = λ site. valid_with (at_node b n site) (at_node c n site) l.value s t grows (ends site) (h.passes site); leads = leads }
+  where
+    n : ℕ
+    n = target_size structs l.type
+
+    leads : (site : Site) (block byte : ℕ) (e : Ends) → l.value ≡ At block byte → ends_at (at_node c n site) t.locals block byte ≡ Some e → LeadsOn structs (shapes t.blocks) l.type block byte e
+    leads site block byte e at' are =
+        let v = valid_from (at_node b n site) block byte s (subst (λ v. is_valid (at_node b n site) v s ≡ true) at' (h.passes site)) in
+        let same : v.ends ≡ e = same_Some v.ends e (sym (ends site block byte v.ends at' v.are) ∙ are) in
+        leads_grown structs (shapes s.blocks) (shapes t.blocks) grows l.type block byte e
+        (subst (λ e. LeadsOn structs (shapes s.blocks) l.type block byte e) same (h.leads site block byte v.ends at' v.are))
+
+-- and of a variable that is alike
+alike_valid : (structs : List Structure) (b : Bounds) (l m : Local) (t : State) → IsAlike l m → IsValid structs (Some b) l t → IsValid structs (Some b) m t
+alike_valid structs b l m t alike h = elim alike.value [
+  | inl same ↦ alike_local m.type m.value alike.type same
+  | inr n ↦ absurd (number_invalid (at_node b (target_size structs l.type) here) l.value t n.0 (h.passes here))
+]
+  where
+    here : Site
+    here = record { place = record { line = 0; col = 0 } }
+
+    alike_local : (type : CType) (v : Value) → type ≡ l.type → v ≡ l.value → IsValid structs (Some b) (record { type = type; value = v }) t
+    alike_local type v p q = subst (λ v. IsValid structs (Some b) (record { type = type; value = v }) t) (sym q) (subst (λ type. IsValid structs (Some b) (record { type = type; value = l.value }) t) (sym p) h)
+
 pub carried : (structs : List Structure) (b c : Bounds) (l m : Local) (s t : State) → Grows (shapes s.blocks) (shapes t.blocks) → IsAlike l m
     → StayEnds (target_size structs l.type) b c s.locals t.locals → IsValid structs (Some b) l s → IsValid structs (Some c) m t
-carried structs b c l m s t grows alike ends h site = elim alike.value [
-  | inl same ↦ rw (alike.type, same) (valid_with (at_node b (target_size structs l.type) site) (at_node c (target_size structs l.type) site) l.value s t grows (λ block byte e q. ends site block byte e) (h site))
-  | inr n ↦ absurd (number_invalid (at_node b (target_size structs l.type) site) l.value s n.0 (h site))
-]
+carried structs b c l m s t grows alike ends h = alike_valid structs c l m t alike (kept structs b c l s t grows (λ site block byte e q. ends site block byte e) h)
 
 -- null is valid with all bounds
 pub null_valid : (structs : List Structure) (o : Option Bounds) (l : Local) (s : State) → l.value ≡ Null → IsValid structs o l s
 null_valid structs None l s e = tt
-null_valid structs (Some b) l s e = λ site. rw e refl
+null_valid structs (Some b) l s e = record { passes = λ site. rw e refl; leads = λ site block byte ends at' are. absurd (let no : Null ≡ At block byte = sym e ∙ at' in cc) }
 
 -- ---- changes of bounds
 
@@ -301,15 +336,15 @@ module _ (structs : List Structure) (s : State) (p : ℕ) (old : Local) (v : Val
   -- bounds of its own from what it was, read from what it is
   pub own_stays : (c : ℤ) (b d : Bounds) → b.base ≡ Some p → moved_by (neg_ℤ c) (record b { base = None }) ≡ Some d → IsMoved (target_size structs old.type) c old.value v
       → IsValid structs (Some b) (record old { value = v }) s → IsValid structs (Some d) (record old { value = v }) (with_local p old v s)
-  own_stays c b d base moved step h site = valid_with (at_node b n site) (at_node d n site) v s (with_local p old v s) (grows_here (shapes s.blocks)) (λ block byte e at q.
+  own_stays c b d base moved step h =
+      kept structs b d (record old { value = v }) s (with_local p old v s) (grows_here (shapes s.blocks)) (λ site block byte e at q.
       let parts = ends_parts n (base_byte b.base s.locals block byte) (term_value b.lo s.locals) (term_value b.hi s.locals) e q in
       let here : base_byte (Some p) s.locals block byte ≡ Some parts.byte = sym (ap (λ o. base_byte o s.locals block byte) base) ∙ parts.at_base in
       let place = moved_place n c old.value v block parts.byte (base_there s.locals p old block byte parts.byte there here) step in
       let same : byte ≡ place.0 = at_same block byte place.0 (sym at ∙ place.1) in
       let none : d.base ≡ None = (between_parts None (within_limit b.lo.var (b.lo.plus +ℤ neg_ℤ c)) (within_limit b.hi.var (b.hi.plus +ℤ neg_ℤ c)) d moved).base in
       let found : base_byte d.base after block byte ≡ Some place.0 = ap (λ o. base_byte o after block byte) none ∙ ap Some same in
-      moved_ends n parts.byte place.0 c (record b { base = None }) d s.locals after (base_byte b.base s.locals block byte) (base_byte d.base after block byte) e terms_stay moved found place.2 parts.at_base q)
-      (h site)
+      moved_ends n parts.byte place.0 c (record b { base = None }) d s.locals after (base_byte b.base s.locals block byte) (base_byte d.base after block byte) e terms_stay moved found place.2 parts.at_base q) h
     where
       n : ℕ
       n = target_size structs old.type
@@ -333,42 +368,91 @@ within_by e f size true t low high h =
     rw t (and_from (int_le (pos 0) f.low) (int_le f.high (pos size)) (int_to (pos 0) f.low (omega (arith, ints, a, low))) (int_to f.high (pos size) (omega (arith, ints, b, high))))
 within_by e f size false t low high h = rw t refl
 
-narrower_at : (size : ℕ) (site : Site) (b d : Bounds) (block byte : ℕ) (s : State) (low high : ℤ) → d.base ≡ b.base → term_value d.lo s.locals ≡ Some low → term_value d.hi s.locals ≡ Some high
+-- what is between narrower ends is between the wider ones
+lies_wider : (wide narrow : Ends) (byte : ℤ) → wide.low ≤ℤ narrow.low → narrow.high ≤ℤ wide.high → lies_below narrow byte ≡ true → lies_below wide byte ≡ true
+lies_wider wide narrow byte low high h =
+    let parts = both_true (int_le narrow.low byte) (int_lt byte narrow.high) h in
+    let from = int_from narrow.low byte parts.0 in
+    and_from (int_le wide.low byte) (int_lt byte wide.high) (int_to wide.low byte (omega (arith, ints, low, from))) (less_still byte narrow.high wide.high parts.1 high)
+
+leads_narrower : (structs : List Structure) (blocks : List Shape) (t : CType) (block byte : ℕ) (wide narrow : Ends) → wide.size ≡ narrow.size → wide.low ≤ℤ narrow.low → narrow.high ≤ℤ wide.high
+    → LeadsOn structs blocks t block byte wide → LeadsOn structs blocks t block byte narrow
+leads_narrower structs blocks Int block byte wide narrow size low high h = tt
+leads_narrower structs blocks Char block byte wide narrow size low high h = tt
+leads_narrower structs blocks (Struct number) block byte wide narrow size low high h = tt
+leads_narrower structs blocks (Pointer mode kind target) block byte wide narrow size low high h =
+    λ n place step lies. h n place (step ∙ ap (λ k. pos byte +ℤ (n *ℤ pos k)) (sym size)) (lies_wider wide narrow (pos place) low high lies)
+
+-- the ends of a pointer that is valid, and those of narrower bounds
+record IsNarrower (size : ℕ) (site : Site) (b d : Bounds) (block byte : ℕ) (s : State) : Type 0 where
+  wide : Ends
+  narrow : Ends
+  at_wide : ends_at (at_node b size site) s.locals block byte ≡ Some wide
+  at_narrow : ends_at (at_node d size site) s.locals block byte ≡ Some narrow
+  size_same : wide.size ≡ narrow.size
+  low : wide.low ≤ℤ narrow.low
+  high : narrow.high ≤ℤ wide.high
+
+narrower_ends : (size : ℕ) (site : Site) (b d : Bounds) (block byte : ℕ) (s : State) (low high : ℤ) → d.base ≡ b.base → term_value d.lo s.locals ≡ Some low → term_value d.hi s.locals ≡ Some high
     → ((z : ℤ) → term_value b.lo s.locals ≡ Some z → z ≤ℤ low) → ((z : ℤ) → term_value b.hi s.locals ≡ Some z → high ≤ℤ z)
-    → is_valid (at_node b size site) (At block byte) s ≡ true → is_valid (at_node d size site) (At block byte) s ≡ true
-narrower_at size site b d block byte s low high base lo hi below above h =
+    → is_valid (at_node b size site) (At block byte) s ≡ true → IsNarrower size site b d block byte s
+narrower_ends size site b d block byte s low high base lo hi below above h =
     let v = valid_from (at_node b size site) block byte s h in
     let p = ends_parts size (base_byte b.base s.locals block byte) (term_value b.lo s.locals) (term_value b.hi s.locals) v.ends v.are in
     let l : (p.low *ℤ pos size) ≤ℤ (low *ℤ pos size) = times_le p.low low size (below p.low p.at_low) in
     let u : (high *ℤ pos size) ≤ℤ (p.high *ℤ pos size) = times_le high p.high size (above p.high p.at_high) in
-    let wide : Ends = record { low = pos p.byte +ℤ (p.low *ℤ pos size); high = pos p.byte +ℤ (p.high *ℤ pos size); size = size } in
-    let narrow : Ends = record { low = pos p.byte +ℤ (low *ℤ pos size); high = pos p.byte +ℤ (high *ℤ pos size); size = size } in
-    let fits : lie_within wide (block_size v.held) ≡ true = subst (λ e. lie_within e (block_size v.held) ≡ true) (sym p.are) v.fits in
+    record {
+      wide = record { low = pos p.byte +ℤ (p.low *ℤ pos size); high = pos p.byte +ℤ (p.high *ℤ pos size); size = size };
+      narrow = record { low = pos p.byte +ℤ (low *ℤ pos size); high = pos p.byte +ℤ (high *ℤ pos size); size = size };
+      at_wide = v.are ∙ ap Some (sym p.are);
+      at_narrow = ends_made size p.byte low high (base_byte d.base s.locals block byte) (term_value d.lo s.locals) (term_value d.hi s.locals)
+          (ap (λ o. base_byte o s.locals block byte) base ∙ p.at_base) lo hi;
+      size_same = refl;
+      low = omega (arith, ints, l);
+      high = omega (arith, ints, u);
+    }
+
+-- such bounds are valid where the wider ones are
+narrower_passes : (size : ℕ) (site : Site) (b d : Bounds) (block byte : ℕ) (s : State) → IsNarrower size site b d block byte s
+    → is_valid (at_node b size site) (At block byte) s ≡ true → is_valid (at_node d size site) (At block byte) s ≡ true
+narrower_passes size site b d block byte s n h =
+    let v = valid_from (at_node b size site) block byte s h in
+    let same : v.ends ≡ n.wide = same_Some v.ends n.wide (sym v.are ∙ n.at_wide) in
+    let fits : lie_within n.wide (block_size v.held) ≡ true = subst (λ e. lie_within e (block_size v.held) ≡ true) same v.fits in
     valid_to (at_node d size site) block byte s (record {
       held = v.held;
-      ends = narrow;
+      ends = n.narrow;
       found = v.found;
-      are = ends_made size p.byte low high (base_byte d.base s.locals block byte) (term_value d.lo s.locals) (term_value d.hi s.locals)
-          (ap (λ o. base_byte o s.locals block byte) base ∙ p.at_base) lo hi;
+      are = n.at_narrow;
       place = v.place;
-      fits = within_by wide narrow (block_size v.held) (int_le narrow.low narrow.high) refl (omega (arith, ints, l)) (omega (arith, ints, u)) fits;
+      fits = within_by n.wide n.narrow (block_size v.held) (int_le n.narrow.low n.narrow.high) refl n.low n.high fits;
     })
 
 -- bounds whose ends lie around those of others, from the same base
 pub narrower_valid : (structs : List Structure) (b d : Bounds) (l : Local) (s : State) → HaveTypes s.locals → AreInts (types_of s.locals) d → d.base ≡ b.base
     → TermsHold (numbers_in s.locals) b.lo d.lo → TermsHold (numbers_in s.locals) d.hi b.hi → IsValid structs (Some b) l s → IsValid structs (Some d) l s
-narrower_valid structs b d l s types is base lo hi h site = by l.value (h site)
+narrower_valid structs b d l s types is base lo hi h = record { passes = λ site. by site l.value (h.passes site); leads = leads }
   where
     size : ℕ
     size = target_size structs l.type
 
-    by : (v : Value) → is_valid (at_node b size site) v s ≡ true → is_valid (at_node d size site) v s ≡ true
-    by (Number z) k = absurd (cc)
-    by Null k = refl
-    by (At block byte) k =
+    narrower : (site : Site) (block byte : ℕ) → is_valid (at_node b size site) (At block byte) s ≡ true → IsNarrower size site b d block byte s
+    narrower site block byte k =
         let v = numbers_in s.locals in
-        narrower_at size site b d block byte s (value v d.lo) (value v d.hi) base (int_term s.locals d.lo types is.lo) (int_term s.locals d.hi types is.hi)
+        narrower_ends size site b d block byte s (value v d.lo) (value v d.hi) base (int_term s.locals d.lo types is.lo) (int_term s.locals d.hi types is.hi)
         (λ z e. let q = term_number s.locals b.lo z e in omega (arith, ints, q, lo)) (λ z e. let q = term_number s.locals b.hi z e in omega (arith, ints, q, hi)) k
+
+    by : (site : Site) (v : Value) → is_valid (at_node b size site) v s ≡ true → is_valid (at_node d size site) v s ≡ true
+    by site (Number z) k = absurd (cc)
+    by site Null k = refl
+    by site (At block byte) k = narrower_passes size site b d block byte s (narrower site block byte k) k
+
+    leads : (site : Site) (block byte : ℕ) (e : Ends) → l.value ≡ At block byte → ends_at (at_node d size site) s.locals block byte ≡ Some e → LeadsOn structs (shapes s.blocks) l.type block byte e
+    leads site block byte e at' are =
+        let n = narrower site block byte (subst (λ v. is_valid (at_node b size site) v s ≡ true) at' (h.passes site)) in
+        let same : n.narrow ≡ e = same_Some n.narrow e (sym n.at_narrow ∙ are) in
+        subst (λ e. LeadsOn structs (shapes s.blocks) l.type block byte e) same
+        (leads_narrower structs (shapes s.blocks) l.type block byte n.wide n.narrow n.size_same n.low n.high (h.leads site block byte n.wide at' n.at_wide))
 
 -- where blocks are only added and the variables stay as they are
 pub grown_valid : (structs : List Structure) (o : Option Bounds) (l : Local) (s t : State) → Grows (shapes s.blocks) (shapes t.blocks) → t.locals ≡ s.locals

@@ -11,8 +11,9 @@ use Rattle.bounds_flow.specs.Pointers.{stays_true}
 use Rattle.bounds_flow.specs.Flows.{Knowledge, held_at}
 use Rattle.ckc_core.specs.declared.program.Site.{Site}
 use Rattle.ckc_core.specs.declared.program.PointerBounds.{PointerBounds}
-use Rattle.ckc_core.specs.States.{Value, Number, Null, At, Local, State, has_type}
-use Rattle.ckc_core.specs.Bounds.{is_valid}
+use Rattle.ckc_core.specs.States.{Value, Number, Null, At, Local, State, has_type, shapes}
+use Rattle.ckc_core.specs.Bounds.{Ends, ends_at, is_valid}
+use Rattle.bounds_flow_meaning.specs.Rows.{LeadsOn}
 
 -- ---- local variables
 
@@ -49,10 +50,17 @@ target_size structs (Pointer mode kind target) = size_of structs target
 abbrev pub at_node : Bounds → ℕ → Site → PointerBounds
 at_node b size site = record { bounds = b; size = size; site = site }
 
+-- A pointer is valid with bounds: it passes the audit at each node, and between its ends there are values of the type that it leads
+-- to, so that an access that its check lets through finds one.
+pub record IsValidWith (structs : List Structure) (b : Bounds) (l : Local) (s : State) : Type 0 where
+  pub passes : (site : Site) → is_valid (at_node b (target_size structs l.type) site) l.value s ≡ true
+  pub leads : (site : Site) (block byte : ℕ) (e : Ends) → l.value ≡ At block byte
+      → ends_at (at_node b (target_size structs l.type) site) s.locals block byte ≡ Some e → LeadsOn structs (shapes s.blocks) l.type block byte e
+
 -- the pointer is valid with the bounds, where there are any
 abbrev pub IsValid : List Structure → Option Bounds → Local → State → Type 0
 IsValid structs None l s = Unit {0}
-IsValid structs (Some b) l s = (site : Site) → is_valid (at_node b (target_size structs l.type) site) l.value s ≡ true
+IsValid structs (Some b) l s = IsValidWith structs b l s
 
 -- an end names an `int` variable, if it names one
 abbrev pub IsInt : List CType → Option ℕ → Type 0

@@ -14,6 +14,7 @@ use Rattle.ckc_core.specs.Bounds.{term_value}
 use Rattle.ckc_core.specs.States.{Value, Null, At, Local, State, Grows, shapes}
 use Rattle.ckc_core.specs.Pointers.{allocated, element_size, reaches}
 use Rattle.bounds_flow_meaning.specs.Holding.{IsValid, at_node, target_size}
+use Rattle.bounds_flow_meaning.specs.Rows.{AreCellsBehind}
 
 -- the bounds at a node of a variable's type, where there are any
 abbrev pub noted : List Structure → Option Bounds → Local → Site → Option PointerBounds
@@ -40,11 +41,11 @@ EndsMoveBack = (structs : List Structure) (s : State) (l : Local) (block byte pl
     → pos place ≡ pos byte +ℤ (c *ℤ pos (target_size structs l.type)) → reaches (slice_get s.blocks block) place ≡ true
     → b.base ≡ None → moved_by (neg_ℤ c) b ≡ Some d → IsValid structs (Some b) l s → IsValid structs (Some d) (record l { value = At block place }) s
 
--- ends that count from a base stay where they are, wherever in its block the pointer goes
+-- ends that count from a base stay where they are, however many elements further on in its block the pointer goes
 abbrev pub BasesStay : Type 0
-BasesStay = (structs : List Structure) (s : State) (l : Local) (block byte place q : ℕ) (b : Bounds) → l.value ≡ At block byte
-    → reaches (slice_get s.blocks block) place ≡ true → b.base ≡ Some q → IsValid structs (Some b) l s
-    → IsValid structs (Some b) (record l { value = At block place }) s
+BasesStay = (structs : List Structure) (s : State) (l : Local) (block byte place q : ℕ) (c : ℤ) (b : Bounds) → l.value ≡ At block byte
+    → pos place ≡ pos byte +ℤ (c *ℤ pos (target_size structs l.type)) → reaches (slice_get s.blocks block) place ≡ true
+    → b.base ≡ Some q → IsValid structs (Some b) l s → IsValid structs (Some b) (record l { value = At block place }) s
 
 -- where blocks are only added and the variables stay as they are, pointers stay valid
 abbrev pub BlocksGrow : Type 0
@@ -64,5 +65,6 @@ pub record IsNew (structs : List Structure) (b : Bounds) (l : Local) (before aft
 -- a new block, or null in its place, has as many elements as were asked for
 abbrev pub NewBlocksCount : Type 0
 NewBlocksCount = (structs : List Structure) (room : ℕ) (element : List Initial) (t : Term) (z : ℤ) (l : Local) (v : Value) (s u : State)
-    → term_value t s.locals ≡ Some z → element_size element ≡ target_size structs l.type → allocated room element z s ≡ Gives v u
+    → term_value t s.locals ≡ Some z → element_size element ≡ target_size structs l.type → AreCellsBehind structs l.type element
+    → allocated room element z s ≡ Gives v u
     → IsNew structs (counted t) (record l { value = v }) s u

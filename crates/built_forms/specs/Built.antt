@@ -9,6 +9,9 @@ use Rattle.ckc_tree.specs.declared.type_form.PointerMode.{PointerMode}
 use Rattle.ckc_tree.specs.declared.type_form.PointerMode.TheVariants as modes
 use Rattle.ckc_tree.specs.declared.type_form.PointerKind.{PointerKind}
 use Rattle.ckc_tree.specs.declared.type_form.PointerKind.TheVariants as kinds
+use Rattle.ckc_tree.specs.declared.stmt.ArrayKind.{ArrayKind}
+use Rattle.ckc_tree.specs.declared.stmt.ArrayKind.TheVariants as arrays
+use Rattle.ckc_tree.specs.declared.stmt.ArrayForm.{ArrayForm}
 use Rattle.ckc_tree.specs.Types.{TypeTree, IntType, CharType, StructType, PointerType, TypeName}
 use Rattle.ckc_tree.specs.Expressions as e
 use Rattle.ckc_tree.specs.Expressions.{Expression, Expressions}
@@ -78,7 +81,7 @@ abbrev pub built_initializer : Initializer → Bool
 built_initializer (s.Value value) = built_expression value
 built_initializer (s.Constants constants span) = true
 
--- no array, and no bounds
+-- a local is no array, and has no bounds
 abbrev pub built_declarator : Declarator → Bool
 built_declarator d = is_none d.array && (is_none d.bounds && optional built_initializer d.initializer)
 
@@ -118,6 +121,17 @@ abbrev mutual
 
 -- ---- items
 
+abbrev pub is_checked_array : ArrayKind → Bool
+is_checked_array arrays.Checked = true
+is_checked_array arrays.NullTerminated = false
+
+abbrev pub built_array : ArrayForm → Bool
+built_array a = is_checked_array a.kind
+
+-- a file-level variable may be an array, and has no bounds
+abbrev pub built_variable : Declarator → Bool
+built_variable d = optional built_array d.array && (is_none d.bounds && optional built_initializer d.initializer)
+
 abbrev pub built_member : Member → Bool
 built_member m = built_type m.type.base && is_none m.bounds
 
@@ -153,7 +167,7 @@ built_function f = is_none f.bounds && built_of_kind f.kind f
 abbrev pub built_item : Item → Bool
 built_item (i.RegionItem region span) = true
 built_item (i.StructureItem x) = not x.tainted && list_all built_member x.members
-built_item (i.GlobalItem g) = not g.tainted && (built_type g.base && list_all built_declarator g.declarators)
+built_item (i.GlobalItem g) = not g.tainted && (built_type g.base && list_all built_variable g.declarators)
 built_item (i.FunctionItem f) = built_function f
 
 -- the tree has only forms that are built

@@ -6,7 +6,7 @@ ghost use Rattle.ckc_tree.specs.Items.{member, parameter, parameters as paramete
 ghost use Rattle.built_forms.specs.Built as built;
 
 use crate::expressions::{built_type, is_number_type};
-use crate::statements::{built_block, built_declarators};
+use crate::statements::{built_block, built_variables};
 use ckc_tree::item::{
     Function, FunctionKind, Global, Item, Member, Parameter, Parameters, Program, ResultForm,
     Structure,
@@ -140,7 +140,7 @@ fn built_global(written: &Global) -> bool
     if written.tainted || !built_type(&written.base) {
         return false;
     }
-    built_declarators(written.declarators.as_slice())
+    built_variables(written.declarators.as_slice())
 }
 
 fn built_item(written: &Item) -> bool

@@ -8,7 +8,9 @@ ghost use Rattle.built_forms.specs.Built as built;
 
 use crate::expressions::{built_expression, built_type};
 use ckc_tree::expr::Expr;
-use ckc_tree::stmt::{Assignment, Declaration, Declarator, ForInitial, Initializer, Stmt};
+use ckc_tree::stmt::{
+    ArrayForm, ArrayKind, Assignment, Declaration, Declarator, ForInitial, Initializer, Stmt,
+};
 
 fn built_initializer(written: &Initializer) -> bool
     ensures { result ≡ built.built_initializer (initializer written.now) }
@@ -19,17 +21,50 @@ fn built_initializer(written: &Initializer) -> bool
     }
 }
 
-// Whether a variable has only forms that are built: no array, and no bounds.
-fn built_declarator(written: &Declarator) -> bool
-    ensures { result ≡ built.built_declarator (declarator written.now) }
+fn built_optional_initializer(written: &Option<Initializer>) -> bool
+    ensures { result ≡ built.optional built.built_initializer (option_map initializer written.now) }
 {
-    if written.array.is_some() || written.bounds.is_some() {
-        return false;
-    }
-    match &written.initializer {
+    match written {
         None => true,
         Some(initializer) => built_initializer(initializer),
     }
+}
+
+// Whether a local has only forms that are built: it is no array, and has no bounds.
+fn built_declarator(written: &Declarator) -> bool
+    ensures { result ≡ built.built_declarator (declarator written.now) }
+{
+    written.array.is_none()
+        && written.bounds.is_none()
+        && built_optional_initializer(&written.initializer)
+}
+
+fn built_array(written: &Option<ArrayForm>) -> bool
+    ensures { result ≡ built.optional built.built_array written.now }
+{
+    match written {
+        None => true,
+        Some(array) => match array.kind {
+            ArrayKind::Checked => true,
+            ArrayKind::NullTerminated => false,
+        },
+    }
+}
+
+// Whether a file-level variable has only forms that are built: no null-terminated array, and no bounds.
+fn built_variable(written: &Declarator) -> bool
+    ensures { result ≡ built.built_variable (declarator written.now) }
+{
+    built_array(&written.array)
+        && written.bounds.is_none()
+        && built_optional_initializer(&written.initializer)
+}
+
+/// Whether file-level variables have only forms that are built.
+pub fn built_variables(declarators: &[Declarator]) -> bool
+    ensures { result ≡ list_all (λ d. built.built_variable (declarator d)) declarators.now }
+{
+    declarators.iter().all(|d| built_variable(d))
 }
 
 /// Whether variables have only forms that are built.

@@ -34,7 +34,7 @@ use Rattle.lowering_code.proofs.Programs.{keeps_meaning}
 use Rattle.region_typing_rules.specs.NeverStuck.{AlwaysEnds}
 use Rattle.region_typing_rules.proofs.Counts.{few}
 use Rattle.region_typing_rules.proofs.BodyWeights.{light}
-use Rattle.region_typing_rules.proofs.Typing.{typed, small}
+use Rattle.region_typing_rules.proofs.Typing.{safe, typed, small}
 use Rattle.region_typing_rules.proofs.Programs.{always_ends}
 use Rattle.ccbox_call_words.specs.Requests.{Run, Options, settings_of, inputs_of, request_of}
 use Rattle.ccbox_call_words.proofs.Allowed.{settings_allowed, inputs_are_words}
@@ -61,7 +61,7 @@ lowerable c a = let x = a.1 in small_is_lowerable (parted c) (typed (place_at a.
 
 -- the run of what is accepted ends, audited or not
 pub ends : (c : Core) → IsAcceptedCore c → AlwaysEnds c
-ends c a = let x = a.1 in always_ends c (typed (place_at a.0) x.tree c x.has_core)
+ends c a = let x = a.1 in always_ends c (safe (place_at a.0) x.tree c x.has_core)
 
 -- and so it does with its checks inserted
 pub inserted_ends : (c : Core) (settings : Settings) (inputs : List ℤ) (acts : List Act) (ending : Ending) (s : State) → meaning c settings inputs acts ≡ Ends ending s → erased.meaning (inserted c) settings inputs acts ≡ Ends ending s

@@ -26,10 +26,12 @@ use Rattle.region_typing_rules.specs.Knowing.{all_declared}
 use Rattle.region_typing_rules.specs.Items.{Walk, with_parameters, variables_in, inside, core_function, function_body, listed, parameter_types, result_type, signature_of, agrees, all_scalar, scalar_result, with_function, is_defined, function_rules, function}
 use Rattle.region_typing_scope.specs.declared.scope as code
 use Rattle.region_typing_scope.specs.declared.signature.Signature as code_signature
-use Rattle.region_typing_scope.specs.Views.{scope, signature, variable}
+use Rattle.region_typing_scope.specs.Views.{scope, signature}
+use Rattle.region_typing.specs.Parameters.{variable}
 use Rattle.region_typing_scope.specs.Answering.{Answers, answers_so}
 use Rattle.region_typing_scope.specs.Locals.{Grows}
 use Rattle.region_typing_statements.specs.Walks.{Walks}
+use Rattle.region_typing.specs.declared.prototype as code_prototype
 use Rattle.region_typing.specs.declared.walk as code_walk
 use Rattle.region_typing.specs.Items.{defined, Outside, body_core, kept_rules, behind_declaration}
 use Rattle.region_typing.specs.Signatures.{declared_function}
@@ -51,7 +53,7 @@ pub for_parameters : (n : ℕ) (body : Statements) → n ≤ 16 → n ≤ variab
 for_parameters n body few = (limited_so 256 (n + all_declared body) (nat_lt 256 (n + all_declared body)) refl).1 n (omega arith) (omega arith)
 
 -- what is known where its body begins
-pub entered : (f : Signature) (ps : List code.Variable.Variable) (body : Statements) (n : ℕ) (g mid new : Scope) → n ≡ variables_in (length ps) body
+pub entered : (f : Signature) (ps : List code_prototype.TypedParameter.TypedParameter) (body : Statements) (n : ℕ) (g mid new : Scope) → n ≡ variables_in (length ps) body
     → mid ≡ record g { locals = []; visible = []; result = f.result; in_loop = false; flow = at_entry n; breaks = None; continues = None } → new ≡ with_parameters (map variable ps) mid → new ≡ inside f (map variable ps) body g
 entered f ps body n g mid new count start is =
     let all : n ≡ variables_in (length (map variable ps)) body = count ∙ ap (λ (k : ℕ). variables_in k body) (sym (length-map ps variable)) in
@@ -148,7 +150,7 @@ body_refused {view = view} {view' = view'} {mid = mid} {e = e} at f ps body old 
     rw (p.1, p.2) (body_refused_so view view' at f ps body old entered mid e is first)
 
 -- the core of a function, as it is put together
-pub core_built : (f heading : code_signature.Signature) (ps : List code.Variable.Variable) (n : ℕ) → n ≡ length ps → (locals : List code_type.CType) (g : Scope) → map ctype locals ≡ g.locals → (xs : List Stmt) (c : code_function.Function) → signature heading ≡ signature f → core.function c ≡ record { name = heading.text; parameters = n; locals = map ctype locals; result = option_map ctype heading.result; body = core.statements_of xs }
+pub core_built : (f heading : code_signature.Signature) (ps : List code_prototype.TypedParameter.TypedParameter) (n : ℕ) → n ≡ length ps → (locals : List code_type.CType) (g : Scope) → map ctype locals ≡ g.locals → (xs : List Stmt) (c : code_function.Function) → signature heading ≡ signature f → core.function c ≡ record { name = heading.text; parameters = n; locals = map ctype locals; result = option_map ctype heading.result; body = core.statements_of xs }
     → core.function c ≡ core_function (signature f) (map variable ps) (core.statements_of xs) g
 core_built f heading ps n count locals g are xs c same is =
     is
@@ -158,10 +160,10 @@ core_built f heading ps n count locals g are xs c same is =
 
 -- ---- parameters as locals
 
-pub parameter_added : (ps : List code.Variable.Variable) (k : ℕ) (p : code.Variable.Variable) (g h : Scope) → k < length ps → p ≡ get_or ps k p → h ≡ with_local p.name (ctype p.ctype) g → with_parameters (map variable (drop k ps)) g ≡ with_parameters (map variable (drop (k + 1) ps)) h
+pub parameter_added : (ps : List code_prototype.TypedParameter.TypedParameter) (k : ℕ) (p : code_prototype.TypedParameter.TypedParameter) (g h : Scope) → k < length ps → p ≡ get_or ps k p → h ≡ with_local p.name (ctype p.ctype) g → with_parameters (map variable (drop k ps)) g ≡ with_parameters (map variable (drop (k + 1) ps)) h
 parameter_added ps k p g h less is known = ap (λ qs. with_parameters qs g) (parts_at variable ps k p less is) ∙ ap (λ j. with_parameters (map variable (drop (k + 1) ps)) j) (sym known)
 
-pub parameters_all : (ps : List code.Variable.Variable) (k : ℕ) (g : Scope) → length ps ≤ k → with_parameters (map variable (drop k ps)) g ≡ g
+pub parameters_all : (ps : List code_prototype.TypedParameter.TypedParameter) (k : ℕ) (g : Scope) → length ps ≤ k → with_parameters (map variable (drop k ps)) g ≡ g
 parameters_all ps k g end = ap (λ qs. with_parameters qs g) (no_parts variable ps k end)
 
 pub local_counted : (p : Variable) (a b : code.Scope.Scope) (k : ℕ) → scope b ≡ with_local p.name p.type (scope a) → length a.locals.items ≡ k → length b.locals.items ≡ k + 1

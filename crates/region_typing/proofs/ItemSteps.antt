@@ -14,7 +14,7 @@ use Rattle.region_typing_rules.specs.Scopes.{Scope, Variable}
 use Rattle.region_typing_rules.specs.Types.{type_named}
 use Rattle.region_typing_rules.specs.Expressions.{Places}
 use Rattle.region_typing_rules.specs.Items.{Walk, is_struct, member_types, parameter_types, scalar_members, item, items}
-use Rattle.region_typing.specs.declared.initials.Judged as code
+use Rattle.region_typing.specs.declared.globals.WalkedVariable as code
 use Rattle.region_typing.specs.Items.{one_member, one_parameter, one_variable, judged_variable, judged_variables, JudgedVariable}
 
 needs_on : {A B C : Type 0} (b : Bool) (code : Code) (span : Span) (v : Verdict A) (f : A → B) (next : B → Verdict C) → needs b code span (passing v (λ t. next (f t))) ≡ passing (needs b code span (passing v (λ t. Passes (f t)))) next
@@ -53,7 +53,7 @@ variable_by_step at base type span d ds x = by (one_variable at x.0 base type sp
     by (Passes y) = refl
     by (Stops stop) = refl
 
-pub variable_passes : (at : Places) (base : TypeTree) (type : CType) (span : Span) (d : Declarator) (w v : Walk) (walked new : List code.Judged) (x : code.Judged) → new ≡ walked ++ x ∷ [] → one_variable at w base type span d ≡ Passes (v, judged_variable type x)
+pub variable_passes : (at : Places) (base : TypeTree) (type : CType) (span : Span) (d : Declarator) (w v : Walk) (walked new : List code.WalkedVariable) (x : code.WalkedVariable) → new ≡ walked ++ x ∷ [] → one_variable at w base type span d ≡ Passes (v, judged_variable type x)
     → variable_step at base type span d (w, map (judged_variable type) walked) ≡ Passes (v, map (judged_variable type) new)
 variable_passes at base type span d w v walked new x are passes = rw passes (ap (λ vs. Passes (v, vs)) (sym (ap (map (judged_variable type)) are ∙ map-append (judged_variable type) walked (x ∷ []))))
 

@@ -15,16 +15,17 @@ use Rattle.region_typing_rules.specs.Types.{base_type, without_stars}
 use Rattle.region_typing_rules.specs.Expressions.{Places}
 use Rattle.ckc_names_rules.specs.declared.given.Given.{Given}
 use Rattle.region_typing_rules.specs.Items as rules
-use Rattle.region_typing_rules.specs.Items.{Walk, WalkedVariable, with_variable, room_for, room_for_first, initializer, variables, with_objects, global, in_checked_region}
+use Rattle.region_typing_rules.specs.Items.{Walk, WalkedVariable, with_variable, length_of, room_for, room_for_first, initializer, variables, with_objects, global, in_checked_region}
 use Rattle.region_typing_scope.specs.Answering.{Answers, answers_so}
-use Rattle.region_typing.specs.declared.initials.Judged as code
+use Rattle.region_typing.specs.declared.globals.WalkedVariable as code
+use Rattle.region_typing.specs.declared.initials.Judged as code_judged
 use Rattle.region_typing.specs.Initials.{Judged, judged, judged_as, judged_cells}
 use Rattle.region_typing.specs.Items.{JudgedVariable, judged_variable, with_one, one_variable, judged_variables, judged_initializer, judged_objects}
 use Rattle.region_typing_statements.proofs.Verdicts.{same_behind, in_parts}
 use Rattle.region_typing.proofs.Constants.{cells_judged}
 
 abbrev as_judged : Given → WalkedVariable → JudgedVariable
-as_judged given v = record { type = v.type; initial = judged_as given v.initial }
+as_judged given v = record { type = v.type; length = v.length; initial = judged_as given v.initial }
 
 one_by_one : (v : Verdict (List Initial)) (span : Span) (w : Walk) (next : Walk → Verdict Walk)
     → passing v (λ cells. needs (nat_lt 0 (length cells)) E10 span (next (record w { objects = w.objects ++ cells ∷ [] })))
@@ -40,10 +41,10 @@ objects_judged : (w : Walk) (span : Span) (vs : List WalkedVariable) → with_ob
 objects_judged w span [] = refl
 objects_judged w span (v ∷ vs) =
     let rest = judged_objects span (map (as_judged w.scope.given) vs) in
-    ap (λ cells_are. passing cells_are (λ cells. needs (nat_lt 0 (length cells)) E10 span (with_objects (record w { objects = w.objects ++ cells ∷ [] }) span vs))) (cells_judged w.scope.given w.scope.structs v.type v.initial span)
-    ∙ same_behind (judged_cells w.scope.structs v.type (judged_as w.scope.given v.initial) span) _ (λ cells. needs (nat_lt 0 (length cells)) E10 span (rest (record w { objects = w.objects ++ cells ∷ [] })))
+    ap (λ cells_are. passing cells_are (λ cells. needs (nat_lt 0 (length cells)) E10 span (with_objects (record w { objects = w.objects ++ cells ∷ [] }) span vs))) (cells_judged w.scope.given w.scope.structs v.type v.length v.initial span)
+    ∙ same_behind (judged_cells w.scope.structs v.type v.length (judged_as w.scope.given v.initial) span) _ (λ cells. needs (nat_lt 0 (length cells)) E10 span (rest (record w { objects = w.objects ++ cells ∷ [] })))
     (λ cells. ap (λ x. needs (nat_lt 0 (length cells)) E10 span x) (objects_judged (record w { objects = w.objects ++ cells ∷ [] }) span vs))
-    ∙ one_by_one (judged_cells w.scope.structs v.type (judged_as w.scope.given v.initial) span) span w rest
+    ∙ one_by_one (judged_cells w.scope.structs v.type v.length (judged_as w.scope.given v.initial) span) span w rest
 
 in_turn : {A B C D : Type 0} (v : Verdict A) (f : A → Verdict B) (g : A → B → C) (next : C → Verdict D) → passing (passing v (λ a. passing (f a) (λ b. Passes (g a b)))) next ≡ passing v (λ a. passing (f a) (λ b. next (g a b)))
 in_turn (Stops stop) f g next = refl
@@ -63,19 +64,19 @@ variables_judged at w base t span [] done next next' same = same (w, done)
 variables_judged at w base t span (d ∷ ds) done next next' same =
     let room = room_for w base span d in
     let starless = without_stars base d.stars t in
-    let inside = λ (u : CType). with_variable d.name.number u w.scope in
-    let begun = λ (taken : ℕ) (u : CType) (x : rules.Walked). variables at (with_one d.name.number u taken w) base t span ds (done ++ record { type = u; initial = x } ∷ []) in
+    let inside = λ (u : CType). with_variable d.name.number u (length_of d) w.scope in
+    let begun = λ (taken : ℕ) (u : CType) (x : rules.Walked). variables at (with_one d.name.number u (length_of d) taken w) base t span ds (done ++ record { type = u; length = length_of d; initial = x } ∷ []) in
     let of_type = λ (taken : ℕ) (u : CType). passing (initializer at (inside u) d.initializer) (begun taken u) in
     let behind = λ (y : Walk × JudgedVariable). passing (judged_variables at base t span ds (y.0, map (as_judged w.scope.given) done ++ y.1 ∷ [])) next' in
-    let judged : ℕ → CType → Judged → Walk × JudgedVariable = λ taken u j. (with_one d.name.number u taken w, record { type = u; initial = j }) in
+    let judged : ℕ → CType → Judged → Walk × JudgedVariable = λ taken u j. (with_one d.name.number u (length_of d) taken w, record { type = u; length = length_of d; initial = j }) in
     in_parts room (λ taken. passing starless (of_type taken)) next
     ∙ same_behind room _ (λ taken. passing starless (λ u. passing (judged_initializer at (inside u) d.initializer) (λ j. behind (judged taken u j))))
     (λ taken. in_parts starless (of_type taken) next
     ∙ same_behind starless _ (λ u. passing (judged_initializer at (inside u) d.initializer) (λ j. behind (judged taken u j)))
     (λ u. in_parts (initializer at (inside u) d.initializer) (begun taken u) next
     ∙ judged_next w.scope.given (initializer at (inside u) d.initializer) _ (λ j. behind (judged taken u j))
-    (λ x. variables_judged at (with_one d.name.number u taken w) base t span ds (done ++ record { type = u; initial = x } ∷ []) next next' same
-    ∙ ap (λ vs. passing (judged_variables at base t span ds (with_one d.name.number u taken w, vs)) next') (map-append (as_judged w.scope.given) done (record { type = u; initial = x } ∷ [])))))
+    (λ x. variables_judged at (with_one d.name.number u (length_of d) taken w) base t span ds (done ++ record { type = u; length = length_of d; initial = x } ∷ []) next next' same
+    ∙ ap (λ vs. passing (judged_variables at base t span ds (with_one d.name.number u (length_of d) taken w, vs)) next') (map-append (as_judged w.scope.given) done (record { type = u; length = length_of d; initial = x } ∷ [])))))
     ∙ sym (same_behind room _ _ (λ taken. in_turn starless (λ u. judged_initializer at (inside u) d.initializer) (judged taken) behind))
     ∙ sym (in_parts room (λ taken. passing starless (λ u. passing (judged_initializer at (inside u) d.initializer) (λ j. Passes (judged taken u j)))) behind)
     ∙ sym (in_parts (one_variable at w base t span d) (λ y. judged_variables at base t span ds (y.0, map (as_judged w.scope.given) done ++ y.1 ∷ [])) next')
@@ -86,13 +87,6 @@ global_judged at w d =
     same_behind (room_for_first w d d.declarators) _ _ (λ taken.
     same_behind (base_type w.scope d.base) _ _ (λ t. variables_judged at w d.base t d.span d.declarators [] _ (λ x. passing (judged_objects d.span x.1 x.0) (λ v. in_checked_region v.scope d.span v))
     (λ x. ap (λ objects. passing objects (λ v. in_checked_region v.scope d.span v)) (objects_judged x.0 d.span x.1))))
-
--- what is made of an answer
-made_of_so : {A B C : Type 0} (view : C → A) (next : A → B) (v : Verdict A) (r : Result C CheckError) → Answers view v r → answers_so (λ c. next (view c)) (passing v (λ x. Passes (next x))) r
-made_of_so view next v (Ok c) first = rw first.so refl
-made_of_so view next v (Err (Source fault)) first = rw first.so refl
-made_of_so view next v (Err Unnamed) first = rw first.so refl
-made_of_so view next v (Err NoMemory) first = tt
 
 -- stars behind the type of a variable for which there is room
 pub stars_break : (at : Places) (base : TypeTree) (span : Span) (d : Declarator) (t : CType) (taken : ℕ) (old : Walk) (stop : Stop) → room_for old base span d ≡ Passes taken → needs {A = Unit {0}} (d.stars == 0) E15 (type_span base) (Passes tt) ≡ Stops stop → one_variable at old base t span d ≡ Stops stop
@@ -105,11 +99,19 @@ stars_break at base span d t taken old stop room breaks = by (d.stars == 0) refl
         let same : there ≡ stop = cc in
         rw (room, e) (ap Stops same)
 
--- a variable more, behind its room and its type
-pub one_more_variable : (at : Places) (base : TypeTree) (span : Span) (d : Declarator) (t : CType) (taken : ℕ) (old new : Walk) (r : Result code.Judged CheckError) → new ≡ with_one d.name.number t taken old → room_for old base span d ≡ Passes taken → (d.stars == 0) ≡ true
-    → Answers judged (judged_initializer at new.scope d.initializer) r → Answers (λ x. (new, judged_variable t x)) (one_variable at old base t span d) r
-one_more_variable at base span d t taken old new r is room starless rest =
-    let view : code.Judged → Walk × JudgedVariable = λ x. (new, judged_variable t x) in
-    let next : Judged → Walk × JudgedVariable = λ j. (new, record { type = t; initial = j }) in
-    let made : Answers view (passing (judged_initializer at new.scope d.initializer) (λ j. Passes (next j))) r = record { so = made_of_so judged next (judged_initializer at new.scope d.initializer) r rest } in
-    rw (room, starless) (subst (λ (v : Walk). Answers view (passing (judged_initializer at v.scope d.initializer) (λ j. Passes (v, record { type = t; initial = j }))) r) is made)
+-- what is made of a variable, behind its room and its type
+variable_walked : (at : Places) (base : TypeTree) (span : Span) (d : Declarator) (t : CType) (taken : ℕ) (old new : Walk) → new ≡ with_one d.name.number t (length_of d) taken old → room_for old base span d ≡ Passes taken → (d.stars == 0) ≡ true
+    → one_variable at old base t span d ≡ passing (judged_initializer at new.scope d.initializer) (λ j. Passes (new, record { type = t; length = length_of d; initial = j }))
+variable_walked at base span d t taken old new is room starless =
+    rw (room, starless) (ap (λ (v : Walk). passing (judged_initializer at v.scope d.initializer) (λ j. Passes (v, record { type = t; length = length_of d; initial = j }))) (sym is))
+
+-- a variable more
+pub one_more_variable : (at : Places) (base : TypeTree) (span : Span) (d : Declarator) (t : CType) (taken : ℕ) (old new : Walk) (x : code.WalkedVariable) (j : code_judged.Judged) → new ≡ with_one d.name.number t (length_of d) taken old → room_for old base span d ≡ Passes taken → (d.stars == 0) ≡ true
+    → x ≡ record { count = length_of d; initial = j } → judged_initializer at new.scope d.initializer ≡ Passes (judged j) → one_variable at old base t span d ≡ Passes (new, judged_variable t x)
+one_more_variable at base span d t taken old new x j is room starless x_is rest =
+    variable_walked at base span d t taken old new is room starless ∙ rw (rest, x_is) refl
+
+pub variable_unmade : (at : Places) (base : TypeTree) (span : Span) (d : Declarator) (t : CType) (taken : ℕ) (old new : Walk) (stop : Stop) → new ≡ with_one d.name.number t (length_of d) taken old → room_for old base span d ≡ Passes taken → (d.stars == 0) ≡ true
+    → judged_initializer at new.scope d.initializer ≡ Stops stop → one_variable at old base t span d ≡ Stops stop
+variable_unmade at base span d t taken old new stop is room starless breaks =
+    variable_walked at base span d t taken old new is room starless ∙ rw breaks refl

@@ -1,8 +1,8 @@
 -- Inside: what a file-level variable is initialised with, as the code holds it.
-use Rattle.std.specs.Prelude.{◌≡◌, ℕ, ◌<◌, ◌+◌, ◌-◌, Bool, List, length, map, slice_index, nat_lt, Option, Some, None, pos}
+use Rattle.std.specs.Prelude.{◌≡◌, ℕ, ◌<◌, ◌+◌, ◌-◌, ◌^◌, Bool, ◌&&◌, List, [], ◌∷◌, ◌++◌, length, map, slice_index, nat_lt, nat_le, Option, Some, None, pos}
 use Rattle.std.proofs.Common.{ℤ}
 use Rattle.ckc_text.specs.declared.place.Span.{Span}
-use Rattle.ckc_text.specs.declared.code.Code.TheVariants.{E13}
+use Rattle.ckc_text.specs.declared.code.Code.TheVariants.{E04, E13}
 use Rattle.pointer_modes.specs.Types.{CType, Int, Char, Struct, Pointer, Member, Structure, members_of}
 use Rattle.pointer_modes.specs.Layout.{cells_of, size_of}
 use Rattle.ckc_tree.specs.declared.expr.UnaryOperator.TheVariants as unary
@@ -11,9 +11,12 @@ use Rattle.ckc_tree.specs.Expressions.{Expression}
 use Rattle.ckc_names_rules.specs.declared.given.Given.{Given}
 use Rattle.ckc_core.specs.Programs.{Initial}
 use Rattle.ckc_core.specs.Steps.{low_byte}
-use Rattle.region_typing_rules.specs.Verdicts.{Verdict, Passes, breaks, picked}
+use Rattle.region_typing_rules.specs.Verdicts.{Verdict, Passes, passing, needs, breaks, picked}
+use Rattle.region_typing_rules.specs.Types.{is_number}
+use Rattle.ckc_tree.specs.declared.stmt.SignedConstant.{SignedConstant}
 use Rattle.region_typing_rules.specs.Items as rules
 use Rattle.region_typing_rules.specs.Items.{cells_with, is_zero, unsigned_constant, signed_constant, number_or_break}
+use Rattle.region_typing_rules.specs.Items.{unsigned_number, signed_number, small_constants, zeros_of}
 use Rattle.region_typing.specs.declared.initials.Judged as code
 use Rattle.region_typing.specs.declared.initials.Judged.TheVariants as forms
 
@@ -21,18 +24,33 @@ use Rattle.region_typing.specs.declared.initials.Judged.TheVariants as forms
 pub data Judged : Type 0 where
   Missing : Judged
   Constant : (zero : Bool) (number : Option ℤ) → Judged
-  Constants : Judged
+  Constants : (numbers : List ℤ) → Judged
 
 abbrev pub judged : code.Judged → Judged
 judged forms.Missing = Missing
 judged (forms.Constant zero number) = Constant zero number
-judged forms.List = Constants
+judged (forms.List numbers) = Constants numbers.items
 
 -- what is judged of an initialiser whose children were walked
 abbrev pub judged_as : Given → rules.Walked → Judged
 judged_as given rules.Missing = Missing
 judged_as given (rules.Written value t) = Constant (is_zero t) (signed_constant given value)
-judged_as given rules.Constants = Constants
+judged_as given (rules.Constants constants) = Constants (map signed_number constants)
+
+-- the constant of a list, and all constants of one (E04)
+abbrev pub number_listed : SignedConstant → Verdict ℤ
+number_listed c = needs (nat_lt (unsigned_number c.constant) (2 ^ 31)) E04 c.span (Passes (signed_number c))
+
+-- the numbers so far, and one more
+abbrev pub number_more : List ℤ → SignedConstant → Verdict (List ℤ)
+number_more done c = passing (number_listed c) (λ z. Passes (done ++ z ∷ []))
+
+abbrev pub numbers_listed : List SignedConstant → Verdict (List ℤ)
+numbers_listed constants = small_constants constants (Passes (map signed_number constants))
+
+-- what is judged of a list
+abbrev pub judged_numbers : List SignedConstant → Verdict Judged
+judged_numbers constants = passing (numbers_listed constants) (λ zs. Passes (Constants zs))
 
 -- the number modulo 256
 abbrev low_number : Option ℤ → Option ℤ
@@ -49,10 +67,30 @@ cell_number (Pointer mode kind target) zero number = picked zero (Some (pos 0)) 
 abbrev pub constant_cells : List Structure → CType → Bool → Option ℤ → Span → Verdict (List Initial)
 constant_cells structs type zero number span = number_or_break (cell_number type zero number) span (cells_with structs type)
 
-abbrev pub judged_cells : List Structure → CType → Judged → Span → Verdict (List Initial)
-judged_cells structs type Missing span = Passes (cells_with structs type (pos 0))
-judged_cells structs type (Constant zero number) span = constant_cells structs type zero number span
-judged_cells structs type Constants span = breaks E13 span
+-- a number as an element of a type keeps it
+abbrev pub kept_as : CType → ℤ → ℤ
+kept_as Int number = number
+kept_as Char number = low_byte number
+kept_as (Struct struct) number = number
+kept_as (Pointer mode kind target) number = number
+
+-- the cells of elements with these numbers
+abbrev pub elements_of : List Structure → CType → List ℤ → List Initial
+elements_of structs type [] = []
+elements_of structs type (z ∷ zs) = cells_with structs type (kept_as type z) ++ elements_of structs type zs
+
+-- an array of so many numbers, of which the first are these (E13)
+abbrev pub listed : List Structure → CType → ℕ → List ℤ → Span → Verdict (List Initial)
+listed structs type n zs span =
+    picked (is_number type && nat_le (length zs) n) (Passes (elements_of structs type zs ++ zeros_of (n - length zs) structs type)) (breaks E13 span)
+
+abbrev pub judged_cells : List Structure → CType → Option ℕ → Judged → Span → Verdict (List Initial)
+judged_cells structs type None Missing span = Passes (cells_with structs type (pos 0))
+judged_cells structs type None (Constant zero number) span = constant_cells structs type zero number span
+judged_cells structs type None (Constants zs) span = breaks E13 span
+judged_cells structs type (Some n) Missing span = Passes (zeros_of n structs type)
+judged_cells structs type (Some n) (Constant zero number) span = breaks E13 span
+judged_cells structs type (Some n) (Constants zs) span = listed structs type n zs span
 
 -- the number under a sign, or without one
 abbrev magnitude : Given → Expression → Option ℕ

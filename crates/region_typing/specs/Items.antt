@@ -14,12 +14,12 @@ use Rattle.region_typing_rules.specs.Scopes.{Scope, Signature, Variable, functio
 use Rattle.region_typing_rules.specs.Types.{type_named, without_stars}
 use Rattle.region_typing_rules.specs.Expressions.{Places, is_tainted}
 use Rattle.region_typing_rules.specs.Statements.{statements, is_unchecked}
-use Rattle.region_typing_rules.specs.Items.{Defined, Walk, with_variable, room_for, initializer, inside, core_function, function_body}
+use Rattle.region_typing_rules.specs.Items.{Defined, Walk, with_variable, room_for, length_of, initializer, inside, core_function, function_body}
 use Rattle.region_typing_rules.specs.Items.{with_function, agrees, all_scalar, scalar_result, is_defined, in_checked_region}
 use Rattle.region_typing_scope.specs.Views.{scope}
 use Rattle.bounds_flow.specs.Flows.{at_entry}
 use Rattle.region_typing.specs.declared.walk as code
-use Rattle.region_typing.specs.declared.initials.Judged as code_judged
+use Rattle.region_typing.specs.declared.globals.WalkedVariable as code_variable
 use Rattle.region_typing.specs.Initials.{Judged, judged, judged_as, judged_cells}
 
 abbrev pub defined : code.Defined.Defined → Defined
@@ -47,14 +47,15 @@ one_parameter g p done =
 -- a variable of a type with what it is initialised with
 pub record JudgedVariable : Type 0 where
   pub type : CType
+  pub length : Option ℕ
   pub initial : Judged
 
-abbrev pub judged_variable : CType → code_judged.Judged → JudgedVariable
-judged_variable t v = record { type = t; initial = judged v }
+abbrev pub judged_variable : CType → code_variable.WalkedVariable → JudgedVariable
+judged_variable t v = record { type = t; length = v.count; initial = judged v.initial }
 
 -- a variable more, with the bytes that are taken then
-abbrev pub with_one : ℕ → CType → ℕ → Walk → Walk
-with_one name t taken w = record w { scope = with_variable name t w.scope; taken = taken }
+abbrev pub with_one : ℕ → CType → Option ℕ → ℕ → Walk → Walk
+with_one name t count taken w = record w { scope = with_variable name t count w.scope; taken = taken }
 
 -- what a variable is initialised with, where it is known
 abbrev pub judged_initializer : Places → Scope → Option Initializer → Verdict Judged
@@ -64,8 +65,8 @@ judged_initializer at g written = passing (initializer at g written) (λ x. Pass
 abbrev pub one_variable : Places → Walk → TypeTree → CType → Span → Declarator → Verdict (Walk × JudgedVariable)
 one_variable at w base type span d =
     passing (room_for w base span d) (λ taken. passing (without_stars base d.stars type) (λ t.
-    passing (judged_initializer at (with_variable d.name.number t w.scope) d.initializer)
-    (λ initial. Passes (with_one d.name.number t taken w, record { type = t; initial = initial }))))
+    passing (judged_initializer at (with_variable d.name.number t (length_of d) w.scope) d.initializer)
+    (λ initial. Passes (with_one d.name.number t (length_of d) taken w, record { type = t; length = length_of d; initial = initial }))))
 
 -- the variables of a declaration
 abbrev pub judged_variables : Places → TypeTree → CType → Span → List Declarator → Walk × List JudgedVariable → Verdict (Walk × List JudgedVariable)
@@ -75,7 +76,7 @@ judged_variables at base type span (d ∷ ds) x =
 
 -- the cells of a variable more
 abbrev pub one_object : Span → JudgedVariable → Walk → Verdict Walk
-one_object span v w = passing (judged_cells w.scope.structs v.type v.initial span)
+one_object span v w = passing (judged_cells w.scope.structs v.type v.length v.initial span)
     (λ cells. needs (nat_lt 0 (length cells)) E10 span (Passes (record w { objects = w.objects ++ cells ∷ [] })))
 
 abbrev pub judged_objects : Span → List JudgedVariable → Walk → Verdict Walk

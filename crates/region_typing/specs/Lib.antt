@@ -1,3 +1,4 @@
+pub mod Parameters
 pub mod Definitions
 pub mod Initials
 pub mod Items

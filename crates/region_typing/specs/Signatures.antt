@@ -4,7 +4,8 @@ use Rattle.ckc_tree.specs.Items as i
 use Rattle.region_typing_rules.specs.Verdicts.{Verdict, Passes, passing}
 use Rattle.region_typing_rules.specs.Scopes.{Scope, Signature, Variable}
 use Rattle.region_typing_rules.specs.Items.{listed, parameter_types, result_type, signature_of}
-use Rattle.region_typing_scope.specs.Views.{signature, variable}
+use Rattle.region_typing_scope.specs.Views.{signature}
+use Rattle.region_typing.specs.Parameters.{variable}
 use Rattle.region_typing.specs.declared.prototype.Prototype as code
 
 abbrev pub declared : code.Prototype → Signature × List Variable

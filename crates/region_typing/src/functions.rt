@@ -8,9 +8,11 @@ ghost use Rattle.pointer_modes.specs.Types.{ctype as ctype_of};
 ghost use Rattle.ckc_core.specs.Core.{function as function_of, statements_of};
 ghost use Rattle.region_typing_rules.specs.Items.{listed as listed_of, parameter_types as parameter_types_of, result_type as result_type_of, with_parameters, inside, function_body as function_body_of};
 ghost use Rattle.region_typing_scope.specs.Answering.{Answers};
-ghost use Rattle.region_typing_scope.specs.Views.{scope as scope_of, signature, variable as variable_of};
+ghost use Rattle.region_typing_scope.specs.Views.{scope as scope_of, signature};
+ghost use Rattle.region_typing.specs.Parameters.{variable as variable_of};
 ghost use Rattle.region_typing.specs.Items.{walk as walk_of, Outside, one_parameter, body_core};
 
+use crate::prototype::TypedParameter;
 use crate::signatures::copied_signature;
 use crate::walk::{Defined, Walk};
 use ckc_core::program::{Function, Stmt};
@@ -22,7 +24,7 @@ use pointer_modes::ctype::CType;
 use region_typing_flow::counts::variables_in;
 use region_typing_scope::context::Context;
 use region_typing_scope::refusals::{CheckError, needs};
-use region_typing_scope::scope::{Scope, Variable};
+use region_typing_scope::scope::Scope;
 use region_typing_scope::signature::Signature;
 use region_typing_scope::types::{base_type, copied, type_named, without_stars};
 use region_typing_statements::marks::is_checked;
@@ -46,7 +48,7 @@ fn push_parameter(
     context: &Context,
     scope: &Scope,
     written: &Parameter,
-    parameters: &mut Vec<Variable>,
+    parameters: &mut Vec<TypedParameter>,
 ) -> Result<(), CheckError>
     ensures types { Answers (λ _. map variable_of parameters.new.items) (one_parameter (scope_of scope.now) (parameter_tree written.now) (map variable_of parameters.old.items)) result }
     ensures few { IfOk result (λ _. length parameters.new.items ≤ 16) }
@@ -59,7 +61,7 @@ fn push_parameter(
     parameters.reserve(1)?;
     let name = written.name.number;
     let ctype = type_named(context, scope, &written.type_name)?;
-    parameters.push_reserved(Variable { name, ctype });
+    parameters.push_reserved(TypedParameter { name, ctype });
     Ok(())
 }
 
@@ -68,7 +70,7 @@ pub fn parameter_types(
     context: &Context,
     scope: &Scope,
     written: &Parameters,
-) -> Result<Vec<Variable>, CheckError>
+) -> Result<Vec<TypedParameter>, CheckError>
     ensures types { Answers (λ v. map variable_of v.items) (parameter_types_of (scope_of scope.now) (listed_of (parameters_tree written.now)) []) result }
     ensures few { IfOk result (λ v. length v.items ≤ 16) }
 {
@@ -114,7 +116,7 @@ pub fn copied_result(context: &Context, t: &Option<CType>) -> Result<Option<CTyp
 fn add_parameters(
     context: &Context,
     scope: &mut Scope,
-    parameters: &[Variable],
+    parameters: &[TypedParameter],
 ) -> Result<(), NoMemory>
     requires none { scope.old.locals.items ≡ [] }
     requires few { length parameters.now ≤ scope.old.flow.vars }
@@ -132,7 +134,7 @@ fn enter(
     context: &Context,
     scope: &mut Scope,
     f: &Signature,
-    parameters: &[Variable],
+    parameters: &[TypedParameter],
     body: &[stmt::Stmt],
 ) -> Result<(), NoMemory>
     requires few { length parameters.now ≤ 16 }
@@ -163,7 +165,7 @@ fn body_of(
     context: &Context,
     scope: &mut Scope,
     f: &Signature,
-    parameters: &[Variable],
+    parameters: &[TypedParameter],
     body: &[stmt::Stmt],
 ) -> Result<Function, CheckError>
     requires few { length parameters.now ≤ 16 }
@@ -182,7 +184,7 @@ fn with_body(
     context: &Context,
     walk: &mut Walk,
     f: &Signature,
-    parameters: &[Variable],
+    parameters: &[TypedParameter],
     body: &Block,
 ) -> Result<(), CheckError>
     requires few { length parameters.now ≤ 16 }
@@ -204,7 +206,7 @@ pub fn function_body(
     context: &Context,
     walk: &mut Walk,
     f: &Signature,
-    parameters: &[Variable],
+    parameters: &[TypedParameter],
     body: &Option<Block>,
 ) -> Result<(), CheckError>
     requires few { length parameters.now ≤ 16 }

@@ -1,6 +1,6 @@
 // Declarations of file-level variables.
 
-ghost use Rattle.std.specs.Prelude.{◌≡◌, ◌<◌, ◌≤◌, ◌+◌, [], length, map, IfOk, OnOk};
+ghost use Rattle.std.specs.Prelude.{◌≡◌, ◌<◌, ◌≤◌, ◌+◌, true, Some, [], length, map, IfOk, OnOk};
 ghost use Rattle.std.specs.Option.{option_map};
 ghost use Rattle.ckc_text.specs.Places.{place_at};
 ghost use Rattle.ckc_tree.specs.Types.{type_tree};
@@ -8,13 +8,13 @@ ghost use Rattle.ckc_tree.specs.Statements.{initializer as initializer_tree, dec
 ghost use Rattle.ckc_tree.specs.Items.{global as global_tree};
 ghost use Rattle.pointer_modes.specs.Types.{ctype as ctype_of};
 ghost use Rattle.flat_bytes.specs.Blocks.{rounded_up};
-ghost use Rattle.region_typing_rules.specs.Items.{written_size as written_size_of, room_for as room_in, room_for_first as first_room_in, global as global_of};
+ghost use Rattle.region_typing_rules.specs.Items.{count_of as count_in, is_length as is_length_of, length_of as length_in, written_size as written_size_of, room_for as room_in, room_for_first as first_room_in, global as global_of};
 ghost use Rattle.region_typing_scope.specs.Answering.{Answers};
 ghost use Rattle.region_typing_scope.specs.Views.{scope as scope_of};
 ghost use Rattle.region_typing.specs.Initials.{judged as judged_view};
 ghost use Rattle.region_typing.specs.Items.{walk as walk_of, with_one, judged_initializer, judged_variable, one_variable, judged_variables, one_object, judged_objects};
 
-use crate::initials::{Judged, cells_of, judged_value};
+use crate::initials::{Judged, cells_of, judged_list, judged_value};
 use crate::walk::Walk;
 use ckc_core::program::Object;
 use ckc_text::code::Code;
@@ -35,6 +35,9 @@ const MOST_VARIABLES: usize = 4096;
 
 /// How many bytes they may take, with the gaps between them.
 const MOST_BYTES: u32 = 32768;
+
+/// How many elements an array may have.
+const MOST_ELEMENTS: u32 = 8192;
 
 /// The bytes of a pointer.
 const POINTER_BYTES: u32 = 4;
@@ -58,11 +61,43 @@ fn written_size(scope: &Scope, base: &TypeForm, stars: usize) -> Result<u32, Che
     }
 }
 
+// How many elements a declarator asks for, where it declares an array.
+fn length_of(d: &Declarator) -> Option<u32>
+    ensures { result ≡ length_in (declarator_tree d.now) }
+{
+    match d.array {
+        None => None,
+        Some(array) => Some(array.length),
+    }
+}
+
+// Whether an array may have so many elements.
+fn is_length(count: Option<u32>) -> bool
+    ensures { result ≡ is_length_of count }
+{
+    match count {
+        None => true,
+        Some(count) => 0 < count && count <= MOST_ELEMENTS,
+    }
+}
+
+// Of how many values of its type a variable consists.
+fn count_of(count: Option<u32>) -> u32
+    requires { is_length_of count ≡ true }
+    ensures count { result ≡ count_in count }
+    ensures few { result ≤ 8192 }
+{
+    match count {
+        None => 1,
+        Some(count) => count,
+    }
+}
+
 // What a block takes with its gap.
 fn block_bytes(size: u32) -> u32
-    requires { size ≤ 256 }
+    requires { size ≤ 2097152 }
     ensures bytes { result ≡ rounded_up size + 16 }
-    ensures few { result ≤ 272 }
+    ensures few { result ≤ 2097168 }
 {
     (size + 15) / 16 * 16 + 16
 }
@@ -75,7 +110,9 @@ fn room_for(walk: &Walk, base: &TypeForm, span: Span, d: &Declarator) -> Result<
 {
     needs(walk.scope.variables.len() < MOST_VARIABLES, Code::E08, span)?;
     let size = written_size(&walk.scope, base, d.stars)?;
-    let taken = walk.taken + block_bytes(size);
+    let count = length_of(d);
+    needs(is_length(count), Code::E08, span)?;
+    let taken = walk.taken + block_bytes(count_of(count) * size);
     needs(taken <= MOST_BYTES, Code::E08, span)?;
     Ok(taken)
 }
@@ -90,6 +127,19 @@ fn room_for_first(walk: &Walk, d: &Declaration) -> Result<u32, CheckError>
     }
 }
 
+// What is judged of an initialiser.
+fn judged_by(context: &Context, scope: &Scope, written: &Initializer) -> Result<Judged, CheckError>
+    ensures { Answers judged_view (judged_initializer (place_at context.now) (scope_of scope.now) (Some (initializer_tree written.now))) result }
+{
+    match written {
+        Initializer::Value { value } => {
+            let t = typed(context, scope, value)?;
+            Ok(judged_value(scope.given, value, &t))
+        }
+        Initializer::List { constants, .. } => judged_list(context, constants.as_slice()),
+    }
+}
+
 // What a variable is initialised with.
 fn initializer(
     context: &Context,
@@ -100,11 +150,7 @@ fn initializer(
 {
     match written {
         None => Ok(Judged::Missing),
-        Some(Initializer::Value { value }) => {
-            let t = typed(context, scope, value)?;
-            Ok(judged_value(scope.given, value, &t))
-        }
-        Some(Initializer::List { .. }) => Ok(Judged::List),
+        Some(written) => judged_by(context, scope, written),
     }
 }
 
@@ -114,15 +160,23 @@ fn add_variable(
     walk: &mut Walk,
     name: usize,
     t: &CType,
+    count: Option<u32>,
     taken: u32,
 ) -> Result<(), NoMemory>
     requires few { length walk.old.scope.variables.items < 4096 }
     requires room { taken ≤ 32768 }
-    ensures { OnOk result (walk_of walk.new ≡ with_one name (ctype_of t.now) taken (walk_of walk.old)) }
+    ensures { OnOk result (walk_of walk.new ≡ with_one name (ctype_of t.now) count taken (walk_of walk.old)) }
 {
-    walk.scope.add_variable(name, copied(context, t)?)?;
+    walk.scope.add_variable(name, copied(context, t)?, count)?;
     walk.taken = taken;
     Ok(())
+}
+
+/// What a variable of a declaration is initialised with, and how many elements it has where it is an array.
+#[derive(Drop)]
+pub struct WalkedVariable {
+    pub count: Option<u32>,
+    pub initial: Judged,
 }
 
 // One variable of a declaration, and what it is initialised with.
@@ -133,13 +187,15 @@ fn variable(
     t: &CType,
     span: Span,
     d: &Declarator,
-) -> Result<Judged, CheckError>
+) -> Result<WalkedVariable, CheckError>
     ensures { Answers (λ v. (walk_of walk.new, judged_variable (ctype_of t.now) v)) (one_variable (place_at context.now) (walk_of walk.old) (type_tree base.now) (ctype_of t.now) span (declarator_tree d.now)) result }
 {
     let taken = room_for(walk, base, span, d)?;
     needs(d.stars == 0, Code::E15, base.span())?;
-    add_variable(context, walk, d.name.number, t, taken)?;
-    initializer(context, &walk.scope, &d.initializer)
+    let count = length_of(d);
+    add_variable(context, walk, d.name.number, t, count, taken)?;
+    let initial = initializer(context, &walk.scope, &d.initializer)?;
+    Ok(WalkedVariable { count, initial })
 }
 
 // The variables of a declaration, and what each is initialised with.
@@ -150,7 +206,7 @@ fn variables(
     t: &CType,
     span: Span,
     ds: &[Declarator],
-) -> Result<Vec<Judged>, CheckError>
+) -> Result<Vec<WalkedVariable>, CheckError>
     ensures { Answers (λ v. (walk_of walk.new, map (judged_variable (ctype_of t.now)) v.items)) (judged_variables (place_at context.now) (type_tree base.now) (ctype_of t.now) span (map declarator_tree ds.now) (walk_of walk.old, [])) result }
 {
     let mut walked = Vec::new(context.alloc());
@@ -167,11 +223,11 @@ fn object(
     walk: &mut Walk,
     span: Span,
     t: &CType,
-    v: &Judged,
+    v: &WalkedVariable,
 ) -> Result<(), CheckError>
     ensures { Answers (λ _. walk_of walk.new) (one_object span (judged_variable (ctype_of t.now) v.now) (walk_of walk.old)) result }
 {
-    let cells = cells_of(context, &walk.scope.structs, t, *v, span)?;
+    let cells = cells_of(context, &walk.scope.structs, t, v.count, &v.initial, span)?;
     let filled = !cells.is_empty();
     walk.objects.push(Object { cells })?;
     needs(filled, Code::E10, span)
@@ -183,7 +239,7 @@ fn objects(
     walk: &mut Walk,
     span: Span,
     t: &CType,
-    vs: &[Judged],
+    vs: &[WalkedVariable],
 ) -> Result<(), CheckError>
     ensures { Answers (λ _. walk_of walk.new) (judged_objects span (map (judged_variable (ctype_of t.now)) vs.now) (walk_of walk.old)) result }
 {

@@ -1,16 +1,16 @@
 // The cells of file-level variables before the run.
 
-ghost use Rattle.std.specs.Prelude.{◌≡◌, ◌<◌, ◌≤◌, ◌==◌, true, pos, length, map, IfOk, IfSome};
+ghost use Rattle.std.specs.Prelude.{◌≡◌, ◌<◌, ◌≤◌, ◌==◌, ◌++◌, true, pos, None, Some, length, map, slice_index_or, IfOk, IfSome, OnOk};
 ghost use Rattle.ckc_tree.specs.Expressions.{expression as expression_tree};
 ghost use Rattle.pointer_modes.specs.Types.{ctype as ctype_of, member as member_of};
 ghost use Rattle.pointer_modes.specs.Layout.{cells_of as cells_in};
 ghost use Rattle.ckc_core.specs.Core.{initial as initial_of};
 ghost use Rattle.ckc_core.specs.Steps.{low_byte as low_byte_of};
 ghost use Rattle.region_typing_rules.specs.Types.{is_scalar};
-ghost use Rattle.region_typing_rules.specs.Items.{Written, negative as negative_of, null_number as null_number_of, unsigned_constant as unsigned_of, signed_constant as signed_of, cells_with as cells_as};
+ghost use Rattle.region_typing_rules.specs.Items.{Written, negative as negative_of, null_number as null_number_of, unsigned_constant as unsigned_of, signed_constant as signed_of, zeros_of, cells_with as cells_as};
 ghost use Rattle.region_typing_scope.specs.Answering.{Answers};
 ghost use Rattle.region_typing_scope.specs.Typed.{typed as typed_view};
-ghost use Rattle.region_typing.specs.Initials.{IsSmall, IsStructOf, judged_as, judged_cells, cell_number as cell_number_as, constant_cells as constant_cells_as, judged as judged_of, stride_at};
+ghost use Rattle.region_typing.specs.Initials.{IsSmall, elements_of, judged_numbers, kept_as as kept_as_in, listed, number_listed, number_more, numbers_listed, IsStructOf, judged_as, judged_cells, cell_number as cell_number_as, constant_cells as constant_cells_as, judged as judged_of, stride_at};
 
 use ckc_core::program::Initial;
 use ckc_names_rules::given::Given;
@@ -18,20 +18,22 @@ use ckc_text::code::Code;
 use ckc_text::fault::NoMemory;
 use ckc_text::place::Span;
 use ckc_tree::expr::{Expr, UnaryOperator};
+use ckc_tree::stmt::{Constant, SignedConstant};
 use pointer_modes::ctype::{CType, Member};
 use pointer_modes::structs::Structs;
 use region_typing_scope::context::Context;
 use region_typing_scope::refusals::{CheckError, refusal};
 use region_typing_scope::typed::{Typed, is_zero};
-use region_typing_scope::types::copied;
+use region_typing_scope::types::{copied, is_number};
 
 /// What a variable is initialised with.
-#[derive(Drop, Clone, Copy)]
+#[derive(Drop)]
 pub enum Judged {
     Missing,
     /// The constant 0 or not, and the number where the value is a constant.
     Constant { zero: bool, number: Option<i32> },
-    List,
+    /// The numbers of a list.
+    List(Vec<i32>),
 }
 
 // A constant without a sign.
@@ -88,6 +90,52 @@ fn signed_constant(given: Given, e: &Expr) -> Option<i32>
     }
 }
 
+// The constant of a list, of at most 31 bits.
+fn listed_number(constant: &SignedConstant) -> Result<i32, CheckError>
+    ensures { Answers (λ n. n) (number_listed constant.now) result }
+{
+    let number = match constant.constant {
+        Constant::Number(value) => value,
+        Constant::Character(value) => u32::from(value),
+    };
+    if number >= 1 << 31 {
+        return Err(refusal(Code::E04, constant.span));
+    }
+    if constant.negative {
+        Ok(negative(number))
+    } else {
+        Ok(positive(number))
+    }
+}
+
+// Pushes the constant of a list.
+fn push_number(constant: &SignedConstant, numbers: &mut Vec<i32>) -> Result<(), CheckError>
+    ensures { Answers (λ _. numbers.new.items) (number_more numbers.old.items constant.now) result }
+{
+    let number = listed_number(constant)?;
+    numbers.push(number)?;
+    Ok(())
+}
+
+// The numbers of a list of constants.
+fn listed_numbers(context: &Context, constants: &[SignedConstant]) -> Result<Vec<i32>, CheckError>
+    ensures { Answers (λ v. v.items) (numbers_listed constants.now) result }
+{
+    let mut numbers = Vec::new(context.alloc());
+    for i in 0..constants.len() {
+        push_number(&constants[i], &mut numbers)?;
+    }
+    Ok(numbers)
+}
+
+/// What is judged of a list of constants.
+pub fn judged_list(context: &Context, constants: &[SignedConstant]) -> Result<Judged, CheckError>
+    ensures { Answers judged_of (judged_numbers constants.now) result }
+{
+    let numbers = listed_numbers(context, constants)?;
+    Ok(Judged::List(numbers))
+}
+
 /// What is judged of a value.
 pub fn judged_value(given: Given, e: &Expr, t: &Typed) -> Judged
     requires { IsSmall given (expression_tree e.now) }
@@ -113,49 +161,70 @@ fn stride(structs: &Structs, t: &CType, cells: u32, i: u32) -> u32
     end.saturating_sub(structs.offset_of_cell(t, i))
 }
 
-// The only cell of a scalar.
-fn scalar_cell(
+// Pushes the only cell of a scalar.
+fn push_scalar_cell(
     context: &Context,
     structs: &Structs,
     t: &CType,
     number: i32,
-) -> Result<Vec<Initial>, NoMemory>
+    cells: &mut Vec<Initial>,
+) -> Result<(), NoMemory>
     requires { is_scalar (ctype_of t.now) ≡ true }
-    ensures { IfOk result (λ v. map initial_of v.items ≡ cells_as structs.now (ctype_of t.now) number) }
+    ensures { OnOk result (map initial_of cells.new.items ≡ map initial_of cells.old.items ++ cells_as structs.now (ctype_of t.now) number) }
 {
     let cell = Initial {
         ctype: copied(context, t)?,
         stride: structs.size_of(t),
         number,
     };
-    let mut cells = Vec::new(context.alloc());
     cells.push(cell)?;
-    Ok(cells)
+    Ok(())
 }
 
-// A cell for each member of a struct.
-fn member_cells(
+// Pushes a cell for each member of a struct.
+fn push_member_cells(
     context: &Context,
     structs: &Structs,
     t: &CType,
     members: &[Member],
     number: i32,
-) -> Result<Vec<Initial>, NoMemory>
+    cells: &mut Vec<Initial>,
+) -> Result<(), NoMemory>
     requires are { IsStructOf structs.now (ctype_of t.now) (map member_of members.now) }
     requires few { length members.now ≤ 64 }
-    ensures { IfOk result (λ v. map initial_of v.items ≡ cells_as structs.now (ctype_of t.now) number) }
+    ensures { OnOk result (map initial_of cells.new.items ≡ map initial_of cells.old.items ++ cells_as structs.now (ctype_of t.now) number) }
 {
-    let mut cells = Vec::new(context.alloc());
-    for member in members {
-        let ctype = copied(context, &member.ctype)?;
-        let stride = stride(structs, t, members.len() as u32, cells.len() as u32);
+    for i in 0..members.len() {
+        let ctype = copied(context, &members[i].ctype)?;
+        let stride = stride(structs, t, members.len() as u32, i as u32);
         cells.push(Initial {
             ctype,
             stride,
             number,
         })?;
     }
-    Ok(cells)
+    Ok(())
+}
+
+// Pushes the cells of a value of a type, each with this number.
+fn push_cells(
+    context: &Context,
+    structs: &Structs,
+    t: &CType,
+    number: i32,
+    cells: &mut Vec<Initial>,
+) -> Result<(), NoMemory>
+    ensures { OnOk result (map initial_of cells.new.items ≡ map initial_of cells.old.items ++ cells_as structs.now (ctype_of t.now) number) }
+{
+    match t {
+        CType::Int | CType::Char | CType::Pointer(..) => push_scalar_cell(
+            context, structs, t, number, cells,
+        ),
+        CType::Struct(struct_number) => {
+            let members = structs.members(*struct_number);
+            push_member_cells(context, structs, t, members, number, cells)
+        }
+    }
 }
 
 // The cells of a variable, each with this number.
@@ -167,13 +236,102 @@ fn cells_with(
 ) -> Result<Vec<Initial>, NoMemory>
     ensures { IfOk result (λ v. map initial_of v.items ≡ cells_as structs.now (ctype_of t.now) number) }
 {
-    match t {
-        CType::Int | CType::Char | CType::Pointer(..) => scalar_cell(context, structs, t, number),
-        CType::Struct(struct_number) => {
-            let members = structs.members(*struct_number);
-            member_cells(context, structs, t, members, number)
-        }
+    let mut cells = Vec::new(context.alloc());
+    push_cells(context, structs, t, number, &mut cells)?;
+    Ok(cells)
+}
+
+// Pushes the cells of so many elements, each with zeros.
+fn push_zeros(
+    context: &Context,
+    structs: &Structs,
+    t: &CType,
+    count: u32,
+    cells: &mut Vec<Initial>,
+) -> Result<(), NoMemory>
+    ensures { OnOk result (map initial_of cells.new.items ≡ map initial_of cells.old.items ++ zeros_of count structs.now (ctype_of t.now)) }
+{
+    let mut left = count;
+    while left > 0 {
+        push_cells(context, structs, t, 0, cells)?;
+        left -= 1;
     }
+    Ok(())
+}
+
+// A number as an element of a type keeps it.
+fn kept_as(t: &CType, number: i32) -> i32
+    ensures { result ≡ kept_as_in (ctype_of t.now) number }
+{
+    match t {
+        CType::Char => low_byte(number),
+        CType::Int | CType::Struct(_) | CType::Pointer(..) => number,
+    }
+}
+
+// Pushes the cells of an element with one of these numbers.
+fn push_element(
+    context: &Context,
+    structs: &Structs,
+    t: &CType,
+    numbers: &[i32],
+    i: usize,
+    cells: &mut Vec<Initial>,
+) -> Result<(), NoMemory>
+    requires { i < length numbers.now }
+    ensures { OnOk result (map initial_of cells.new.items ≡ map initial_of cells.old.items ++ cells_as structs.now (ctype_of t.now) (kept_as_in (ctype_of t.now) (slice_index_or numbers.now i (pos 0)))) }
+{
+    push_cells(context, structs, t, kept_as(t, numbers[i]), cells)
+}
+
+// Pushes the cells of elements with these numbers.
+fn push_elements(
+    context: &Context,
+    structs: &Structs,
+    t: &CType,
+    numbers: &[i32],
+    cells: &mut Vec<Initial>,
+) -> Result<(), NoMemory>
+    ensures { OnOk result (map initial_of cells.new.items ≡ map initial_of cells.old.items ++ elements_of structs.now (ctype_of t.now) numbers.now) }
+{
+    for i in 0..numbers.len() {
+        push_element(context, structs, t, numbers, i, cells)?;
+    }
+    Ok(())
+}
+
+// The cells of so many elements, of which the first have these numbers.
+fn elements_with(
+    context: &Context,
+    structs: &Structs,
+    t: &CType,
+    zeros: u32,
+    numbers: &[i32],
+) -> Result<Vec<Initial>, NoMemory>
+    ensures { IfOk result (λ v. map initial_of v.items ≡ elements_of structs.now (ctype_of t.now) numbers.now ++ zeros_of zeros structs.now (ctype_of t.now)) }
+{
+    let mut cells = Vec::new(context.alloc());
+    push_elements(context, structs, t, numbers, &mut cells)?;
+    push_zeros(context, structs, t, zeros, &mut cells)?;
+    Ok(cells)
+}
+
+// The cells of an array of numbers that is initialised with a list.
+fn listed_cells(
+    context: &Context,
+    structs: &Structs,
+    t: &CType,
+    count: u32,
+    numbers: &[i32],
+    span: Span,
+) -> Result<Vec<Initial>, CheckError>
+    ensures { Answers (λ v. map initial_of v.items) (listed structs.now (ctype_of t.now) count numbers.now span) result }
+{
+    if !is_number(t) || numbers.len() > count as usize {
+        return Err(refusal(Code::E13, span));
+    }
+    let zeros = count - numbers.len() as u32;
+    Ok(elements_with(context, structs, t, zeros, numbers)?)
 }
 
 // What the cells of a type hold by a value, if it may stand for them: the number of a constant, or null.
@@ -205,22 +363,57 @@ fn constant_cells(
     }
 }
 
-/// The cells of a variable by what it is initialised with.
-pub fn cells_of(
+// The cells of a variable that is no array.
+fn value_cells(
     context: &Context,
     structs: &Structs,
     t: &CType,
-    initial: Judged,
+    initial: &Judged,
     span: Span,
 ) -> Result<Vec<Initial>, CheckError>
-    ensures { Answers (λ v. map initial_of v.items) (judged_cells structs.now (ctype_of t.now) (judged_of initial) span) result }
+    ensures { Answers (λ v. map initial_of v.items) (judged_cells structs.now (ctype_of t.now) None (judged_of initial.now) span) result }
 {
     match initial {
         Judged::Missing => Ok(cells_with(context, structs, t, 0)?),
         Judged::Constant { zero, number } => constant_cells(
-            context, structs, t, zero, number, span,
+            context, structs, t, *zero, *number, span,
         ),
-        Judged::List => Err(refusal(Code::E13, span)),
+        Judged::List(_) => Err(refusal(Code::E13, span)),
+    }
+}
+
+// The cells of an array of so many elements.
+fn array_cells(
+    context: &Context,
+    structs: &Structs,
+    t: &CType,
+    count: u32,
+    initial: &Judged,
+    span: Span,
+) -> Result<Vec<Initial>, CheckError>
+    ensures { Answers (λ v. map initial_of v.items) (judged_cells structs.now (ctype_of t.now) (Some count) (judged_of initial.now) span) result }
+{
+    match initial {
+        Judged::Missing => Ok(elements_with(context, structs, t, count, &[])?),
+        Judged::Constant { .. } => Err(refusal(Code::E13, span)),
+        Judged::List(numbers) => listed_cells(context, structs, t, count, numbers.as_slice(), span),
+    }
+}
+
+/// The cells of a variable, or of so many elements, by what it is initialised with.
+pub fn cells_of(
+    context: &Context,
+    structs: &Structs,
+    t: &CType,
+    count: Option<u32>,
+    initial: &Judged,
+    span: Span,
+) -> Result<Vec<Initial>, CheckError>
+    ensures { Answers (λ v. map initial_of v.items) (judged_cells structs.now (ctype_of t.now) count (judged_of initial.now) span) result }
+{
+    match count {
+        None => value_cells(context, structs, t, initial, span),
+        Some(count) => array_cells(context, structs, t, count, initial, span),
     }
 }
 

@@ -7,17 +7,18 @@ ghost use Rattle.pointer_modes.specs.Types.{ctype as ctype_of};
 ghost use Rattle.region_typing_rules.specs.Scopes.{function_named};
 ghost use Rattle.region_typing_rules.specs.Items.{same_types as same_types_of, same_result as same_result_of, same_kind as same_kind_of, agrees as agrees_of, all_scalar as all_scalar_of, scalar_result as scalar_result_of, with_function};
 ghost use Rattle.region_typing_scope.specs.Answering.{Answers};
-ghost use Rattle.region_typing_scope.specs.Views.{scope as scope_of, signature, variable as variable_of};
+ghost use Rattle.region_typing_scope.specs.Views.{scope as scope_of, signature};
+ghost use Rattle.region_typing.specs.Parameters.{variable as variable_of};
 ghost use Rattle.region_typing.specs.Signatures.{declared as declared_view, declared_function};
 
 use crate::functions::{copied_result, parameter_types, result_type};
-use crate::prototype::Prototype;
+use crate::prototype::{Prototype, TypedParameter};
 use ckc_text::fault::NoMemory;
 use ckc_tree::item::{Function, FunctionKind};
 use pointer_modes::ctype::CType;
 use region_typing_scope::context::Context;
 use region_typing_scope::refusals::CheckError;
-use region_typing_scope::scope::{Scope, Variable};
+use region_typing_scope::scope::Scope;
 use region_typing_scope::signature::Signature;
 use region_typing_scope::types::{copied, is_scalar, same_type};
 
@@ -107,7 +108,7 @@ pub fn copied_types(context: &Context, types: &[CType]) -> Result<Vec<CType>, No
 }
 
 // The types of parameters.
-fn types_of(context: &Context, parameters: &[Variable]) -> Result<Vec<CType>, NoMemory>
+fn types_of(context: &Context, parameters: &[TypedParameter]) -> Result<Vec<CType>, NoMemory>
     ensures { IfOk result (λ v. map ctype_of v.items ≡ map (λ p. p.type) (map variable_of parameters.now)) }
 {
     let mut types = Vec::new(context.alloc());

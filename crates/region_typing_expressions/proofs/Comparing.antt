@@ -1,16 +1,23 @@
 -- The rules of operators by tests of their operands.
-use Rattle.std.proofs.Common.{◌≡◌, Bool, true, false, not, ◌&&◌, refl}
+use Rattle.std.proofs.Common.{◌≡◌, Bool, true, false, not, ◌&&◌, ◌||◌, refl}
 use Rattle.ckc_text.specs.declared.place.Span.{Span}
-use Rattle.ckc_text.specs.declared.code.Code.TheVariants.{E13, E19, E26}
+use Rattle.ckc_text.specs.declared.code.Code.TheVariants.{E13, E18, E19, E26}
 use Rattle.act_words.specs.declared.operator.Comparison.{Comparison}
+use Rattle.ckc_core.specs.declared.program.Direction.{Direction}
+use Rattle.ckc_core.specs.declared.program.Site.{Site}
 use Rattle.ckc_core.specs.Core as core
 use Rattle.pointer_modes.specs.Types.{CType, Int, Char, Struct, Pointer}
 use Rattle.region_typing_rules.specs.Types.{is_number, is_pointer, are_comparable}
+use Rattle.region_typing_rules.specs.Scopes.{Scope}
 use Rattle.region_typing_rules.specs.Verdicts.{Verdict, Passes, passing, needs, breaks, picked}
-use Rattle.region_typing_rules.specs.Expressions.{Typed, Value, AStruct, equated, equated_values, scalar_of, two_numbers, ordered, indexed, is_pointer_value}
+use Rattle.region_typing_rules.specs.Expressions.{Typed, Value, AStruct, equated, equated_values, scalar_of, two_numbers, ordered, indexed, element_at, summed, arithmetic, operator_along}
+use Rattle.region_typing_rules.specs.Expressions.{is_single_value, lacks_bounds, without_ptr}
 use Rattle.region_typing_expressions.specs.declared.equality.Equality.{Equality}
 use Rattle.region_typing_expressions.specs.declared.equality.Equality.TheVariants.{Numbers, Pointers, RightNull, LeftNull}
-use Rattle.region_typing_expressions.specs.Comparing.{is_number_value, are_comparable_values, compared}
+use Rattle.region_typing_expressions.specs.Comparing.{is_number_value, is_pointer_value, are_comparable_values, compared}
+use Rattle.region_typing_expressions.specs.Moves.{moved}
+use Rattle.region_typing_scope.specs.Operands.{operand_of}
+use Rattle.region_typing_scope.proofs.Entailing.{needs_then}
 use Rattle.region_typing_expressions.specs.Equality.{equality, equated_by}
 
 and_false : (b : Bool) → (b && false) ≡ false
@@ -60,7 +67,27 @@ ordered_parts comparison (Value t z v p) (AStruct n q) span = numbers_or_not (is
 ordered_parts comparison (AStruct n p) b span = refl
 
 -- an element by tests of what is indexed
-pub indexed_parts : (a b : Typed) (span : Span) → indexed a b span ≡ needs (is_pointer_value a && is_number_value b) E13 span (breaks E19 span)
-indexed_parts (Value t z v p) (Value u y w q) span = refl
-indexed_parts (Value t z v p) (AStruct n q) span = rw (and_false (is_pointer t)) refl
-indexed_parts (AStruct n p) b span = refl
+pub indexed_parts : (a b : Typed) (site : Site) (span : Span) → indexed a b site span
+    ≡ passing (needs (is_pointer_value a && is_number_value b) E13 span (Passes tt))
+    (λ (u : Unit {0}). passing (operand_of a span) (λ o. passing (operand_of b span) (λ n. element_at o.type o.value n.value site span)))
+indexed_parts (Value t z v p) (Value u y w q) site span = needs_then (is_pointer t && is_number u) E13 span tt (λ (_ : Unit {0}). element_at t v w site span)
+indexed_parts (Value t z v p) (AStruct n q) site span = rw (and_false (is_pointer t)) refl
+indexed_parts (AStruct n p) b site span = refl
+
+-- the operands of a sum, and what comes behind
+pub without_then : {A : Type 0} (a b : Typed) (span : Span) (next : Verdict A) → without_ptr a b span next ≡ passing (without_ptr a b span (Passes tt)) (λ (u : Unit {0}). next)
+without_then a b span next = by (not (is_single_value a || is_single_value b)) (not (lacks_bounds a || lacks_bounds b))
+  where
+    by : (m n : Bool) → needs m E19 span (needs n E18 span next) ≡ passing (needs m E19 span (needs n E18 span (Passes tt))) (λ (u : Unit {0}). next)
+    by true true = refl
+    by true false = refl
+    by false n = refl
+
+-- a sum by its first operand
+pub summed_parts : (s : Scope) (direction : Direction) (a b : Typed) (site : Site) (span : Span) → summed s direction a b site span
+    ≡ picked (is_pointer_value a) (passing (operand_of a span) (λ o. moved s direction o b site span)) (two_numbers a b span (arithmetic (operator_along direction) site))
+summed_parts s direction (Value Int z v p) b site span = refl
+summed_parts s direction (Value Char z v p) b site span = refl
+summed_parts s direction (Value (Struct n) z v p) b site span = refl
+summed_parts s direction (Value (Pointer mode kind target) z v p) b site span = refl
+summed_parts s direction (AStruct n p) b site span = refl

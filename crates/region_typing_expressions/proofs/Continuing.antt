@@ -1,39 +1,43 @@
 -- Rules that go on with the value of an operand.
-use Rattle.std.proofs.Common.{◌≡◌, Bool, true, false, not, ◌||◌, List, [], ◌∷◌, Some, None, refl, arith}
+use Rattle.std.proofs.Common.{◌≡◌, Bool, true, false, not, ◌&&◌, ◌||◌, List, [], ◌∷◌, Some, refl, ◌∙◌, arith}
+use Rattle.std.specs.Prelude.{is_none}
 use Rattle.ckc_text.specs.declared.place.Span.{Span}
-use Rattle.ckc_text.specs.declared.code.Code.{Code}
-use Rattle.ckc_text.specs.declared.code.Code.TheVariants.{E13, E19}
+use Rattle.ckc_text.specs.declared.code.Code.TheVariants.{E13, E17, E18, E19}
 use Rattle.pointer_modes.specs.Types.{CType, Int}
+use Rattle.ckc_core.specs.declared.program.Site.{Site}
+use Rattle.ckc_core.specs.Meaning.{bounds_of}
 use Rattle.ckc_core.specs.Core as core
+use Rattle.bounds_flow.specs.Flows.{Knowledge}
 use Rattle.act_words.specs.declared.operator.Operator.{Operator}
-use Rattle.region_typing_rules.specs.Verdicts.{Verdict, Passes, Stops, passing, needs}
-use Rattle.region_typing_rules.specs.Types.{is_number, is_pointer, converts}
-use Rattle.region_typing_rules.specs.Expressions.{Places, Typed, Value, AStruct, GivesNothing, number_of, converted, is_pointer_value, site_at, first_of, writes}
+use Rattle.region_typing_rules.specs.Verdicts.{Verdict, Passes, Stops, passing, needs, picked}
+use Rattle.region_typing_rules.specs.Scopes.{Scope, Signature}
+use Rattle.region_typing_rules.specs.Types.{is_number}
+use Rattle.region_typing_rules.specs.Expressions.{Places, Typed, Value, AStruct, ForNothing, ForArray, For, GivesNothing, number_of, converted, site_at, first_of, writes}
+use Rattle.region_typing_rules.specs.Expressions.{is_single, is_row, is_single_value, lacks_bounds, arguments_as, arguments_met, call_of, declared_callee}
 use Rattle.region_typing_rules.specs.Statements.{updated, set_to, store}
-use Rattle.region_typing_expressions.specs.Calls.{only_number}
+use Rattle.region_typing_expressions.specs.Calls.{only_number, converted_call, first_unmet, unless_unmet}
 use Rattle.region_typing_expressions.specs.Targets.{target_of, updated_target}
-
-pub needs_then : {A B : Type 0} (b : Bool) (code : Code) (span : Span) (v : A) (next : A → Verdict B) → needs b code span (next v) ≡ passing (needs b code span (Passes v)) next
-needs_then true code span v next = refl
-needs_then false code span v next = refl
+use Rattle.region_typing_scope.specs.Entailing.{is_met_as, fitted}
+use Rattle.region_typing_scope.proofs.Entailing.{needs_then, converted_then, fitted_then, bounds_met_so}
 
 pub number_then : {A : Type 0} (t : Typed) (span : Span) (next : core.Expression → Verdict A) → number_of t span next ≡ passing (number_of t span Passes) next
 number_then (Value type null value place) span next = needs_then (is_number type) _ span value next
 number_then (AStruct struct place) span next = refl
 
-pub converted_then : {A : Type 0} (t : Typed) (to : CType) (span : Span) (next : core.Expression → Verdict A) → converted t to span next ≡ passing (converted t to span Passes) next
-converted_then (Value type null value place) to span next = needs_then (converts type null to) _ span _ next
-converted_then (AStruct struct place) to span next = refl
-
-update_value : {A : Type 0} (right : Typed) (span : Span) (pointer numeric : Bool) (next : core.Expression → Verdict A) → needs (not pointer) E19 span (needs numeric E13 span (number_of right span next)) ≡ needs (not pointer) E19 span (needs numeric E13 span (passing (number_of right span Passes) next))
-update_value right span true numeric next = refl
-update_value right span false true next = number_then right span next
-update_value right span false false next = refl
+update_value : {A : Type 0} (right : Typed) (span : Span) (single unbounded numeric : Bool) (next : core.Expression → Verdict A)
+    → needs (not single) E19 span (needs (not unbounded) E18 span (needs numeric E13 span (number_of right span next)))
+    ≡ passing (needs (not single) E19 span (needs (not unbounded) E18 span (needs numeric E13 span (Passes tt)))) (λ (u : Unit {0}). passing (number_of right span Passes) next)
+update_value right span true unbounded numeric next = refl
+update_value right span false true numeric next = refl
+update_value right span false false true next = number_then right span next
+update_value right span false false false next = refl
 
 -- an update as one of its target
 pub updated_parts : (at : Places) (operator : Operator) (left right : Typed) (span : Span) → updated at operator left right span ≡ passing (target_of left span) (λ t. updated_target operator t right (site_at at span) span)
-updated_parts at operator (Value type null value None) right span = refl
-updated_parts at operator (Value type null value (Some place)) right span = update_value right span (is_pointer type || is_pointer_value right) (is_number type) _
+updated_parts at operator (Value type null value ForNothing) right span = refl
+updated_parts at operator (Value type null value ForArray) right span = refl
+updated_parts at operator (Value type null value (For place)) right span =
+    update_value right span (is_single type || is_single_value right) ((is_row type && is_none (bounds_of value)) || lacks_bounds right) (is_number type) _
 updated_parts at operator (AStruct struct place) right span = refl
 
 one_value : {B : Type 0} (v : Verdict core.Expression) (next : core.Arguments → Verdict B) → passing (passing v (λ x. passing (Passes core.Done) (λ others. Passes (core.More x others)))) next ≡ passing v (λ x. next (core.More x core.Done))
@@ -47,7 +51,31 @@ writes_parts of (a ∷ []) span = rw (converted_then a.0 Int a.1) (one_value (co
 writes_parts of (a ∷ b ∷ others) span = grind arith
 
 -- a store as one of its target
-pub set_parts : (left right : Typed) (span : Span) → set_to left right span ≡ passing (target_of left span) (λ t. passing (converted right t.type span Passes) (λ value. Passes (store t.place t.type value)))
-set_parts (Value type null value None) right span = refl
-set_parts (Value type null value (Some place)) right span = converted_then right type span _
-set_parts (AStruct struct place) right span = refl
+pub set_parts : (f : Knowledge) (left right : Typed) (span : Span) → set_to f left right span ≡ passing (target_of left span) (λ t. passing (fitted f right t.type span) (λ value. Passes (store t.place t.type value)))
+set_parts f (Value type null value ForNothing) right span = refl
+set_parts f (Value type null value ForArray) right span = refl
+set_parts f (Value type null value (For place)) right span = fitted_then f right type span _
+set_parts f (AStruct struct place) right span = refl
+
+-- ---- arguments whose bounds are met
+
+met_then : {A : Type 0} (f : Knowledge) (arguments : List (Typed × Span)) (types : List CType) (next : Verdict A)
+    → arguments_met f arguments types next ≡ passing (unless_unmet (first_unmet f arguments types)) (λ (u : Unit {0}). next)
+met_then f [] types next = refl
+met_then f (a ∷ arguments) [] next = refl
+met_then f (a ∷ arguments) (type ∷ types) next = bounds_met_so f a.0 type a.1 (arguments_met f arguments types next) ∙ by (is_met_as f a.0 type) (met_then f arguments types next)
+  where
+    by : (b : Bool) → arguments_met f arguments types next ≡ passing (unless_unmet (first_unmet f arguments types)) (λ (u : Unit {0}). next)
+        → needs b E17 a.1 (arguments_met f arguments types next) ≡ passing (unless_unmet (picked b (first_unmet f arguments types) (Some a.1))) (λ (u : Unit {0}). next)
+    by true others = others
+    by false others = refl
+
+values_met : {A B : Type 0} (f : Knowledge) (arguments : List (Typed × Span)) (types : List CType) (v : Verdict A) (next : A → Verdict B)
+    → passing v (λ values. arguments_met f arguments types (next values)) ≡ passing v (λ values. passing (unless_unmet (first_unmet f arguments types)) (λ (u : Unit {0}). next values))
+values_met f arguments types (Passes values) next = met_then f arguments types (next values)
+values_met f arguments types (Stops stop) next = refl
+
+-- a call whose arguments convert, and whose bounds are met
+pub converted_parts : (s : Scope) (f : Signature) (arguments : List (Typed × Span)) (site : Site) → converted_call s f arguments site
+    ≡ passing (arguments_as arguments f.parameters) (λ values. passing (unless_unmet (first_unmet s.flow arguments f.parameters)) (λ (u : Unit {0}). Passes (call_of s.structs f.result (declared_callee s f site) values site)))
+converted_parts s f arguments site = values_met s.flow arguments f.parameters (arguments_as arguments f.parameters) (λ values. Passes (call_of s.structs f.result (declared_callee s f site) values site))

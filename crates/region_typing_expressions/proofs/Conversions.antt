@@ -14,7 +14,7 @@ use Rattle.region_typing_rules.specs.Expressions.{arguments_as, converted}
 use Rattle.region_typing_expressions.specs.declared.calls.Argument as code
 use Rattle.region_typing_scope.specs.OnHeap.{typed}
 use Rattle.region_typing_expressions.specs.Calls.{argument, only_number}
-use Rattle.region_typing_expressions.proofs.Continuing.{converted_then}
+use Rattle.region_typing_scope.proofs.Entailing.{converted_then}
 use Rattle.region_typing_expressions.proofs.CoreRows.{joined, joined_none, joined_one}
 
 -- the values so far before those of the arguments that are left

@@ -1,4 +1,5 @@
 mod Crossing
+mod Leading
 pub mod Arguments
 pub mod Comparing
 pub mod Continuing

@@ -14,7 +14,7 @@ use Rattle.ckc_core.specs.Core as core
 use Rattle.region_typing_rules.specs.Verdicts.{Passes, breaks}
 use Rattle.region_typing_rules.specs.Scopes.{Scope, members_named}
 use Rattle.region_typing_rules.specs.Types.{is_scalar}
-use Rattle.region_typing_rules.specs.Expressions.{Value, OfCell, at_place, member_from, member_at, member_place, offset_among}
+use Rattle.region_typing_rules.specs.Expressions.{Value, For, OfCell, at_place, member_from, member_at, member_place, offset_among}
 use Rattle.region_typing_scope.specs.Searches.{member_at as member_found_at}
 use Rattle.region_typing_scope.proofs.Searches.{place_found, member_found}
 
@@ -41,7 +41,7 @@ offset_at [] k = refl
 offset_at (c ∷ cells) zero = refl
 offset_at (c ∷ cells) (suc k) = offset_at cells k
 
-scalar_cell : (t : CType) (p : core.Place) → is_scalar t ≡ true → at_place t p ≡ Value t false (core.Load t p None) (Some (OfCell p))
+scalar_cell : (t : CType) (p : core.Place) → is_scalar t ≡ true → at_place t p ≡ Value t false (core.Load t p None) (For (OfCell p))
 scalar_cell Int p scalar = refl
 scalar_cell Char p scalar = refl
 scalar_cell (Struct number) p scalar = absurd (cc)
@@ -71,7 +71,7 @@ no_member s struct base name site span names ms named are none =
 pub member_cell : (s : Scope) (struct k offset : ℕ) (base place : core.Place) (name : ℕ) (site : Site) (span : Span) (names : List ℕ) (ms : List code.Member) (m : code.Member) (t : CType) → names ≡ members_named s struct → map member ms ≡ members_of s.structs struct
     → member_found_at 0 ms (Some k) ≡ member_from 0 names (map member ms) name → slice_get ms k ≡ Some m
     → list_all (λ d. list_all (λ w. is_scalar w.ctype) d.members) s.structs ≡ true → t ≡ ctype m.ctype → offset ≡ slice_index (map (λ c. c.offset) (cells_of s.structs (Struct struct))) k → place ≡ member_place base offset site
-    → member_at s struct base name site span ≡ Passes (Value t false (core.Load t place None) (Some (OfCell place)))
+    → member_at s struct base name site span ≡ Passes (Value t false (core.Load t place None) (For (OfCell place)))
 member_cell s struct k offset base place name site span names ms m t named are there at all same offset_is place_is =
     let first : 0 + k ≡ k = omega arith in
     let e : member_from 0 (members_named s struct) (members_of s.structs struct) name ≡ Some (k, ctype m.ctype) =

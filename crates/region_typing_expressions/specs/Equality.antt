@@ -5,11 +5,11 @@ use Rattle.ckc_text.specs.declared.code.Code.TheVariants.{E13}
 use Rattle.act_words.specs.declared.operator.Comparison.TheVariants as comparisons
 use Rattle.ckc_core.specs.Core as core
 use Rattle.region_typing_rules.specs.Verdicts.{Verdict, Passes, needs, picked}
-use Rattle.region_typing_rules.specs.Expressions.{Typed, is_pointer_value}
+use Rattle.region_typing_rules.specs.Expressions.{Typed}
 use Rattle.region_typing_rules.specs.Items.{is_zero}
 use Rattle.region_typing_expressions.specs.declared.equality.Equality.{Equality}
 use Rattle.region_typing_expressions.specs.declared.equality.Equality.TheVariants.{Numbers, Pointers, RightNull, LeftNull}
-use Rattle.region_typing_expressions.specs.Comparing.{is_number_value, are_comparable_values}
+use Rattle.region_typing_expressions.specs.Comparing.{is_number_value, is_pointer_value, are_comparable_values}
 
 -- numbers, pointers of one mode and element, or a pointer and 0 (E13)
 abbrev pub equality : Typed → Typed → Span → Verdict Equality

@@ -4,3 +4,4 @@ pub mod Targets
 pub mod Comparing
 pub mod Equality
 pub mod Unbounded
+pub mod Moves

@@ -1,16 +1,19 @@
 -- Inside: what an assignment stores in, as the code holds it.
-use Rattle.std.specs.Prelude.{Box, not, ◌||◌, Some, None}
-use Rattle.std.proofs.Common.{Global}
+use Rattle.std.specs.Prelude.{Box, not, ◌&&◌, ◌||◌, Option, is_none}
+use Rattle.std.proofs.Common.{Global, Bool}
 use Rattle.ckc_text.specs.declared.place.Span.{Span}
-use Rattle.ckc_text.specs.declared.code.Code.TheVariants.{E12, E13, E19}
+use Rattle.ckc_text.specs.declared.code.Code.TheVariants.{E12, E13, E18, E19}
 use Rattle.pointer_modes.specs.Types.{CType, ctype}
 use Rattle.ckc_core.specs.declared.program.Site.{Site}
+use Rattle.ckc_core.specs.declared.program.PointerBounds.{PointerBounds}
+use Rattle.ckc_core.specs.Meaning.{bounds_of}
 use Rattle.act_words.specs.declared.operator.Operator.{Operator}
 use Rattle.ckc_core.specs.Core as core
 use Rattle.ckc_core.specs.Core.{place}
 use Rattle.region_typing_rules.specs.Verdicts.{Verdict, Passes, passing, needs, breaks}
-use Rattle.region_typing_rules.specs.Types.{is_number, is_pointer}
-use Rattle.region_typing_rules.specs.Expressions.{Typed, Value, AStruct, Lvalue, OfLocal, OfCell, number_of, is_pointer_value}
+use Rattle.region_typing_rules.specs.Types.{is_number}
+use Rattle.region_typing_rules.specs.Expressions.{Typed, Value, AStruct, ForNothing, ForArray, For, Lvalue, OfLocal, OfCell, number_of}
+use Rattle.region_typing_rules.specs.Expressions.{is_single, is_row, is_single_value, lacks_bounds}
 use Rattle.region_typing_rules.specs.Statements.{update}
 use Rattle.region_typing_expressions.specs.declared.assignments.Lvalue as code
 use Rattle.region_typing_expressions.specs.declared.assignments.Lvalue.TheVariants as lvalues
@@ -20,26 +23,36 @@ abbrev pub lvalue : code.Lvalue → Lvalue
 lvalue (lvalues.Local local) = OfLocal local
 lvalue (lvalues.Cell cell) = OfCell (place cell)
 
--- a place and its type
+-- a place, its type, and the bounds of what it holds
 pub record Target : Type 0 where
   pub type : CType
   pub place : Lvalue
+  pub bounds : Option PointerBounds
 
 abbrev pub target : code_target.Target → Target
-target t = record { type = ctype t.ctype; place = lvalue t.place }
+target t = record { type = ctype t.ctype; place = lvalue t.place; bounds = t.bounds }
 
 abbrev pub target_on_heap : Box code_target.Target Global → Target
 target_on_heap t = target t.value
 
 -- the place of a scalar (E12, E13)
 abbrev pub target_of : Typed → Span → Verdict Target
-target_of (Value type zero value None) span = breaks E12 span
-target_of (Value type zero value (Some place)) span = Passes (record { type = type; place = place })
+target_of (Value type zero value ForNothing) span = breaks E12 span
+target_of (Value type zero value ForArray) span = breaks E12 span
+target_of (Value type zero value (For place)) span = Passes (record { type = type; place = place; bounds = bounds_of value })
 target_of (AStruct number place) span = breaks E13 span
 
--- an update of a place (E19, E13)
+-- a pointer whose bounds are unknown
+abbrev pub is_unbounded : Target → Bool
+is_unbounded t = is_row t.type && is_none t.bounds
+
+-- the target of an update and what it is updated by are numbers, as far as the target tells (E19, E18, E13)
+abbrev pub may_update : Target → Typed → Span → Verdict (Unit {0})
+may_update t right span =
+    needs (not (is_single t.type || is_single_value right)) E19 span
+    (needs (not (is_unbounded t || lacks_bounds right)) E18 span (needs (is_number t.type) E13 span (Passes tt)))
+
+-- an update of a place
 abbrev pub updated_target : Operator → Target → Typed → Site → Span → Verdict core.Statement
 updated_target operator t right site span =
-    needs (not (is_pointer t.type || is_pointer_value right)) E19 span
-    (needs (is_number t.type) E13 span
-    (passing (number_of right span Passes) (λ value. Passes (update t.place t.type operator value site))))
+    passing (may_update t right span) (λ (u : Unit {0}). passing (number_of right span Passes) (λ value. Passes (update t.place t.type operator value site)))

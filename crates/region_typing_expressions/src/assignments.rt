@@ -10,15 +10,16 @@ ghost use Rattle.region_typing_rules.specs.Verdicts.{Passes};
 ghost use Rattle.region_typing_rules.specs.Statements.{store as store_of, update as update_with, updated_place as updated_at, set_to as set_to_of, updated as updated_of, stored as stored_of, step_of as step_from, one as one_of, assignment as assignment_of, condition as condition_of};
 ghost use Rattle.region_typing_scope.specs.Answering.{Answers};
 ghost use Rattle.region_typing_scope.specs.Views.{scope as scope_of};
+ghost use Rattle.region_typing_scope.specs.Typed.{typed as inline_typed};
 ghost use Rattle.region_typing_scope.specs.OnHeap.{typed as typed_view, expression as expression_on_heap, statement as statement_on_heap};
-ghost use Rattle.region_typing_expressions.specs.Targets.{target as target_view, target_on_heap, lvalue, target_of as target_in, updated_target};
+ghost use Rattle.region_typing_expressions.specs.Targets.{target as target_view, target_on_heap, lvalue, target_of as target_in, is_unbounded as is_unbounded_in, may_update as may_update_in, updated_target};
 
 use crate::expressions::typed;
-use crate::operand_tests::is_pointer_value;
+use crate::operand_tests::{is_row, is_single, is_single_value, lacks_bounds};
 use act_words::operator::{ArithmeticOperator, Operator};
 use ckc_core::char_cells::has_one_byte;
 use ckc_core::program;
-use ckc_core::program::{CellPlace, Site, Stmt};
+use ckc_core::program::{CellPlace, PointerBounds, Site, Stmt};
 use ckc_text::code::Code;
 use ckc_text::fault::NoMemory;
 use ckc_text::place::Span;
@@ -26,12 +27,12 @@ use ckc_tree::expr::Expr;
 use ckc_tree::stmt::{Assignment, StepOperator, StoreOperator};
 use pointer_modes::ctype::CType;
 use region_typing_scope::context::Context;
-use region_typing_scope::conversions::converted;
+use region_typing_scope::conversions::fitted;
 use region_typing_scope::operands::{number, scalar};
-use region_typing_scope::refusals::{CheckError, refusal};
+use region_typing_scope::refusals::{CheckError, needs, refusal};
 use region_typing_scope::scope::Scope;
 use region_typing_scope::typed::{Typed, plain};
-use region_typing_scope::types::{is_number, is_pointer};
+use region_typing_scope::types::is_number;
 
 /// Where a value may be stored.
 #[derive(Drop)]
@@ -40,18 +41,28 @@ pub enum Lvalue {
     Cell(CellPlace),
 }
 
-/// A place that a value may be stored in, and its type.
+/// A place that a value may be stored in, its type, and the bounds of what it holds.
 #[derive(Drop)]
 pub struct Target {
     pub ctype: CType,
     pub place: Lvalue,
+    pub bounds: Option<PointerBounds>,
 }
 
 // A place of a type.
-fn target_at(context: &Context, ctype: CType, place: Lvalue) -> Result<Box<Target>, CheckError>
-    ensures { Answers target_on_heap (Passes (target_view (record { ctype = ctype; place = place }))) result }
+fn target_at(
+    context: &Context,
+    ctype: CType,
+    place: Lvalue,
+    bounds: Option<PointerBounds>,
+) -> Result<Box<Target>, CheckError>
+    ensures { Answers target_on_heap (Passes (target_view (record { ctype = ctype; place = place; bounds = bounds }))) result }
 {
-    Ok(context.boxed(Target { ctype, place })?)
+    Ok(context.boxed(Target {
+        ctype,
+        place,
+        bounds,
+    })?)
 }
 
 /// The place that an expression stands for.
@@ -59,9 +70,17 @@ fn target_of(context: &Context, t: Box<Typed>, span: Span) -> Result<Box<Target>
     ensures { Answers target_on_heap (target_in (typed_view t) span) result }
 {
     match Box::into_inner(t) {
-        Typed::Value { .. } => Err(refusal(Code::E12, span)),
-        Typed::Local { ctype, local, .. } => target_at(context, ctype, Lvalue::Local(local)),
-        Typed::Cell { ctype, place, .. } => target_at(context, ctype, Lvalue::Cell(place)),
+        Typed::Value { .. } | Typed::Array { .. } => Err(refusal(Code::E12, span)),
+        Typed::Local {
+            ctype,
+            local,
+            bounds,
+        } => target_at(context, ctype, Lvalue::Local(local), bounds),
+        Typed::Cell {
+            ctype,
+            place,
+            bounds,
+        } => target_at(context, ctype, Lvalue::Cell(place), bounds),
         Typed::Struct { .. } => Err(refusal(Code::E13, span)),
     }
 }
@@ -70,24 +89,25 @@ fn target_of(context: &Context, t: Box<Typed>, span: Span) -> Result<Box<Target>
 fn store(target: Target, value: program::Expr) -> Stmt
     ensures { statement result ≡ store_of (lvalue target.place) (ctype_of target.ctype) (expression value) }
 {
-    let Target { ctype, place } = target;
+    let Target { ctype, place, .. } = target;
     match place {
         Lvalue::Local(local) => Stmt::SetLocal { local, value },
         Lvalue::Cell(cell) => Stmt::Store { ctype, cell, value },
     }
 }
 
-// A store of a value that converts.
+// A store of a value that converts, and whose bounds are met.
 fn set_to(
     context: &Context,
+    scope: &Scope,
     left: Box<Typed>,
     right: Box<Typed>,
     span: Span,
 ) -> Result<Box<Stmt>, CheckError>
-    ensures { Answers statement_on_heap (set_to_of (typed_view left) (typed_view right) span) result }
+    ensures { Answers statement_on_heap (set_to_of (scope_of scope.now).flow (typed_view left) (typed_view right) span) result }
 {
     let target = target_of(context, left, span)?;
-    let value = converted(context, right, &target.ctype, span)?;
+    let value = fitted(context, scope, right, &target.ctype, span)?;
     Ok(context.boxed(store(Box::into_inner(target), value))?)
 }
 
@@ -115,7 +135,7 @@ fn updated_place(place: CellPlace, site: Site) -> CellPlace
 fn update(target: Target, operator: Operator, value: program::Expr, site: Site) -> Stmt
     ensures { statement result ≡ update_with (lvalue target.place) (ctype_of target.ctype) operator (expression value) site }
 {
-    let Target { ctype, place } = target;
+    let Target { ctype, place, .. } = target;
     match place {
         Lvalue::Local(local) => Stmt::UpdateLocal {
             is_char: has_one_byte(&ctype),
@@ -134,6 +154,24 @@ fn update(target: Target, operator: Operator, value: program::Expr, site: Site) 
     }
 }
 
+// Whether a target holds a pointer whose bounds are unknown.
+fn is_unbounded(target: &Target) -> bool
+    ensures { result ≡ is_unbounded_in (target_view target.now) }
+{
+    is_row(&target.ctype) && target.bounds.is_none()
+}
+
+// Whether a target may be updated by an expression.
+fn may_update(target: &Target, right: &Typed, span: Span) -> Result<(), CheckError>
+    ensures { Answers (λ x. x) (may_update_in (target_view target.now) (inline_typed right.now) span) result }
+{
+    let single = is_single(&target.ctype) || is_single_value(right);
+    needs(!single, Code::E19, span)?;
+    let unbounded = is_unbounded(target) || lacks_bounds(right);
+    needs(!unbounded, Code::E18, span)?;
+    needs(is_number(&target.ctype), Code::E13, span)
+}
+
 // An update of a target.
 fn update_target(
     context: &Context,
@@ -145,12 +183,7 @@ fn update_target(
 ) -> Result<Box<Stmt>, CheckError>
     ensures { Answers statement_on_heap (updated_target operator (target_on_heap target) (typed_view right) site span) result }
 {
-    if is_pointer(&target.ctype) || is_pointer_value(&right) {
-        return Err(refusal(Code::E19, span));
-    }
-    if !is_number(&target.ctype) {
-        return Err(refusal(Code::E13, span));
-    }
+    may_update(&target, &right, span)?;
     let value = number(context, right, span)?;
     let target = Box::into_inner(target);
     let value = Box::into_inner(value);
@@ -174,15 +207,16 @@ fn updated(
 // An assignment by its operator.
 fn stored(
     context: &Context,
+    scope: &Scope,
     operator: StoreOperator,
     left: Box<Typed>,
     right: Box<Typed>,
     span: Span,
 ) -> Result<Box<Stmt>, CheckError>
-    ensures { Answers statement_on_heap (stored_of (place_at context.now) operator (typed_view left) (typed_view right) span) result }
+    ensures { Answers statement_on_heap (stored_of (place_at context.now) (scope_of scope.now).flow operator (typed_view left) (typed_view right) span) result }
 {
     match operator {
-        StoreOperator::Set => set_to(context, left, right, span),
+        StoreOperator::Set => set_to(context, scope, left, right, span),
         StoreOperator::Add => updated(
             context,
             Operator::Arithmetic(ArithmeticOperator::Add),
@@ -233,7 +267,7 @@ pub fn assignment(
         } => {
             let left = typed(context, scope, target)?;
             let right = typed(context, scope, value)?;
-            stored(context, *operator, left, right, *span)
+            stored(context, scope, *operator, left, right, *span)
         }
         Assignment::Step {
             operator,

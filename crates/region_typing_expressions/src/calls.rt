@@ -11,7 +11,7 @@ ghost use Rattle.region_typing_scope.specs.Answering.{Answers};
 ghost use Rattle.region_typing_rules.specs.Verdicts.{Passes};
 ghost use Rattle.region_typing_scope.specs.Typed.{typed as inline_typed};
 ghost use Rattle.region_typing_scope.specs.OnHeap.{typed};
-ghost use Rattle.region_typing_expressions.specs.Calls.{argument, called as called_as, converted_call, only_number};
+ghost use Rattle.region_typing_expressions.specs.Calls.{argument, called as called_as, converted_call, first_unmet as first_unmet_in, only_number, unless_unmet as unless_unmet_at};
 
 use ckc_core::program::{Call, Callee, Expr, Site, Stmt};
 use ckc_names_rules::given::Given;
@@ -185,9 +185,10 @@ fn is_checked_argument(t: &Typed) -> bool
     ensures { result ≡ checked_argument (inline_typed t.now) }
 {
     match t {
-        Typed::Value { ctype, .. } | Typed::Local { ctype, .. } | Typed::Cell { ctype, .. } => {
-            is_checked_pointer(ctype)
-        }
+        Typed::Value { ctype, .. }
+        | Typed::Local { ctype, .. }
+        | Typed::Cell { ctype, .. }
+        | Typed::Array { ctype, .. } => is_checked_pointer(ctype),
         Typed::Struct { .. } => false,
     }
 }
@@ -217,7 +218,34 @@ fn crossing(import: bool, arguments: &[Argument]) -> Result<(), CheckError>
     }
 }
 
-// A call of a declared function, where the arguments convert.
+// Where the first argument stands whose bounds aren't met.
+fn first_unmet(
+    scope: &Scope,
+    arguments: &[Argument],
+    types: &[CType],
+) -> Result<Option<Span>, NoMemory>
+    requires { length arguments.now ≡ length types.now }
+    ensures { IfOk result (λ unmet. unmet ≡ first_unmet_in scope.now.flow (map argument arguments.now) (map ctype_of types.now)) }
+{
+    for i in 0..arguments.len() {
+        if !scope.is_met(&arguments[i].typed, &types[i])? {
+            return Ok(Some(arguments[i].span));
+        }
+    }
+    Ok(None)
+}
+
+// Refuses an argument whose bounds aren't met, where there is one.
+fn unless_unmet(unmet: Option<Span>) -> Result<(), CheckError>
+    ensures { Answers (λ x. x) (unless_unmet_at unmet) result }
+{
+    match unmet {
+        None => Ok(()),
+        Some(span) => Err(refusal(Code::E17, span)),
+    }
+}
+
+// A call of a declared function, where the arguments convert and their bounds are met.
 fn call_with(
     context: &Context,
     scope: &Scope,
@@ -228,8 +256,10 @@ fn call_with(
     requires { length arguments.items ≡ length f.now.parameters.items }
     ensures { Answers called_as (converted_call (scope_of scope.now) (signature f.now) (map argument arguments.items) site) result }
 {
-    let arguments = VecDeque::from_vec(arguments);
-    let arguments = arguments_as(context, arguments, f.parameters.as_slice())?;
+    let types = f.parameters.as_slice();
+    let unmet = first_unmet(scope, arguments.as_slice(), types)?;
+    let arguments = arguments_as(context, VecDeque::from_vec(arguments), types)?;
+    unless_unmet(unmet)?;
     let callee = declared_callee(scope, f, site);
     let call = Call { callee, arguments };
     Ok(call_of(context, &scope.structs, &f.result, call, site)?)

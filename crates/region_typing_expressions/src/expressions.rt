@@ -1,25 +1,28 @@
 // The walk over expressions.
 
-ghost use Rattle.std.specs.Prelude.{◌≡◌, IfOk, map, false, None};
+ghost use Rattle.std.specs.Prelude.{◌≡◌, IfOk, map, false};
 ghost use Rattle.ckc_text.specs.Places.{place_at};
 ghost use Rattle.ckc_tree.specs.Types.{type_name as type_name_of};
-ghost use Rattle.ckc_tree.specs.Expressions.{expression as expression_of, Call, Name, Dot, Arrow, Unary};
-ghost use Rattle.pointer_modes.specs.Types.{Int};
+ghost use Rattle.ckc_tree.specs.Expressions.{expression as expression_of, Call, Name, Index, Dot, Arrow, Unary};
+ghost use Rattle.pointer_modes.specs.Types.{Int, ctype as ctype_of};
 ghost use Rattle.ckc_core.specs.Core.{Number};
 ghost use Rattle.region_typing_rules.specs.Verdicts.{Passes};
-ghost use Rattle.region_typing_rules.specs.Expressions.{constant as constant_of, Value, typed as typed_of, all_typed as all_typed_of, call_typed as call_typed_of};
+ghost use Rattle.region_typing_rules.specs.Scopes.{object_of};
+ghost use Rattle.region_typing_rules.specs.Expressions.{constant_typed, Value, ForNothing, site_at, typed as typed_of, name_typed, all_typed as all_typed_of, call_typed as call_typed_of};
 ghost use Rattle.region_typing_scope.specs.Answering.{Answers};
 ghost use Rattle.region_typing_scope.specs.Views.{scope as scope_of};
 ghost use Rattle.region_typing_scope.specs.OnHeap.{typed as typed_view};
 ghost use Rattle.region_typing_scope.specs.Typed.{number_typed, size_typed};
 ghost use Rattle.region_typing_expressions.specs.Calls.{argument, called as called_as, called_with};
-ghost use Rattle.region_typing_expressions.specs.Unbounded.{name_verdict, dotted_verdict, arrowed_verdict, unary_verdict};
+ghost use Rattle.region_typing_expressions.specs.Unbounded.{name_verdict, element_verdict, dotted_verdict, arrowed_verdict, unary_verdict};
 ghost use Rattle.region_typing_expressions.specs.Slices.{expression_list};
 
 use crate::calls::{Argument, Called, call, with_result};
 use crate::members::{arrowed, dotted};
-use crate::operators::{binary, indexed, unary};
+use crate::operators::{binary, unary};
+use crate::places::indexed;
 use ckc_core::program;
+use ckc_core::program::Site;
 use ckc_text::code::Code;
 use ckc_text::fault::NoMemory;
 use ckc_text::place::Span;
@@ -27,8 +30,9 @@ use ckc_tree::expr::{Expr, UnaryOperator};
 use ckc_tree::identifier::Identifier;
 use ckc_tree::type_form::TypeName;
 use pointer_modes::ctype::CType;
-use region_typing_scope::bounds::with_bounds;
+use region_typing_scope::bounds::{array, with_bounds};
 use region_typing_scope::context::Context;
+use region_typing_scope::lookups::KnownObject;
 use region_typing_scope::refusals::{CheckError, refusal};
 use region_typing_scope::scope::Scope;
 use region_typing_scope::typed::{Base, Typed, at_base, at_local};
@@ -36,7 +40,7 @@ use region_typing_scope::types::{copied, type_named};
 
 // A constant, which is 0 or not.
 fn constant(context: &Context, zero: bool, number: i32) -> Result<Box<Typed>, NoMemory>
-    ensures { IfOk result (λ t. typed_view t ≡ Value Int zero (Number number) None) }
+    ensures { IfOk result (λ t. typed_view t ≡ Value Int zero (Number number) ForNothing) }
 {
     let value = context.boxed(program::Expr::Number(number))?;
     context.boxed(Typed::Value {
@@ -58,7 +62,7 @@ fn number(context: &Context, value: u32, span: Span) -> Result<Box<Typed>, Check
 
 // A character at a span.
 fn character(context: &Context, value: u8) -> Result<Box<Typed>, NoMemory>
-    ensures { IfOk result (λ t. (span : Span) → constant_of value false span ≡ Passes (typed_view t)) }
+    ensures { IfOk result (λ t. (span : Span) → constant_typed value false span ≡ Passes (typed_view t)) }
 {
     constant(context, false, value as i32)
 }
@@ -72,17 +76,38 @@ fn size_of(context: &Context, scope: &Scope, t: &TypeName) -> Result<Box<Typed>,
     Ok(constant(context, false, bytes as i32)?)
 }
 
+// What a file-level variable is.
+fn object_value(
+    context: &Context,
+    scope: &Scope,
+    object: &KnownObject,
+    site: Site,
+) -> Result<Box<Typed>, NoMemory>
+    ensures { IfOk result (λ t. typed_view t ≡ name_typed (scope_of scope.now).structs (object_of object.now.number (ctype_of object.now.ctype.now) object.now.length) site) }
+{
+    let ctype = copied(context, object.ctype)?;
+    let value = match object.length {
+        None => at_base(ctype, Base::Object(object.number)),
+        Some(length) => array(context, &scope.structs, object.number, ctype, length, site)?,
+    };
+    context.boxed(value)
+}
+
 // What a name stands for.
-fn named(context: &Context, scope: &Scope, name: usize) -> Result<Box<Typed>, CheckError>
-    ensures { Answers typed_view (name_verdict (scope_of scope.now) name) result }
+fn named(
+    context: &Context,
+    scope: &Scope,
+    name: usize,
+    site: Site,
+) -> Result<Box<Typed>, CheckError>
+    ensures { Answers typed_view (name_verdict (scope_of scope.now) name site) result }
 {
     if let Some(local) = scope.local(name) {
         let ctype = copied(context, local.ctype)?;
         return Ok(context.boxed(at_local(ctype, local.number))?);
     }
     if let Some(object) = scope.object(name) {
-        let ctype = copied(context, object.ctype)?;
-        return Ok(context.boxed(at_base(ctype, Base::Object(object.number)))?);
+        return Ok(object_value(context, scope, &object, site)?);
     }
     if name == scope.given.null {
         Ok(constant(context, true, 0)?)
@@ -95,8 +120,22 @@ fn named(context: &Context, scope: &Scope, name: usize) -> Result<Box<Typed>, Ch
 fn name_value(context: &Context, scope: &Scope, name: &Identifier) -> Result<Box<Typed>, CheckError>
     ensures { Answers typed_view (typed_of (place_at context.now) (scope_of scope.now) (Name name.now)) result }
 {
-    let t = named(context, scope, name.number)?;
+    let t = named(context, scope, name.number, context.site(name.span))?;
     with_bounds(context, scope, t, name.span)
+}
+
+// An element.
+fn element_of(
+    context: &Context,
+    scope: &Scope,
+    base: Box<Typed>,
+    index: Box<Typed>,
+    span: Span,
+) -> Result<Box<Typed>, CheckError>
+    ensures { Answers typed_view (element_verdict (scope_of scope.now) (typed_view base) (typed_view index) (site_at (place_at context.now) span) span) result }
+{
+    let t = indexed(context, base, index, context.site(span), span)?;
+    with_bounds(context, scope, t, span)
 }
 
 /// What an expression is.
@@ -121,7 +160,7 @@ pub fn typed(context: &Context, scope: &Scope, e: &Expr) -> Result<Box<Typed>, C
         Expr::Index { base, index, span } => {
             let base = typed(context, scope, base)?;
             let index = typed(context, scope, index)?;
-            indexed(&base, &index, *span)
+            element_of(context, scope, base, index, *span)
         }
         Expr::Dot { base, member, span } => member_of(context, scope, base, member, *span),
         Expr::Arrow { base, member, span } => member_through(context, scope, base, member, *span),
@@ -138,7 +177,7 @@ pub fn typed(context: &Context, scope: &Scope, e: &Expr) -> Result<Box<Typed>, C
         } => {
             let left = typed(context, scope, left)?;
             let right = typed(context, scope, right)?;
-            binary(context, *operator, left, right, *span)
+            binary(context, scope, *operator, left, right, *span)
         }
     }
 }

@@ -1,23 +1,25 @@
 // Members of structs.
 
 ghost use Rattle.std.specs.Prelude.{◌≡◌, ◌<◌, ◌==◌, length, map, position, IfOk, IfSome};
-ghost use Rattle.pointer_modes.specs.Types.{ctype as ctype_of, member as member_of};
-ghost use Rattle.ckc_core.specs.Core.{place as place_of};
-ghost use Rattle.region_typing_rules.specs.Expressions.{member_from, member_at as member_in, member_place as place_in, struct_place as cell_of_struct, dotted as dotted_in, arrowed as arrowed_in};
+ghost use Rattle.pointer_modes.specs.declared.ctype.Mode.{Mode};
+ghost use Rattle.pointer_modes.specs.Types.{Pointer, Struct, ctype as ctype_of, member as member_of};
+ghost use Rattle.ckc_core.specs.Core.{expression, place as place_of};
+ghost use Rattle.region_typing_rules.specs.Expressions.{member_from, member_at as member_in, member_place as place_in, struct_place as cell_of_struct, first_element as first_element_of, dotted as dotted_in, pointed_by as pointed_by_in, arrowed as arrowed_in};
 ghost use Rattle.region_typing_scope.specs.Answering.{Answers};
 ghost use Rattle.region_typing_scope.specs.Searches.{member_at as member_found_at};
 ghost use Rattle.region_typing_scope.specs.Views.{scope as scope_of};
-ghost use Rattle.region_typing_scope.specs.Typed.{base_place, struct_place, struct_of, struct_behind};
+ghost use Rattle.region_typing_scope.specs.Typed.{base_place, struct_place, struct_of};
 ghost use Rattle.region_typing_scope.specs.OnHeap.{typed};
 
 use ckc_core::program::{CellPlace, Expr, Index, Site};
 use ckc_text::code::Code;
 use ckc_text::fault::NoMemory;
 use ckc_text::place::Span;
-use pointer_modes::ctype::{CType, Member};
+use pointer_modes::ctype::{CType, Kind, Member};
+use region_typing_flow::readings::bounds_of;
 use region_typing_scope::context::Context;
 use region_typing_scope::operands::{Operand, value_of};
-use region_typing_scope::refusals::{CheckError, refusal};
+use region_typing_scope::refusals::{CheckError, needs, refusal};
 use region_typing_scope::scope::Scope;
 use region_typing_scope::typed::{Base, StructPlace, Typed};
 use region_typing_scope::types::copied;
@@ -51,6 +53,16 @@ fn cell_of(base: Base, offset: u32, site: Site) -> CellPlace
         Base::Behind { pointer, .. } => CellPlace::Through {
             pointer,
             index: Index::First,
+            offset,
+            site,
+        },
+        Base::Element {
+            pointer,
+            number,
+            ..
+        } => CellPlace::Through {
+            pointer,
+            index: Index::Element(number),
             offset,
             site,
         },
@@ -140,28 +152,68 @@ pub fn arrowed(
         zero: _,
         value: pointer,
     } = value_of(context, t, span)?;
-    match struct_pointed_to(&ctype) {
-        Some(number) => member_at(
-            context,
-            scope,
-            number,
-            Base::Behind { pointer, site },
-            name,
-            site,
-            span,
-        ),
-        None => Err(refusal(Code::E13, span)),
+    pointed_by(context, scope, &ctype, pointer, name, site, span)
+}
+
+// A member of what a pointer of a type points to.
+fn pointed_by(
+    context: &Context,
+    scope: &Scope,
+    ctype: &CType,
+    pointer: Box<Expr>,
+    name: usize,
+    site: Site,
+    span: Span,
+) -> Result<Box<Typed>, CheckError>
+    ensures { Answers typed (pointed_by_in (scope_of scope.now) (ctype_of ctype.now) (expression pointer.value) name site span) result }
+{
+    if let CType::Pointer(_, kind, target) = ctype {
+        if let Some(number) = struct_number(target) {
+            return member_behind(context, scope, *kind, number, pointer, name, site, span);
+        }
+    }
+    Err(refusal(Code::E13, span))
+}
+
+// A member of the struct that a pointer of a kind points to.
+fn member_behind(
+    context: &Context,
+    scope: &Scope,
+    kind: Kind,
+    number: u32,
+    pointer: Box<Expr>,
+    name: usize,
+    site: Site,
+    span: Span,
+) -> Result<Box<Typed>, CheckError>
+    ensures { (mode : Mode) → Answers typed (pointed_by_in (scope_of scope.now) (Pointer mode kind (Struct number)) (expression pointer.value) name site span) result }
+{
+    match kind {
+        Kind::One => {
+            let base = Base::Behind { pointer, site };
+            member_at(context, scope, number, base, name, site, span)
+        }
+        Kind::Array => {
+            let bounded = bounds_of(&pointer).is_some();
+            let base = first_element(context, pointer, site)?;
+            let t = member_at(context, scope, number, base, name, site, span)?;
+            needs(bounded, Code::E18, span)?;
+            Ok(t)
+        }
+        Kind::Nt => Err(refusal(Code::E13, span)),
     }
 }
 
-// The struct that a pointer of a type points to.
-fn struct_pointed_to(t: &CType) -> Option<u32>
-    ensures { result ≡ struct_behind (ctype_of t.now) }
+/// The element at which a pointer with bounds stands.
+pub fn first_element(context: &Context, pointer: Box<Expr>, site: Site) -> Result<Base, NoMemory>
+    ensures { IfOk result (λ base. base_place base ≡ first_element_of (expression pointer.value) site) }
 {
-    match t {
-        CType::Pointer(_, _, target) => struct_number(target),
-        _ => None,
-    }
+    let number = context.boxed(Expr::Number(0))?;
+    Ok(Base::Element {
+        pointer,
+        number,
+        site,
+    })
 }
 
 // The struct that a type is.

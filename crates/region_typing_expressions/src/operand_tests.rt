@@ -1,12 +1,18 @@
 // Tests of what operands are.
 
-ghost use Rattle.std.specs.Prelude.{◌≡◌, ◌||◌};
+ghost use Rattle.std.specs.Prelude.{◌≡◌, ◌&&◌};
 ghost use Rattle.pointer_modes.specs.Types.{ctype as ctype_of};
-ghost use Rattle.region_typing_rules.specs.Expressions.{is_pointer_value as pointer_value_of};
+ghost use Rattle.region_typing_rules.specs.Verdicts.{Passes};
+ghost use Rattle.region_typing_rules.specs.Expressions.{is_single as single_type, is_row as row_type, is_single_value as single_value, lacks_bounds as lacking_bounds, without_ptr as without_ptr_in};
+ghost use Rattle.region_typing_scope.specs.Answering.{Answers};
 ghost use Rattle.region_typing_scope.specs.Typed.{typed};
-ghost use Rattle.region_typing_expressions.specs.Comparing.{is_number_value as number_value_of, is_comparable_value, are_comparable_values as comparable_values};
+ghost use Rattle.region_typing_expressions.specs.Comparing.{is_number_value as number_value_of, is_pointer_value as pointer_value_of, is_comparable_value, are_comparable_values as comparable_values};
 
-use pointer_modes::ctype::CType;
+use ckc_text::code::Code;
+use ckc_text::place::Span;
+use pointer_modes::ctype::{CType, Kind};
+use region_typing_flow::readings::bounds_of;
+use region_typing_scope::refusals::{CheckError, needs};
 use region_typing_scope::typed::Typed;
 use region_typing_scope::types::{are_comparable, is_number, is_pointer};
 
@@ -18,15 +24,71 @@ pub fn is_pointer_value(t: &Typed) -> bool
         Typed::Value { ctype, .. } => is_pointer(ctype),
         Typed::Local { ctype, .. } => is_pointer(ctype),
         Typed::Cell { ctype, .. } => is_pointer(ctype),
+        Typed::Array { ctype, .. } => is_pointer(ctype),
         Typed::Struct { .. } => false,
     }
 }
 
-/// Whether one of two expressions is a pointer.
-pub fn has_pointer(left: &Typed, right: &Typed) -> bool
-    ensures { result ≡ (pointer_value_of (typed left.now) || pointer_value_of (typed right.now)) }
+/// Whether a type is that of pointers without bounds of their own.
+pub fn is_single(t: &CType) -> bool
+    ensures { result ≡ single_type (ctype_of t.now) }
 {
-    is_pointer_value(left) || is_pointer_value(right)
+    match t {
+        CType::Pointer(_, kind, _) => match kind {
+            Kind::One | Kind::Nt => true,
+            Kind::Array => false,
+        },
+        CType::Int | CType::Char | CType::Struct(_) => false,
+    }
+}
+
+/// Whether a type is that of pointers that have their bounds at their nodes.
+pub fn is_row(t: &CType) -> bool
+    ensures { result ≡ row_type (ctype_of t.now) }
+{
+    match t {
+        CType::Pointer(_, kind, _) => match kind {
+            Kind::Array => true,
+            Kind::One | Kind::Nt => false,
+        },
+        CType::Int | CType::Char | CType::Struct(_) => false,
+    }
+}
+
+/// Whether an expression is a pointer without bounds of its own.
+pub fn is_single_value(t: &Typed) -> bool
+    ensures { result ≡ single_value (typed t.now) }
+{
+    match t {
+        Typed::Value { ctype, .. } => is_single(ctype),
+        Typed::Local { ctype, .. } => is_single(ctype),
+        Typed::Cell { ctype, .. } => is_single(ctype),
+        Typed::Array { ctype, .. } => is_single(ctype),
+        Typed::Struct { .. } => false,
+    }
+}
+
+/// Whether an expression is a pointer whose bounds are unknown.
+pub fn lacks_bounds(t: &Typed) -> bool
+    ensures { result ≡ lacking_bounds (typed t.now) }
+{
+    match t {
+        Typed::Value { ctype, value, .. } => is_row(ctype) && bounds_of(value).is_none(),
+        Typed::Local { ctype, bounds, .. } => is_row(ctype) && bounds.is_none(),
+        Typed::Cell { ctype, bounds, .. } => is_row(ctype) && bounds.is_none(),
+        Typed::Array { ctype, bounds, .. } => is_row(ctype) && bounds.is_none(),
+        Typed::Struct { .. } => false,
+    }
+}
+
+/// Refuses operands of a sum: pointers without bounds of their own, and those whose bounds are unknown.
+pub fn without_ptr(left: &Typed, right: &Typed, span: Span) -> Result<(), CheckError>
+    ensures { Answers (λ x. x) (without_ptr_in (typed left.now) (typed right.now) span (Passes tt)) result }
+{
+    let single = is_single_value(left) || is_single_value(right);
+    needs(!single, Code::E19, span)?;
+    let unbounded = lacks_bounds(left) || lacks_bounds(right);
+    needs(!unbounded, Code::E18, span)
 }
 
 /// Whether an expression is a number.
@@ -37,8 +99,16 @@ pub fn is_number_value(t: &Typed) -> bool
         Typed::Value { ctype, .. } => is_number(ctype),
         Typed::Local { ctype, .. } => is_number(ctype),
         Typed::Cell { ctype, .. } => is_number(ctype),
+        Typed::Array { ctype, .. } => is_number(ctype),
         Typed::Struct { .. } => false,
     }
+}
+
+/// Whether the one expression is a pointer, and the other a number.
+pub fn are_indexed(left: &Typed, right: &Typed) -> bool
+    ensures { result ≡ (pointer_value_of (typed left.now) && number_value_of (typed right.now)) }
+{
+    is_pointer_value(left) && is_number_value(right)
 }
 
 // Whether an expression is a pointer that compares with those of a type.
@@ -49,6 +119,7 @@ fn is_comparable(a: &CType, right: &Typed) -> bool
         Typed::Value { ctype, .. } => are_comparable(a, ctype),
         Typed::Local { ctype, .. } => are_comparable(a, ctype),
         Typed::Cell { ctype, .. } => are_comparable(a, ctype),
+        Typed::Array { ctype, .. } => are_comparable(a, ctype),
         Typed::Struct { .. } => false,
     }
 }
@@ -61,6 +132,7 @@ pub fn are_comparable_values(left: &Typed, right: &Typed) -> bool
         Typed::Value { ctype, .. } => is_comparable(ctype, right),
         Typed::Local { ctype, .. } => is_comparable(ctype, right),
         Typed::Cell { ctype, .. } => is_comparable(ctype, right),
+        Typed::Array { ctype, .. } => is_comparable(ctype, right),
         Typed::Struct { .. } => false,
     }
 }

@@ -1,32 +1,36 @@
 // The rules of operators.
 
+ghost use Rattle.std.specs.Prelude.{◌≡◌};
 ghost use Rattle.ckc_text.specs.Places.{place_at};
 ghost use Rattle.act_words.specs.declared.operator.Operator.TheVariants as operators;
 ghost use Rattle.ckc_core.specs.Core.{expression, Not};
 ghost use Rattle.region_typing_rules.specs.Verdicts.{passing};
-ghost use Rattle.region_typing_rules.specs.Expressions.{site_at, number as number_typed, unary_typed as unary_of, binary_typed as binary_of, two_numbers, two_scalars, summands, arithmetic as arithmetic_of, equated as equated_in, ordered as ordered_in, indexed as indexed_in};
+ghost use Rattle.region_typing_rules.specs.Expressions.{site_at, number as number_typed, unary_typed as unary_of, binary_typed as binary_of, two_numbers, two_scalars, arithmetic as arithmetic_of, operator_along as operator_in, summed as summed_in, sum_typed, equated as equated_in, ordered as ordered_in};
 ghost use Rattle.region_typing_scope.specs.Answering.{Answers};
 ghost use Rattle.region_typing_scope.specs.OnHeap.{typed};
-ghost use Rattle.region_typing_scope.specs.Operands.{and_also, or_else};
-ghost use Rattle.region_typing_scope.specs.Typed.{typed as typed_of};
+ghost use Rattle.region_typing_scope.specs.Operands.{and_also, or_else, operand as operand_view};
+ghost use Rattle.region_typing_scope.specs.Views.{scope as scope_of};
 ghost use Rattle.region_typing_expressions.specs.Comparing.{compared as comparison_of};
+ghost use Rattle.region_typing_expressions.specs.Moves.{moved as moved_by};
 
 use crate::equality::{equality_of, equated_by};
-use crate::operand_tests::{are_comparable_values, has_pointer, is_number_value, is_pointer_value};
+use crate::operand_tests::{are_comparable_values, is_pointer_value, without_ptr};
 use crate::places::{address, pointed_at};
 use act_words::operator::ArithmeticOperator::{
     Add, Divide, Multiply, Remainder, ShiftLeft, ShiftRight, Subtract,
 };
 use act_words::operator::Comparison::{Greater, GreaterEqual, Less, LessEqual};
 use act_words::operator::{ArithmeticOperator, BitwiseOperator, Comparison, Operator};
-use ckc_core::program::{Expr, Site};
+use ckc_core::program::{Direction, Expr, Site};
 use ckc_text::code::Code;
 use ckc_text::place::Span;
 use ckc_tree::expr::{BinaryOperator, UnaryOperator};
 use pointer_modes::ctype::CType;
+use region_typing_scope::bounds::sum_node;
 use region_typing_scope::context::Context;
-use region_typing_scope::operands::{number, scalar};
-use region_typing_scope::refusals::{CheckError, needs, refusal};
+use region_typing_scope::operands::{Operand, number, scalar, value_of};
+use region_typing_scope::refusals::{CheckError, refusal};
+use region_typing_scope::scope::Scope;
 use region_typing_scope::typed::{Typed, plain};
 
 // A number.
@@ -113,20 +117,77 @@ fn arithmetic(
     operated(context, Operator::Arithmetic(operator), left, right, span)
 }
 
-// A sum or a difference.
-fn sum(
+// The operator that moves so.
+fn operator_along(direction: Direction) -> Operator
+    ensures { result ≡ operator_in direction }
+{
+    match direction {
+        Direction::Forward => Operator::Arithmetic(Add),
+        Direction::Backward => Operator::Arithmetic(Subtract),
+    }
+}
+
+// A pointer that is moved by a number.
+fn moved(
     context: &Context,
-    operator: ArithmeticOperator,
+    scope: &Scope,
+    direction: Direction,
+    left: Operand,
+    right: Box<Typed>,
+    span: Span,
+) -> Result<Box<Typed>, CheckError>
+    ensures { Answers typed (moved_by (scope_of scope.now) direction (operand_view left) (typed right) (site_at (place_at context.now) span) span) result }
+{
+    let Operand {
+        ctype,
+        zero: _,
+        value: pointer,
+    } = left;
+    let number = number(context, right, span)?;
+    let site = context.site(span);
+    let bounds = sum_node(scope.locals.as_slice(), direction, &pointer, &number, site);
+    let value = Expr::Sum {
+        pointer,
+        direction,
+        number,
+        site,
+        bounds,
+    };
+    Ok(plain(context, ctype, value)?)
+}
+
+// A sum or a difference, of two numbers or of a pointer and a number.
+fn summed(
+    context: &Context,
+    scope: &Scope,
+    direction: Direction,
     left: Box<Typed>,
     right: Box<Typed>,
     span: Span,
 ) -> Result<Box<Typed>, CheckError>
-    ensures { Answers typed (summands (typed left) (typed right) span (arithmetic_of (operators.Arithmetic operator) (site_at (place_at context.now) span))) result }
+    ensures { Answers typed (summed_in (scope_of scope.now) direction (typed left) (typed right) (site_at (place_at context.now) span) span) result }
 {
-    if has_pointer(&left, &right) {
-        return Err(refusal(Code::E19, span));
+    if is_pointer_value(&left) {
+        let left = value_of(context, left, span)?;
+        moved(context, scope, direction, left, right, span)
+    } else {
+        operated(context, operator_along(direction), left, right, span)
     }
-    arithmetic(context, operator, left, right, span)
+}
+
+// A sum or a difference.
+fn sum(
+    context: &Context,
+    scope: &Scope,
+    direction: Direction,
+    left: Box<Typed>,
+    right: Box<Typed>,
+    span: Span,
+) -> Result<Box<Typed>, CheckError>
+    ensures { Answers typed (sum_typed (scope_of scope.now) direction (typed left) (typed right) (site_at (place_at context.now) span) span) result }
+{
+    without_ptr(&left, &right, span)?;
+    summed(context, scope, direction, left, right, span)
 }
 
 // The first one and the second one.
@@ -237,24 +298,16 @@ fn compared(
     )
 }
 
-/// An element of what a pointer points to.
-pub fn indexed(left: &Typed, right: &Typed, span: Span) -> Result<Box<Typed>, CheckError>
-    ensures { Answers typed (indexed_in (typed_of left.now) (typed_of right.now) span) result }
-{
-    let fits = is_pointer_value(left) && is_number_value(right);
-    needs(fits, Code::E13, span)?;
-    Err(refusal(Code::E19, span))
-}
-
 /// An operator between its operands.
 pub fn binary(
     context: &Context,
+    scope: &Scope,
     operator: BinaryOperator,
     left: Box<Typed>,
     right: Box<Typed>,
     span: Span,
 ) -> Result<Box<Typed>, CheckError>
-    ensures { Answers typed (binary_of operator (typed left) (typed right) (site_at (place_at context.now) span) span) result }
+    ensures { Answers typed (binary_of (scope_of scope.now) operator (typed left) (typed right) (site_at (place_at context.now) span) span) result }
 {
     match operator {
         BinaryOperator::Or => disjunction(context, left, right, span),
@@ -270,8 +323,8 @@ pub fn binary(
         BinaryOperator::GreaterEqual => ordered(context, GreaterEqual, left, right, span),
         BinaryOperator::ShiftLeft => arithmetic(context, ShiftLeft, left, right, span),
         BinaryOperator::ShiftRight => arithmetic(context, ShiftRight, left, right, span),
-        BinaryOperator::Add => sum(context, Add, left, right, span),
-        BinaryOperator::Subtract => sum(context, Subtract, left, right, span),
+        BinaryOperator::Add => sum(context, scope, Direction::Forward, left, right, span),
+        BinaryOperator::Subtract => sum(context, scope, Direction::Backward, left, right, span),
         BinaryOperator::Multiply => arithmetic(context, Multiply, left, right, span),
         BinaryOperator::Divide => arithmetic(context, Divide, left, right, span),
         BinaryOperator::Remainder => arithmetic(context, Remainder, left, right, span),

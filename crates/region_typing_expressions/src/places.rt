@@ -1,20 +1,25 @@
-// Members, what pointers point to, and addresses.
+// What pointers point to, elements, and addresses.
 
 ghost use Rattle.std.specs.Prelude.{◌≡◌, IfOk};
 ghost use Rattle.pointer_modes.specs.Types.{ctype as ctype_of};
-ghost use Rattle.ckc_core.specs.Core.{place as place_of};
-ghost use Rattle.region_typing_rules.specs.Expressions.{dereferenced, address as address_of, pointer_to as pointer_at, checked_at as checked_at_of};
+ghost use Rattle.ckc_core.specs.Core.{expression, place as place_of};
+ghost use Rattle.region_typing_rules.specs.Expressions.{dereferenced, element_at as element_at_in, indexed as indexed_in, address as address_of, pointer_to as pointer_at, checked_at as checked_at_of};
 ghost use Rattle.region_typing_scope.specs.Answering.{Answers};
 ghost use Rattle.region_typing_scope.specs.OnHeap.{typed};
+ghost use Rattle.region_typing_scope.specs.Typed.{base_place};
+ghost use Rattle.region_typing_expressions.specs.Moves.{base_of_kind};
 
+use crate::members::first_element;
+use crate::operand_tests::are_indexed;
 use ckc_core::program::{CellPlace, Expr, Site};
 use ckc_text::code::Code;
 use ckc_text::fault::NoMemory;
 use ckc_text::place::Span;
 use pointer_modes::ctype::{CType, Kind, Mode};
+use region_typing_flow::readings::bounds_of;
 use region_typing_scope::context::Context;
 use region_typing_scope::operands::{Operand, value_of};
-use region_typing_scope::refusals::{CheckError, refusal};
+use region_typing_scope::refusals::{CheckError, needs, refusal};
 use region_typing_scope::typed::{Base, StructPlace, Typed, at_base, first_cell, plain};
 
 /// What a pointer points to.
@@ -32,12 +37,83 @@ pub fn pointed_at(
         value: pointer,
     } = value_of(context, t, span)?;
     match ctype {
-        CType::Pointer(_, _, target) => {
-            let pointed = at_base(Box::into_inner(target), Base::Behind { pointer, site });
-            Ok(context.boxed(pointed)?)
+        CType::Pointer(_, kind, target) => {
+            let base = base_behind(context, kind, pointer, site, span)?;
+            Ok(context.boxed(at_base(Box::into_inner(target), base))?)
         }
         _ => Err(refusal(Code::E13, span)),
     }
+}
+
+// What stands where a pointer of a kind leads to.
+fn base_behind(
+    context: &Context,
+    kind: Kind,
+    pointer: Box<Expr>,
+    site: Site,
+    span: Span,
+) -> Result<Base, CheckError>
+    ensures { Answers base_place (base_of_kind kind (expression pointer.value) site span) result }
+{
+    match kind {
+        Kind::One => Ok(Base::Behind { pointer, site }),
+        Kind::Array => {
+            needs(bounds_of(&pointer).is_some(), Code::E18, span)?;
+            Ok(first_element(context, pointer, site)?)
+        }
+        Kind::Nt => Err(refusal(Code::E13, span)),
+    }
+}
+
+// The element of a number of what a pointer of a type leads to.
+fn element_at(
+    context: &Context,
+    ctype: CType,
+    pointer: Box<Expr>,
+    number: Box<Expr>,
+    site: Site,
+    span: Span,
+) -> Result<Box<Typed>, CheckError>
+    ensures { Answers typed (element_at_in (ctype_of ctype) (expression pointer.value) (expression number.value) site span) result }
+{
+    match ctype {
+        CType::Pointer(_, kind, target) => match kind {
+            Kind::Array => {
+                needs(bounds_of(&pointer).is_some(), Code::E18, span)?;
+                let base = Base::Element {
+                    pointer,
+                    number,
+                    site,
+                };
+                Ok(context.boxed(at_base(Box::into_inner(target), base))?)
+            }
+            Kind::One | Kind::Nt => Err(refusal(Code::E19, span)),
+        },
+        _ => Err(refusal(Code::E19, span)),
+    }
+}
+
+/// An element of what a pointer points to.
+pub fn indexed(
+    context: &Context,
+    left: Box<Typed>,
+    right: Box<Typed>,
+    site: Site,
+    span: Span,
+) -> Result<Box<Typed>, CheckError>
+    ensures { Answers typed (indexed_in (typed left) (typed right) site span) result }
+{
+    needs(are_indexed(&left, &right), Code::E13, span)?;
+    let pointer = value_of(context, left, span)?;
+    let number = value_of(context, right, span)?;
+    element_at(
+        context,
+        pointer.ctype,
+        pointer.value,
+        number.value,
+        site,
+        span,
+    )
 }
 
 // A pointer to a place.
@@ -89,7 +165,7 @@ pub fn address(
 {
     match Box::into_inner(t) {
         Typed::Value { .. } => Err(refusal(Code::E12, span)),
-        Typed::Local { .. } => Err(refusal(Code::E22, span)),
+        Typed::Local { .. } | Typed::Array { .. } => Err(refusal(Code::E22, span)),
         Typed::Cell { ctype, place, .. } => Ok(pointer_to(context, ctype, place, site)?),
         Typed::Struct { number, place } => match place {
             StructPlace::Local(_) => Err(refusal(Code::E22, span)),

@@ -12,11 +12,12 @@ use Rattle.bounds_exprs.specs.Terms.{is_within, term_limit, within_limit}
 use Rattle.bounds_exprs.specs.Parts.{added, subtracted, multiplied}
 use Rattle.subsumption.specs.Facts.{IsBelow}
 use Rattle.subsumption.proofs.TableConstants.{le_from}
-use Rattle.bounds_flow.specs.Conditions.{IsTermBelow}
+use Rattle.bounds_flow.specs.Conditions.{IsTermBelow, IsSmall}
 use Rattle.pointer_modes.specs.Types.{CType, Int, Char, Struct, Pointer}
 use Rattle.ckc_core.specs.declared.program.PointerBounds.{PointerBounds}
 use Rattle.ckc_core.specs.Core as core
-use Rattle.region_typing_rules.specs.Readings.{term}
+use Rattle.region_typing_rules.specs.Verdicts.{picked}
+use Rattle.region_typing_rules.specs.Readings.{term, constant}
 use Rattle.region_typing_flow.specs.Conditions.{IsLocalBelow, IsTermSmall}
 
 limit_small : (vars : ℕ) (var : Option ℕ) (z : ℤ) → IsBelow vars var → IsTermSmall vars (within_limit var z)
@@ -85,6 +86,18 @@ term_small vars types (core.Sum pointer direction number site bounds) less = tt
 term_small vars types (core.Order comparison left right site) less = tt
 term_small vars types (core.Allocate count element bounds) less = tt
 term_small vars types (core.Cast pointer bounds) less = tt
+
+-- the number of a constant expression
+pub constant_small : (types : List CType) (e : core.Expression) → IsSmall (constant types e)
+constant_small types e = by (term types e) refl (term_small (length types) types e (omega arith))
+  where
+    by : (o : Option Term) → term types e ≡ o → IsTermSmall (length types) o → IsSmall (constant types e)
+    by None is h = rw is tt
+    by (Some t) is h = rw is (whether (is_none t.var))
+      where
+        whether : (b : Bool) → IsSmall (picked b (Some t.plus) None)
+        whether true = h.plus
+        whether false = tt
 
 pub local_later : (m n : ℕ) (o : Option ℕ) → m ≤ n → IsLocalBelow m o → IsLocalBelow n o
 local_later m n None less h = tt

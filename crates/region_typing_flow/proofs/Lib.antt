@@ -1,3 +1,3 @@
-mod Below
+pub mod Below
 mod Assigned
 mod Rows

@@ -66,8 +66,8 @@ fn null_told(local: Option<u32>, truth: bool, flow: &mut Flow) -> Result<(), NoM
     }
 }
 
-// Whether an expression is the null pointer.
-fn is_null(value: &Expr) -> bool
+/// Whether an expression is the null pointer.
+pub fn is_null(value: &Expr) -> bool
     ensures { result ≡ is_null_at (expression_of value.now) }
 {
     matches!(value, Expr::Null)

@@ -1,20 +1,23 @@
-// What is read off an expression: its term, the local pointer that it is, and how many elements behind that it leads.
+// What is read off an expression: its term, its bounds, the local pointer that it is, and how many elements behind that it leads.
 
-ghost use Rattle.std.specs.Prelude.{◌≡◌, List, Option, None, length, map, neg_ℤ, ◌+ℤ◌, option_map};
-ghost use Rattle.bounds_exprs.specs.Terms.{within_limit};
+ghost use Rattle.std.specs.Prelude.{◌≡◌, List, Option, None, Some, length, map, neg_ℤ, ◌+ℤ◌, option_map};
+ghost use Rattle.bounds_exprs.specs.Terms.{term_limit, within_limit};
+ghost use Rattle.subsumption.specs.Graphs.{IsWithin};
+ghost use Rattle.bounds_flow.specs.Conditions.{IsSmall};
 ghost use Rattle.pointer_modes.specs.Types.{CType as TypeTree, ctype as ctype_of};
 ghost use Rattle.ckc_core.specs.declared.program.Direction.TheVariants.{Forward, Backward};
-ghost use Rattle.ckc_core.specs.declared.program.PointerBounds.{PointerBounds};
+ghost use Rattle.ckc_core.specs.declared.program.PointerBounds.{PointerBounds as NodeBounds};
 ghost use Rattle.ckc_core.specs.declared.program.Site.{Site};
 ghost use Rattle.ckc_core.specs.Core.{Expression, Arithmetic, Local, Sum, expression as expression_of};
-ghost use Rattle.region_typing_rules.specs.Readings.{term as term_of, constant as constant_of, pointer_local as pointer_local_of, behind_local as behind_local_of};
+ghost use Rattle.ckc_core.specs.Meaning.{bounds_of as bounds_at_node};
+ghost use Rattle.region_typing_rules.specs.Readings.{term as term_of, constant as constant_of, against as against_of, sum_bounds as sum_bounds_of, own_bounds as own_bounds_of, based_bounds as based_bounds_of, pointer_local as pointer_local_of, behind_local as behind_local_of};
 ghost use Rattle.region_typing_flow.specs.Conditions.{IsLocalBelow};
 ghost use Rattle.region_typing_flow.specs.Views.{behind, constant_behind};
 
 use act_words::operator::{ArithmeticOperator, Operator};
 use bounds_exprs::expression::{add, multiply, subtract};
-use bounds_exprs::term::{Term, limited};
-use ckc_core::program::{Direction, Expr};
+use bounds_exprs::term::{Bounds, Term, limited};
+use ckc_core::program::{Direction, Expr, PointerBounds};
 use pointer_modes::ctype::CType;
 
 /// A local pointer, and how many elements behind it.
@@ -68,13 +71,106 @@ pub fn term(locals: &[CType], value: &Expr) -> Option<Term>
     }
 }
 
-/// The number of a constant expression.
+/// The number of a constant expression, which lies within -2^40 to 2^40.
 pub fn constant(locals: &[CType], value: &Expr) -> Option<i64>
     ensures { result ≡ constant_of (map ctype_of locals.now) (expression_of value.now) }
 {
     match term(locals, value) {
         Some(Term { var: None, plus }) => Some(plus),
         _ => None,
+    }
+}
+
+/// The bounds at the node of a pointer.
+pub fn bounds_of(value: &Expr) -> Option<PointerBounds>
+    ensures { result ≡ bounds_at_node (expression_of value.now) }
+{
+    match value {
+        Expr::Local { bounds, .. }
+        | Expr::Load { bounds, .. }
+        | Expr::AddressOf { bounds, .. }
+        | Expr::Call { bounds, .. }
+        | Expr::Sum { bounds, .. }
+        | Expr::Allocate { bounds, .. }
+        | Expr::Cast { bounds, .. } => *bounds,
+        _ => None,
+    }
+}
+
+/// The bounds of a pointer, as its node has them.
+pub fn own_bounds(value: &Expr) -> Option<Bounds>
+    ensures { result ≡ own_bounds_of (expression_of value.now) }
+{
+    match bounds_of(value) {
+        None => None,
+        Some(noted) => Some(noted.bounds),
+    }
+}
+
+/// The bounds of a local pointer, which counts as their base where they have none.
+pub fn local_bounds(local: u32, noted: Option<PointerBounds>) -> Option<Bounds>
+    ensures { result ≡ based_bounds_of (Local local noted) }
+{
+    match noted {
+        None => None,
+        Some(noted) => {
+            let Bounds { base, lo, hi } = noted.bounds;
+            match base {
+                None => Some(Bounds {
+                    base: Some(local),
+                    lo,
+                    hi,
+                }),
+                Some(_) => Some(noted.bounds),
+            }
+        }
+    }
+}
+
+/// The bounds from a base that a pointer has beside those at its node: a local pointer counts as its own base, and a sum has
+/// those of its pointer.
+pub fn based_bounds(value: &Expr) -> Option<Bounds>
+    ensures { result ≡ based_bounds_of (expression_of value.now) }
+{
+    match value {
+        Expr::Local { local, bounds } => local_bounds(*local, *bounds),
+        Expr::Sum { pointer, .. } => based_bounds(pointer),
+        _ => None,
+    }
+}
+
+// By how much ends move against a pointer that is moved by a constant.
+fn against(direction: Direction, number: i64) -> i64
+    requires { IsWithin term_limit number }
+    ensures { result ≡ against_of direction number }
+{
+    match direction {
+        Direction::Forward => -number,
+        Direction::Backward => number,
+    }
+}
+
+/// The bounds of a sum, by the constant that is added and by the bounds of its pointer: these where they have a base, and else
+/// with their ends moved.
+pub fn sum_bounds(
+    direction: Direction,
+    number: Option<i64>,
+    bounds: Option<Bounds>,
+) -> Option<Bounds>
+    requires { IsSmall number }
+    ensures { result ≡ sum_bounds_of direction number bounds }
+{
+    match bounds {
+        None => None,
+        Some(ends) => {
+            if ends.base.is_some() {
+                return Some(ends);
+            }
+            match number {
+                None => None,
+                Some(number) => ends.moved(against(direction, number)),
+            }
+        }
     }
 }
 
@@ -126,7 +222,7 @@ fn behind_by(local: u32, elements: Option<Term>) -> Option<Behind>
 
 // The local pointer that a sum is, by the number that is added and by that of its pointer.
 fn further(direction: Direction, number: Option<i64>, there: Option<Behind>) -> Option<Behind>
-    ensures { (types : List TypeTree) (a b : Expression) (site : Site) (bounds : Option PointerBounds)
+    ensures { (types : List TypeTree) (a b : Expression) (site : Site) (bounds : Option NodeBounds)
         → number ≡ constant_of types b → option_map behind there ≡ behind_local_of types a
         → option_map behind result ≡ behind_local_of types (Sum a direction b site bounds) }
 {

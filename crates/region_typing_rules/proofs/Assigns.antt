@@ -18,15 +18,13 @@ use Rattle.bounds_flow_meaning.specs.Holding.{HaveTypes, Holds, numbers_in, targ
 use Rattle.bounds_flow_meaning.specs.Laws.{IsGiven, IsMoved, IsMovedBy, IsPointer, IsTermOf, with_local}
 use Rattle.bounds_flow_meaning.proofs.AllSteps.{flows_hold}
 use Rattle.bounds_flow_meaning.proofs.Numbers.{local_there, found_other, found_same, int_term, same_number, same_types, still_types, type_there}
-use Rattle.ckc_core.specs.declared.program.PointerBounds.{PointerBounds}
 use Rattle.ckc_core.specs.declared.program.Site.{Site}
 use Rattle.ckc_core.specs.Outcome.{and_then, and_then-and_then}
 use Rattle.ckc_core.specs.Core as core
 use Rattle.ckc_core.specs.States.{Value, Number, Null, At, Cell, Local, State, cell_at, same_type, has_type}
 use Rattle.ckc_core.specs.Steps.{Result, Flow, Next, Broke, Continued, Returned, given, arithmetic_of, is_char, kept_if, set_if, set_local, set_over, pointer_to, store_if, store_over, store_at, leaves_zero, load_at, printed, put, no_result, called}
 use Rattle.ckc_core.specs.Meaning.{Knot, Setting, audit, effect, place, place_from, site_of, target_of, value, values}
-use Rattle.region_typing_rules.specs.Verdicts.{picked}
-use Rattle.region_typing_rules.specs.Readings.{Behind, term, is_null, is_pointer_type, pointer_local, known_at, behind_local, is_not_null}
+use Rattle.region_typing_rules.specs.Readings.{Behind, term, is_null, pointer_local, known_at, behind_local, is_not_null}
 use Rattle.region_typing_rules.specs.Knowing.{source, moved_from, value_assigned, assigned_by}
 use Rattle.region_typing_rules.specs.KnownIsSo.{WhereGiven, IsAlike, HoldsAlike, HasLocals}
 use Rattle.region_typing_rules.proofs.Keeping.{IsAfter, after_here, value_keeps}
@@ -84,29 +82,6 @@ module _ (n x : ℕ) (old : Local) (v : Value) (t w : State) (there : slice_get 
 
 -- ---- what is known of a value
 
--- the constructors at which the walk reads where a pointer comes from
-abbrev pub IsDirect : core.Expression → Type 0
-IsDirect (core.Number number) = Unit {0}
-IsDirect core.Null = Unit {0}
-IsDirect (core.Local x bounds) = Unit {0}
-IsDirect (core.Load type place bounds) = Unit {0}
-IsDirect (core.AddressOf place bounds) = Unit {0}
-IsDirect (core.Negate operand site) = Unit {0}
-IsDirect (core.Complement operand) = Unit {0}
-IsDirect (core.Not operand) = Unit {0}
-IsDirect (core.Arithmetic operator left right site) = Unit {0}
-IsDirect (core.Compare comparison left right) = Unit {0}
-IsDirect (core.Same left right) = Unit {0}
-IsDirect (core.AndAlso left right) = Unit {0}
-IsDirect (core.OrElse left right) = Unit {0}
-IsDirect (core.LowByte operand) = Unit {0}
-IsDirect (core.Call callee arguments bounds) = Unit {0}
-IsDirect core.NextInput = Unit {0}
-IsDirect (core.Sum pointer direction number site bounds) = ⊥
-IsDirect (core.Order comparison left right site) = Unit {0}
-IsDirect (core.Allocate count element bounds) = Unit {0}
-IsDirect (core.Cast pointer bounds) = Unit {0}
-
 abbrev pub is_address : core.Expression → Bool
 is_address (core.Number number) = false
 is_address core.Null = false
@@ -129,12 +104,18 @@ is_address (core.Order comparison left right site) = false
 is_address (core.Allocate count element bounds) = false
 is_address (core.Cast pointer bounds) = false
 
+-- where an expression is a local pointer plus a constant, its value stands so many elements behind what the local holds
+abbrev pub IsBehind : List Structure → List CType → core.Expression → Value → State → Type 0
+IsBehind structs types e v t =
+    (b : Behind) → behind_local types e ≡ Some b → (l : Local) → slice_get t.locals b.local ≡ Some l → IsMoved (target_size structs l.type) b.elements l.value v
+
 -- a value, as the flow takes it where it is assigned
-pub record IsRead (types : List CType) (e : core.Expression) (v : Value) (t : State) : Type 0 where
+pub record IsRead (structs : List Structure) (types : List CType) (e : core.Expression) (v : Value) (t : State) : Type 0 where
   pub term : IsOfTerm t.locals (term types e) v
   pub local : (p : ℕ) → pointer_local types e ≡ Some p → (l : Local) → slice_get t.locals p ≡ Some l → l.value ≡ v
   pub null : is_null e ≡ true → v ≡ Null
   pub address : is_address e ≡ true → v ≢ Null
+  pub moved : IsBehind structs types e v t
 
 source_given : (structs : List Structure) (e : core.Expression) (l : Local) (s : State) → (is_null e ≡ true → l.value ≡ Null) → IsGiven structs (source e) l s
 source_given structs (core.Number number) l s null = tt
@@ -186,7 +167,7 @@ not_null_read types f (core.Allocate count element bounds) v address known h = k
 not_null_read types f (core.Cast pointer bounds) v address known h = known_value types f (core.Cast pointer bounds) (pointer_local types (core.Cast pointer bounds)) v h known
 
 -- a pointer that is assigned itself stays where it is
-stays : (size : ℕ) (v : Value) → IsMoved size (pos 0) v v
+pub stays : (size : ℕ) (v : Value) → IsMoved size (pos 0) v v
 stays size (Number number) = tt
 stays size Null = tt
 stays size (At block byte) = (byte, refl, still)
@@ -194,47 +175,15 @@ stays size (At block byte) = (byte, refl, still)
     still : pos byte ≡ pos byte +ℤ (pos 0 *ℤ pos size)
     still = omega (arith, ints)
 
-moved_by_itself : (structs : List Structure) (x y : ℕ) (c : ℤ) (test : Bool) (old : Local) (v : Value) → (y == x) ≡ test → c ≡ pos 0 → (y ≡ x → old.value ≡ v) → IsMovedBy structs (cond test (Some c) None) old v
-moved_by_itself structs x y c true old v e none same =
-    subst (λ c. IsMoved (target_size structs old.type) c old.value v) (sym none) (subst (λ v. IsMoved (target_size structs old.type) (pos 0) old.value v) (same (same_number y x e)) (stays (target_size structs old.type) old.value))
-moved_by_itself structs x y c false old v e none same = tt
+moved_from_local : (structs : List Structure) (x : ℕ) (b : Behind) (test : Bool) (old : Local) (v : Value) → (b.local == x) ≡ test → (b.local ≡ x → IsMoved (target_size structs old.type) b.elements old.value v)
+    → IsMovedBy structs (cond test (Some b.elements) None) old v
+moved_from_local structs x b true old v e moved = moved (same_number b.local x e)
+moved_from_local structs x b false old v e moved = tt
 
--- the local that an expression is, without a constant
-record IsItself (types : List CType) (e : core.Expression) (b : Behind) : Type 0 where
-  zero : b.elements ≡ pos 0
-  local : pointer_local types e ≡ Some b.local
-
-local_itself : (types : List CType) (x : ℕ) (bounds : Option PointerBounds) (b : Behind) (test : Bool) → is_pointer_type (slice_get types x) ≡ test → picked test (Some (record { local = x; elements = pos 0 })) None ≡ Some b → IsItself types (core.Local x bounds) b
-local_itself types x bounds b true e h = let same : record { local = x; elements = pos 0 } ≡ b = cc in subst (IsItself types (core.Local x bounds)) same (record { zero = refl; local = ap (λ test. picked test (Some x) None) e })
-local_itself types x bounds b false e h = absurd (cc)
-
-itself : (types : List CType) (e : core.Expression) → IsDirect e → (b : Behind) → behind_local types e ≡ Some b → IsItself types e b
-itself types (core.Number number) direct b h = absurd (cc)
-itself types core.Null direct b h = absurd (cc)
-itself types (core.Local x bounds) direct b h = local_itself types x bounds b (is_pointer_type (slice_get types x)) refl h
-itself types (core.Load type place bounds) direct b h = absurd (cc)
-itself types (core.AddressOf place bounds) direct b h = absurd (cc)
-itself types (core.Negate operand site) direct b h = absurd (cc)
-itself types (core.Complement operand) direct b h = absurd (cc)
-itself types (core.Not operand) direct b h = absurd (cc)
-itself types (core.Arithmetic operator left right site) direct b h = absurd (cc)
-itself types (core.Compare comparison left right) direct b h = absurd (cc)
-itself types (core.Same left right) direct b h = absurd (cc)
-itself types (core.AndAlso left right) direct b h = absurd (cc)
-itself types (core.OrElse left right) direct b h = absurd (cc)
-itself types (core.LowByte operand) direct b h = absurd (cc)
-itself types (core.Call callee arguments bounds) direct b h = absurd (cc)
-itself types core.NextInput direct b h = absurd (cc)
-itself types (core.Sum pointer direction number site bounds) direct b h = absurd direct
-itself types (core.Order comparison left right site) direct b h = absurd (cc)
-itself types (core.Allocate count element bounds) direct b h = absurd (cc)
-itself types (core.Cast pointer bounds) direct b h = absurd (cc)
-
-moved_read : (structs : List Structure) (types : List CType) (x : ℕ) (e : core.Expression) (o : Option Behind) (old : Local) (v : Value) → IsDirect e → behind_local types e ≡ o → (pointer_local types e ≡ Some x → old.value ≡ v) → IsMovedBy structs (moved_from x o) old v
-moved_read structs types x e None old v direct is same = tt
-moved_read structs types x e (Some b) old v direct is same =
-    let it = itself types e direct b is in
-    moved_by_itself structs x b.local b.elements (b.local == x) old v refl it.zero (λ q. same (it.local ∙ ap Some q))
+moved_read : (structs : List Structure) (types : List CType) (x : ℕ) (e : core.Expression) (o : Option Behind) (old : Local) (v : Value) (t : State) → behind_local types e ≡ o → IsBehind structs types e v t → slice_get t.locals x ≡ Some old → IsMovedBy structs (moved_from x o) old v
+moved_read structs types x e None old v t is moved there = tt
+moved_read structs types x e (Some b) old v t is moved there =
+    moved_from_local structs x b (b.local == x) old v refl (λ same. moved b is old (subst (λ y. slice_get t.locals y ≡ Some old) (sym same) there))
 
 -- ---- assignments
 
@@ -264,7 +213,7 @@ struct_value n Null h = cc
 struct_value n (At block byte) h = cc
 
 module _ (structs : List Structure) (types : List CType) (f : Knowledge) (flow : IsFlow f) (few : length types ≤ f.vars) where
-  module _ (x : ℕ) (e : core.Expression) (direct : IsDirect e) (v : Value) (t : State) (has : HasLocals types t) (h : HoldsAlike structs (length types) f t) (read : IsRead types e v t)
+  module _ (x : ℕ) (e : core.Expression) (v : Value) (t : State) (has : HasLocals types t) (h : HoldsAlike structs (length types) f t) (read : IsRead structs types e v t)
       (old : Local) (there : slice_get t.locals x ≡ Some old) (typed : has_type old.type v ≡ true) where
     -- its type among those of the state
     old_type : (c : CType) → slice_get types x ≡ Some c → old.type ≡ c
@@ -305,7 +254,7 @@ module _ (structs : List Structure) (types : List CType) (f : Knowledge) (flow :
         ((flows_hold structs f flow).assign_pointer x (source e) (moved_from x (behind_local types e)) (is_not_null types f e) b old v b_there
         (pointer_value mode kind target v (subst (λ c. has_type c v ≡ true) (old_type (Pointer mode kind target) is) typed)) typed
         (source_given structs e (record old { value = v }) b read.null)
-        (moved_read structs types x e (behind_local types e) old v direct refl (λ q. read.local x q old there))
+        (moved_read structs types x e (behind_local types e) old v t refl read.moved there)
         (not_null_read types f e v read.address (known b b_alike held))
         ((flows_hold structs f flow).forget x b held))
       where
@@ -321,20 +270,20 @@ module _ (structs : List Structure) (types : List CType) (f : Knowledge) (flow :
     type_set (Struct n) is = absurd (struct_value n v (subst (λ c. has_type c v ≡ true) (old_type (Struct n) is) typed))
     type_set (Pointer mode kind target) is = pointer_set mode kind target is
 
-  module _ (x : ℕ) (e : core.Expression) (direct : IsDirect e) (c : CType) (is : slice_get types x ≡ Some c) where
+  module _ (x : ℕ) (e : core.Expression) (c : CType) (is : slice_get types x ≡ Some c) where
     abbrev Assigned : Flow → State → Type 0
     Assigned flow u = OnNext (HoldsAlike structs (length types) (value_assigned (slice_get types x) types x e f)) flow u
 
-    set_so_if : (v : Value) (t : State) → HasLocals types t → HoldsAlike structs (length types) f t → IsRead types e v t → (old : Local) → slice_get t.locals x ≡ Some old → (test : Bool) → has_type old.type v ≡ test → WhereGiven Assigned (set_if test old x v t)
+    set_so_if : (v : Value) (t : State) → HasLocals types t → HoldsAlike structs (length types) f t → IsRead structs types e v t → (old : Local) → slice_get t.locals x ≡ Some old → (test : Bool) → has_type old.type v ≡ test → WhereGiven Assigned (set_if test old x v t)
     set_so_if v t has h read old there true typed =
-        subst (λ o. HoldsAlike structs (length types) (value_assigned o types x e f) (with_local x old v t)) (sym is) (type_set x e direct v t has h read old there typed c is)
+        subst (λ o. HoldsAlike structs (length types) (value_assigned o types x e f) (with_local x old v t)) (sym is) (type_set x e v t has h read old there typed c is)
     set_so_if v t has h read old there false typed = tt
 
-    set_so_over : (v : Value) (t : State) → HasLocals types t → HoldsAlike structs (length types) f t → IsRead types e v t → (o : Option Local) → slice_get t.locals x ≡ o → WhereGiven Assigned (set_over o x v t)
+    set_so_over : (v : Value) (t : State) → HasLocals types t → HoldsAlike structs (length types) f t → IsRead structs types e v t → (o : Option Local) → slice_get t.locals x ≡ o → WhereGiven Assigned (set_over o x v t)
     set_so_over v t has h read None there = tt
     set_so_over v t has h read (Some old) there = set_so_if v t has h read old there (has_type old.type v) refl
 
-    pub set_so : (v : Value) (t : State) → HasLocals types t → HoldsAlike structs (length types) f t → IsRead types e v t → WhereGiven Assigned (set_local x v t)
+    pub set_so : (v : Value) (t : State) → HasLocals types t → HoldsAlike structs (length types) f t → IsRead structs types e v t → WhereGiven Assigned (set_local x v t)
     set_so v t has h read = set_so_over v t has h read (slice_get t.locals x) refl
 
 -- ---- statements that go on
@@ -387,7 +336,7 @@ on_next_of P flow s e h = subst (λ flow. OnNext P flow s) (sym e) h
 -- a statement that is no block, branch or loop, and leads on
 abbrev pub IsPlain : List CType → core.Statement → Type 0
 IsPlain types core.Nothing = Unit {0}
-IsPlain types (core.SetLocal local value) = IsDirect value × ((c : CType) × (slice_get types local ≡ Some c))
+IsPlain types (core.SetLocal local value) = (c : CType) × (slice_get types local ≡ Some c)
 IsPlain types (core.Store type place value) = Unit {0}
 IsPlain types (core.UpdateLocal char local operator value site) = (c : CType) × (slice_get types local ≡ Some c) × (is_char c ≡ char)
 IsPlain types (core.Update type place operator value site) = Unit {0}
@@ -437,14 +386,19 @@ module _ (audited : Bool) (g : Setting) (k : Knot) (moves : KnotMoves audited g 
   abbrev IsLocalOf : core.Expression → Value → State → Type 0
   IsLocalOf e v t = (p : ℕ) → pointer_local types e ≡ Some p → (l : Local) → slice_get t.locals p ≡ Some l → l.value ≡ v
 
-  pub read_so : (e : core.Expression) (s : State) → HaveTypes s.locals → HasLocals types s → WhereGiven (λ v t. IsAfter s t × IsRead types e v t) (value audited g k e s)
-  read_so e s good has =
-      so_further (λ v t. IsAfter s t × (IsOfTerm s.locals (term types e) v × (IsLocalOf e v t × ((is_null e ≡ true → v ≡ Null) × (is_address e ≡ true → v ≢ Null))))) (λ v t. IsAfter s t × IsRead types e v t) (value audited g k e s)
-      (so_both (λ v t. IsAfter s t) (λ v t. IsOfTerm s.locals (term types e) v × (IsLocalOf e v t × ((is_null e ≡ true → v ≡ Null) × (is_address e ≡ true → v ≢ Null)))) (value audited g k e s) (value_here e s)
-      (so_both (λ v t. IsOfTerm s.locals (term types e) v) (λ v t. IsLocalOf e v t × ((is_null e ≡ true → v ≡ Null) × (is_address e ≡ true → v ≢ Null))) (value audited g k e s) (term_so audited g k moves.calls types s.locals good has e s refl)
-      (so_both (IsLocalOf e) (λ v t. (is_null e ≡ true → v ≡ Null) × (is_address e ≡ true → v ≢ Null)) (value audited g k e s) (pointer_so audited g k moves.calls structs types e s)
-      (so_both (λ v t. is_null e ≡ true → v ≡ Null) (λ v t. is_address e ≡ true → v ≢ Null) (value audited g k e s) (null_given audited g k moves.calls structs types e s) (address_read e s)))))
-      (λ v t x. (x.0, record { term = subst (λ ls. IsOfTerm ls (term types e) v) (sym x.0.1) x.1.0; local = x.1.1.0; null = x.1.1.1.0; address = x.1.1.1.1 }))
+  -- what is moved, where it is a local pointer plus a constant
+  abbrev pub IsMoving : core.Expression → State → Type 0
+  IsMoving e s = WhereGiven (IsBehind structs types e) (value audited g k e s)
+
+  pub read_so : (e : core.Expression) (s : State) → IsMoving e s → HaveTypes s.locals → HasLocals types s → WhereGiven (λ v t. IsAfter s t × IsRead structs types e v t) (value audited g k e s)
+  read_so e s moving good has =
+      so_further (λ v t. IsAfter s t × (IsOfTerm s.locals (term types e) v × (IsLocalOf e v t × ((is_null e ≡ true → v ≡ Null) × ((is_address e ≡ true → v ≢ Null) × IsBehind structs types e v t))))) (λ v t. IsAfter s t × IsRead structs types e v t) (value audited g k e s)
+      (so_both (λ v t. IsAfter s t) (λ v t. IsOfTerm s.locals (term types e) v × (IsLocalOf e v t × ((is_null e ≡ true → v ≡ Null) × ((is_address e ≡ true → v ≢ Null) × IsBehind structs types e v t)))) (value audited g k e s) (value_here e s)
+      (so_both (λ v t. IsOfTerm s.locals (term types e) v) (λ v t. IsLocalOf e v t × ((is_null e ≡ true → v ≡ Null) × ((is_address e ≡ true → v ≢ Null) × IsBehind structs types e v t))) (value audited g k e s) (term_so audited g k moves.calls types s.locals good has e s refl)
+      (so_both (IsLocalOf e) (λ v t. (is_null e ≡ true → v ≡ Null) × ((is_address e ≡ true → v ≢ Null) × IsBehind structs types e v t)) (value audited g k e s) (pointer_so audited g k moves.calls structs types e s)
+      (so_both (λ v t. is_null e ≡ true → v ≡ Null) (λ v t. (is_address e ≡ true → v ≢ Null) × IsBehind structs types e v t) (value audited g k e s) (null_given audited g k moves.calls structs types e s)
+      (so_both (λ v t. is_address e ≡ true → v ≢ Null) (IsBehind structs types e) (value audited g k e s) (address_read e s) moving)))))
+      (λ v t x. (x.0, record { term = subst (λ ls. IsOfTerm ls (term types e) v) (sym x.0.1) x.1.0; local = x.1.1.0; null = x.1.1.1.0; address = x.1.1.1.1.0; moved = x.1.1.1.1.1 }))
 
   -- ---- what is known behind them
 
@@ -480,11 +434,11 @@ module _ (audited : Bool) (g : Setting) (k : Knot) (moves : KnotMoves audited g 
   nothing_assigned : (x : core.Statement) → IsPlain types x → AssignsOnly (λ y. false) x → (s : State) → HoldsAlike structs (length types) f s → WhereGiven (OnNext (HoldsAlike structs (length types) f)) (effect audited g k x s)
   nothing_assigned x plain only s h = unchanged (λ y. false) x plain only s (λ y tracked. refl) h
 
-  set_local_so : (x : ℕ) (e : core.Expression) → IsDirect e → (c : CType) → slice_get types x ≡ Some c → (s : State) → HasLocals types s → HoldsAlike structs (length types) f s
+  set_local_so : (x : ℕ) (e : core.Expression) (c : CType) → slice_get types x ≡ Some c → (s : State) → IsMoving e s → HasLocals types s → HoldsAlike structs (length types) f s
       → WhereGiven (OnNext (HoldsAlike structs (length types) (value_assigned (slice_get types x) types x e f))) (effect audited g k (core.SetLocal x e) s)
-  set_local_so x e direct c is s has h =
-      so_on (λ v t. IsAfter s t × IsRead types e v t) (OnNext (HoldsAlike structs (length types) (value_assigned (slice_get types x) types x e f))) (value audited g k e s) (set_local x) (read_so e s (types_alike structs (length types) f s h) has)
-      (λ v t r. set_so structs types f flow few x e direct c is v t (has_after types s t r.0 has) (holds_after structs (length types) f s t flow r.0 h) r.1)
+  set_local_so x e c is s moving has h =
+      so_on (λ v t. IsAfter s t × IsRead structs types e v t) (OnNext (HoldsAlike structs (length types) (value_assigned (slice_get types x) types x e f))) (value audited g k e s) (set_local x) (read_so e s moving (types_alike structs (length types) f s h) has)
+      (λ v t r. set_so structs types f flow few x e c is v t (has_after types s t r.0 has) (holds_after structs (length types) f s t flow r.0 h) r.1)
 
   -- an update that keeps no byte is an assignment
   update_is : (x : ℕ) (operator : Operator) (e : core.Expression) (site : Site) (s : State) → effect audited g k (core.UpdateLocal false x operator e site) s ≡ effect audited g k (core.SetLocal x (core.Arithmetic operator (core.Local x None) e site)) s
@@ -498,7 +452,7 @@ module _ (audited : Bool) (g : Setting) (k : Knot) (moves : KnotMoves audited g 
       → WhereGiven (OnNext (HoldsAlike structs (length types) (value_assigned (slice_get types x) types x (core.Arithmetic operator (core.Local x None) e site) f))) (effect audited g k (core.UpdateLocal char x operator e site) s)
   update_so x operator e site c false is fits s has h =
       subst (λ o. WhereGiven (OnNext (HoldsAlike structs (length types) (value_assigned (slice_get types x) types x (core.Arithmetic operator (core.Local x None) e site) f))) o) (sym (update_is x operator e site s))
-      (set_local_so x (core.Arithmetic operator (core.Local x None) e site) tt c is s has h)
+      (set_local_so x (core.Arithmetic operator (core.Local x None) e site) c is s (so_always (IsBehind structs types (core.Arithmetic operator (core.Local x None) e site)) (value audited g k (core.Arithmetic operator (core.Local x None) e site) s) (λ v t b q. absurd (cc))) has h)
   update_so x operator e site Char true is fits s has h =
       subst (λ o. WhereGiven (OnNext (HoldsAlike structs (length types) (value_assigned o types x (core.Arithmetic operator (core.Local x None) e site) f))) (effect audited g k (core.UpdateLocal true x operator e site) s)) (sym is)
       (unchanged (λ y. y == x) (core.UpdateLocal true x operator e site) (Char, is, refl) (itself_equal x) s (char_untracked types x is s has) h)
@@ -506,20 +460,39 @@ module _ (audited : Bool) (g : Setting) (k : Knot) (moves : KnotMoves audited g 
   update_so x operator e site (Struct n) true is fits s has h = absurd (cc)
   update_so x operator e site (Pointer mode kind target) true is fits s has h = absurd (cc)
 
-  pub plain_so : (x : core.Statement) → IsPlain types x → (s : State) → HasLocals types s → HoldsAlike structs (length types) f s → WhereGiven (OnNext (HoldsAlike structs (length types) (assigned_by types x f))) (effect audited g k x s)
-  plain_so core.Nothing plain s has h = nothing_assigned core.Nothing plain tt s h
-  plain_so (core.SetLocal x e) plain s has h = set_local_so x e plain.0 plain.1.0 plain.1.1 s has h
-  plain_so (core.Store type p e) plain s has h = nothing_assigned (core.Store type p e) plain tt s h
-  plain_so (core.UpdateLocal char x operator e site) plain s has h = update_so x operator e site plain.0 char plain.1 plain.2 s has h
-  plain_so (core.Update type p operator e site) plain s has h = nothing_assigned (core.Update type p operator e site) plain tt s h
-  plain_so (core.Evaluate e) plain s has h = nothing_assigned (core.Evaluate e) plain tt s h
-  plain_so (core.CallAlone callee arguments) plain s has h = nothing_assigned (core.CallAlone callee arguments) plain tt s h
-  plain_so (core.Print e) plain s has h = nothing_assigned (core.Print e) plain tt s h
-  plain_so (core.PutByte e) plain s has h = nothing_assigned (core.PutByte e) plain tt s h
-  plain_so (core.Block xs) plain s has h = absurd plain
-  plain_so (core.If c x y) plain s has h = absurd plain
-  plain_so (core.Loop c x y) plain s has h = absurd plain
-  plain_so (core.Return e) plain s has h = absurd plain
-  plain_so core.ReturnNothing plain s has h = absurd plain
-  plain_so core.Break plain s has h = absurd plain
-  plain_so core.Continue plain s has h = absurd plain
+  -- of a statement, what it assigns to a pointer
+  abbrev pub AreMoving : core.Statement → State → Type 0
+  AreMoving core.Nothing s = Unit {0}
+  AreMoving (core.SetLocal local value) s = IsMoving value s
+  AreMoving (core.Store type place value) s = Unit {0}
+  AreMoving (core.UpdateLocal char local operator value site) s = Unit {0}
+  AreMoving (core.Update type place operator value site) s = Unit {0}
+  AreMoving (core.Evaluate value) s = Unit {0}
+  AreMoving (core.CallAlone callee arguments) s = Unit {0}
+  AreMoving (core.Print value) s = Unit {0}
+  AreMoving (core.PutByte value) s = Unit {0}
+  AreMoving (core.Block statements) s = Unit {0}
+  AreMoving (core.If condition consequent alternative) s = Unit {0}
+  AreMoving (core.Loop condition body step) s = Unit {0}
+  AreMoving (core.Return value) s = Unit {0}
+  AreMoving core.ReturnNothing s = Unit {0}
+  AreMoving core.Break s = Unit {0}
+  AreMoving core.Continue s = Unit {0}
+
+  pub plain_so : (x : core.Statement) → IsPlain types x → (s : State) → AreMoving x s → HasLocals types s → HoldsAlike structs (length types) f s → WhereGiven (OnNext (HoldsAlike structs (length types) (assigned_by types x f))) (effect audited g k x s)
+  plain_so core.Nothing plain s moving has h = nothing_assigned core.Nothing plain tt s h
+  plain_so (core.SetLocal x e) plain s moving has h = set_local_so x e plain.0 plain.1 s moving has h
+  plain_so (core.Store type p e) plain s moving has h = nothing_assigned (core.Store type p e) plain tt s h
+  plain_so (core.UpdateLocal char x operator e site) plain s moving has h = update_so x operator e site plain.0 char plain.1 plain.2 s has h
+  plain_so (core.Update type p operator e site) plain s moving has h = nothing_assigned (core.Update type p operator e site) plain tt s h
+  plain_so (core.Evaluate e) plain s moving has h = nothing_assigned (core.Evaluate e) plain tt s h
+  plain_so (core.CallAlone callee arguments) plain s moving has h = nothing_assigned (core.CallAlone callee arguments) plain tt s h
+  plain_so (core.Print e) plain s moving has h = nothing_assigned (core.Print e) plain tt s h
+  plain_so (core.PutByte e) plain s moving has h = nothing_assigned (core.PutByte e) plain tt s h
+  plain_so (core.Block xs) plain s moving has h = absurd plain
+  plain_so (core.If c x y) plain s moving has h = absurd plain
+  plain_so (core.Loop c x y) plain s moving has h = absurd plain
+  plain_so (core.Return e) plain s moving has h = absurd plain
+  plain_so core.ReturnNothing plain s moving has h = absurd plain
+  plain_so core.Break plain s moving has h = absurd plain
+  plain_so core.Continue plain s moving has h = absurd plain

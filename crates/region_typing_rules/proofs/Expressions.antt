@@ -1,10 +1,10 @@
 -- Expressions that break no rule have types.
-use Rattle.std.proofs.Common.{◌≡◌, ℕ, ◌+◌, ◌^◌, Bool, true, false, List, [], ◌∷◌, replicate, length, Option, Some, None, pos, refl, sym, subst, arith}
-use Rattle.std.specs.Prelude.{◌==◌, slice_get, nat_lt, not, ◌&&◌, ◌||◌}
+use Rattle.std.proofs.Common.{◌≡◌, ℕ, ◌+◌, ◌^◌, Bool, true, false, List, [], ◌∷◌, replicate, length, Option, Some, None, pos, ℤ, ◌+ℤ◌, ◌<◌, refl, sym, subst, arith, ⊎_elim}
+use Rattle.std.specs.Prelude.{◌==◌, slice_get, nat_lt, not, ◌&&◌, ◌||◌, cond, is_some}
 use Rattle.std.specs.List.{AllByRecursion}
-use Rattle.std.proofs.lemmas.Bool.{and_parts, eqb-true}
+use Rattle.std.proofs.lemmas.Bool.{and_parts, or_cases, eqb-true}
 use Rattle.ckc_text.specs.declared.place.Span.{Span}
-use Rattle.ckc_text.specs.declared.code.Code.TheVariants.{E04, E13, E14, E19}
+use Rattle.ckc_text.specs.declared.code.Code.TheVariants.{E04, E13, E14, E17, E18, E19}
 use Rattle.ckc_tree.specs.declared.expr.UnaryOperator.{UnaryOperator}
 use Rattle.ckc_tree.specs.declared.expr.UnaryOperator.TheVariants as unary
 use Rattle.ckc_tree.specs.declared.expr.BinaryOperator.{BinaryOperator}
@@ -12,7 +12,9 @@ use Rattle.ckc_tree.specs.declared.expr.BinaryOperator.TheVariants as binary
 use Rattle.ckc_tree.specs.Expressions as e
 use Rattle.ckc_tree.specs.Expressions.{Expression, Expressions}
 use Rattle.pointer_modes.specs.declared.ctype.Mode.{Mode}
+use Rattle.pointer_modes.specs.declared.ctype.Mode.TheVariants as modes
 use Rattle.pointer_modes.specs.declared.ctype.Kind.{Kind}
+use Rattle.pointer_modes.specs.declared.ctype.Kind.TheVariants as kinds
 use Rattle.pointer_modes.specs.Types.{CType, Int, Char, Struct, Pointer, Structure, members_of}
 use Rattle.pointer_modes.specs.Layout.{cells_of, size_of}
 use Rattle.ckc_core.specs.declared.program.Site.{Site}
@@ -24,23 +26,44 @@ use Rattle.act_words.specs.declared.operator.Comparison.{Comparison}
 use Rattle.act_words.specs.declared.operator.Comparison.TheVariants as comparisons
 use Rattle.ckc_core.specs.declared.program.Callee.{Callee}
 use Rattle.ckc_core.specs.declared.program.Callee.TheVariants as callees
+use Rattle.ckc_core.specs.declared.program.Direction.{Direction}
+use Rattle.ckc_core.specs.declared.program.Direction.TheVariants as directions
+use Rattle.ckc_core.specs.declared.program.PointerBounds.{PointerBounds}
 use Rattle.ckc_core.specs.Core as core
-use Rattle.ckc_core.specs.States.{shape, object_block, same_type}
+use Rattle.ckc_core.specs.Meaning.{bounds_of}
+use Rattle.ckc_core.specs.States.{shape, object_block, same_mode, same_type}
 use Rattle.ckc_core.proofs.Elements.{of_element}
 use Rattle.ckc_names_rules.specs.declared.given.Given.{Given}
-use Rattle.region_typing_rules.specs.Verdicts.{Verdict, Passes, Stops, passing, breaks}
-use Rattle.region_typing_rules.specs.Scopes.{Scope, Signature, Named, Local, Object, Nothing, named, function_named, members_named}
-use Rattle.region_typing_rules.specs.Types.{type_named, is_number, is_pointer, are_comparable, converts}
-use Rattle.region_typing_rules.specs.Expressions.{Places, Lvalue, OfLocal, OfCell, Typed, Value, AStruct, Called, Gives, GivesNothing, site_at, noted, with_bounds, bounded, number, at_place, local_typed, name_typed, member_place, member_from, offset_among, member_at, dotted, pointed_by, arrowed, pointed_at, dereferenced, pointer_to, address, number_of, scalar_of, unary_typed, is_pointer_value, two_numbers, two_scalars, summands, as_pointer, equated_values, equated, ordered_values, ordered, arithmetic, binary_typed, indexed, in_type, converted, arguments_as, is_import, side_number, callee_of, call_of, first_of, writes, predefined_call, called, with_result, constant, typed, all_typed, call_typed}
+use Rattle.bounds_exprs.specs.declared.term.Bounds.{Bounds}
+use Rattle.bounds_exprs.specs.declared.term.Term.{Term}
+use Rattle.bounds_exprs.specs.Terms.{is_within, term_limit, within_limit}
+use Rattle.bounds_exprs.specs.Changes.{between, moved_by}
+use Rattle.subsumption.specs.Facts.{IsBelow}
+use Rattle.subsumption.specs.ClosedTables.{ClosedTable}
+use Rattle.bounds_flow.specs.Conditions.{AreEndsBelow, AreBoundsBelow, IsTermBelow}
+use Rattle.bounds_flow.specs.Settling.{Finding, Meets, WasLost, Falls, ends_find, bounds_find}
+use Rattle.bounds_flow_meaning.specs.Rows.{slots}
+use Rattle.bounds_flow_meaning.proofs.AllSteps.{flows_hold}
+use Rattle.region_typing_rules.specs.Verdicts.{Verdict, Passes, Stops, passing}
+use Rattle.region_typing_rules.specs.Scopes.{Scope, Signature, Named, Local, Object, Array, Nothing, named, function_named, members_named}
+use Rattle.region_typing_rules.specs.Types.{type_named, is_number, is_pointer, are_comparable, kind_converts, pointer_converts, converts}
+use Rattle.region_typing_rules.specs.Readings.{constant, against, sum_bounds, own_bounds, based_bounds, is_null}
+use Rattle.region_typing_rules.specs.Expressions.{Places, OfLocal, OfCell, Standing, ForNothing, ForArray, For, Typed, Value, AStruct, Called, Gives, GivesNothing, site_at, bounds_by, bounds_at, noted_if, with_bounds, one_element, sum_node, bounded, number, at_place, local_typed, name_typed, member_place, member_from, offset_among, member_at, dotted, with_elements, first_element, pointed_by, arrowed, pointed_at, dereferenced, checked_at, pointer_to, address, number_of, scalar_of, unary_typed, is_single_value, lacks_bounds, without_ptr, two_numbers, two_scalars, operator_along, summed, sum_typed, as_pointer, equated_values, equated, ordered_values, ordered, arithmetic, binary_typed, element_at, indexed, is_met, in_type, asked_as, asked_of, meets, bounds_met, converted, arguments_as, arguments_met, is_import, side_number, callee_of, call_of, first_of, writes, predefined_call, called, with_result, constant_typed, typed, all_typed, call_typed}
 use Rattle.region_typing_rules.specs.Typed as rules
-use Rattle.region_typing_rules.specs.Typed.{Frame, slots, IsCallee, HasType, HaveTypes, HasPlace, IsStatement, IsScalar, IsScalarResult, IsNumberResult}
+use Rattle.region_typing_rules.specs.Typed.{Frame, IsCallee, HasBounds, AreSumBounds, HasElements, LeadsToOne, HasType, HaveTypes, HasPlace, IsSimple, IsScalar, IsScalarResult, IsNumberResult}
 use Rattle.region_typing_rules.proofs.Values.{member_row}
 use Rattle.region_typing_rules.proofs.Verdicts.{Promises, passing_promises, needs_promises, anything_promised, Extends}
-use Rattle.region_typing_rules.proofs.Known.{IsKnownResult, bounds_kept}
+use Rattle.region_typing_rules.proofs.Known.{IsKnownResult, size_kept, bounds_kept}
 use Rattle.region_typing_rules.proofs.KnownTypes.{IsKnownTyped, typed_known}
 use Rattle.region_typing_rules.proofs.Signatures.{named_has}
-use Rattle.region_typing_rules.proofs.Knowledge.{IsNumberType, IsTrusted, IsTainted, Knows, same_equal, StandsFor, name_stands, crossing_promises, HasMember, IfMember, member_there, member_slot}
+use Rattle.region_typing_rules.proofs.Knowledge.{IsNumberType, IsTrusted, IsTainted, Knows, array_sized, mode_equal, same_equal, StandsFor, name_stands, crossing_promises, HasMember, IfMember, member_there, member_slot}
 use Rattle.region_typing_rules.proofs.Sizes.{size_fits}
+use Rattle.region_typing_rules.proofs.Alike.{alike_here}
+use Rattle.region_typing_rules.proofs.Told.{null_is}
+
+first_not : (a b : Bool) → not (a || b) ≡ true → a ≡ false
+first_not true b h = absurd (cc)
+first_not false b h = refl
 
 pub number_scalar : (t : CType) → is_number t ≡ true → IsScalar t
 number_scalar Int h = refl
@@ -48,24 +71,152 @@ number_scalar Char h = refl
 number_scalar (Struct n) h = absurd (cc)
 number_scalar (Pointer m k t) h = absurd (cc)
 
-module _ (g : Frame) (types : List CType) where
-  -- what a value stands for
-  abbrev pub FitsPlace : CType → Option Lvalue → Type 0
-  FitsPlace type None = Unit {0}
-  FitsPlace type (Some (OfLocal k)) = slice_get types k ≡ Some type
-  FitsPlace type (Some (OfCell p)) = HasPlace g types p type
+-- ---- bounds at nodes
 
-  pub record FitsValue (type : CType) (zero : Bool) (value : core.Expression) (place : Option Lvalue) : Type 0 where
-    pub has_type : HasType g types value type
+-- bounds at a node count elements of the type, which have bytes, and their ends speak of variables below this number
+pub record CountElements (structs : List Structure) (vars : ℕ) (t : CType) (p : PointerBounds) : Type 0 where
+  pub size : p.size ≡ size_of structs t
+  pub some : 0 < size_of structs t
+  pub below : AreEndsBelow vars p.bounds
+
+-- the bounds do, where there are any
+abbrev pub AreCounted : List Structure → ℕ → CType → Option PointerBounds → Type 0
+AreCounted structs vars t None = Unit {0}
+AreCounted structs vars t (Some p) = CountElements structs vars t p
+
+-- a pointer with bounds has such ones at its node, and none from a base beside them
+pub record IsRow (structs : List Structure) (vars : ℕ) (t : CType) (value : core.Expression) : Type 0 where
+  pub own : AreCounted structs vars t (bounds_of value)
+  pub based : based_bounds value ≡ None
+
+-- no bounds are known of a pointer
+pub record IsBare (value : core.Expression) : Type 0 where
+  pub own : bounds_of value ≡ None
+  pub based : based_bounds value ≡ None
+
+-- what is at the node of a value of a type
+abbrev pub HasNode : List Structure → ℕ → CType → core.Expression → Type 0
+HasNode structs vars Int value = Unit {0}
+HasNode structs vars Char value = Unit {0}
+HasNode structs vars (Struct number) value = Unit {0}
+HasNode structs vars (Pointer m kinds.One t) value = HasBounds structs (Pointer m kinds.One t) (bounds_of value)
+HasNode structs vars (Pointer m kinds.Array t) value = IsRow structs vars t value
+HasNode structs vars (Pointer m kinds.Nt t) value = IsBare value
+
+no_row : (m : Mode) (p : PointerBounds) → bounds_by m kinds.Array p ≡ None
+no_row modes.Checked p = refl
+no_row modes.Tainted p = refl
+no_row modes.Raw p = refl
+
+no_ended : (m : Mode) (p : PointerBounds) → bounds_by m kinds.Nt p ≡ None
+no_ended modes.Checked p = refl
+no_ended modes.Tainted p = refl
+no_ended modes.Raw p = refl
+
+-- the bounds that its type gives an expression
+node_with : (structs : List Structure) (vars : ℕ) (t : CType) (site : Site) (of : Option PointerBounds → core.Expression) → ((o : Option PointerBounds) → bounds_of (of o) ≡ o) → based_bounds (of None) ≡ None → HasNode structs vars t (of (bounds_at structs t site))
+node_with structs vars Int site of is none = tt
+node_with structs vars Char site of is none = tt
+node_with structs vars (Struct number) site of is none = tt
+node_with structs vars (Pointer m kinds.One t) site of is none = (site, is (bounds_at structs (Pointer m kinds.One t) site))
+node_with structs vars (Pointer m kinds.Array t) site of is none =
+    subst (λ o. IsRow structs vars t (of o)) (sym (no_row m _)) (record { own = subst (AreCounted structs vars t) (sym (is None)) tt; based = none })
+node_with structs vars (Pointer m kinds.Nt t) site of is none = subst (λ o. IsBare (of o)) (sym (no_ended m _)) (record { own = is None; based = none })
+
+load_noted : (t : CType) (p : core.Place) (o : Option PointerBounds) → bounds_of (noted_if o (core.Load t p None)) ≡ o
+load_noted t p None = refl
+load_noted t p (Some b) = refl
+
+local_noted : (k : ℕ) (o : Option PointerBounds) → bounds_of (noted_if o (core.Local k None)) ≡ o
+local_noted k None = refl
+local_noted k (Some b) = refl
+
+-- ---- bounds of sums
+
+within_below : (vars : ℕ) (var : Option ℕ) (z : ℤ) → IsBelow vars var → IsTermBelow vars (within_limit var z)
+within_below vars var z low = by (is_within term_limit z)
+  where
+    by : (test : Bool) → IsTermBelow vars (cond test (Some (record { var = var; plus = z })) None)
+    by true = low
+    by false = tt
+
+between_below : (vars : ℕ) (base : Option ℕ) (lo hi : Option Term) → IsTermBelow vars lo → IsTermBelow vars hi → AreBoundsBelow vars (between base lo hi)
+between_below vars base None hi low high = tt
+between_below vars base (Some lo) None low high = tt
+between_below vars base (Some lo) (Some hi) low high = record { lo = low; hi = high }
+
+moved_below : (vars : ℕ) (c : ℤ) (b : Bounds) → AreEndsBelow vars b → AreBoundsBelow vars (moved_by c b)
+moved_below vars c b below =
+    let lo = b.lo.plus +ℤ c in
+    let hi = b.hi.plus +ℤ c in
+    between_below vars b.base (within_limit b.lo.var lo) (within_limit b.hi.var hi) (within_below vars b.lo.var lo below.lo) (within_below vars b.hi.var hi below.hi)
+
+sum_counted : (structs : List Structure) (vars : ℕ) (t : CType) (types : List CType) (row : CType) (e : core.Expression) (direction : Direction) (i : core.Expression) (p : PointerBounds) {b : Option PointerBounds} → CountElements structs vars t p → AreSumBounds types row e direction i p b → AreCounted structs vars t b
+sum_counted structs vars t types row e direction i p h rules.unknown = tt
+sum_counted structs vars t types row e direction i p h (rules.based base) = record { size = h.size; some = h.some; below = h.below }
+sum_counted structs vars t types row e direction i p h (rules.own local typed none) = record { size = h.size; some = h.some; below = record { lo = h.below.lo; hi = h.below.hi } }
+sum_counted structs vars t types row e direction i p h (rules.moved {c = c} none is moved) =
+    record { size = h.size; some = h.some; below = subst (AreBoundsBelow vars) moved (moved_below vars (against direction c) p.bounds h.below) }
+
+-- the bounds of a sum whose pointer has none from a base beside its own
+sum_bounded : (types : List CType) (row : CType) (e : core.Expression) (direction : Direction) (i : core.Expression) (p : PointerBounds) (site : Site) → bounds_of e ≡ Some p → based_bounds e ≡ None → AreSumBounds types row e direction i p (sum_node types direction e i site)
+sum_bounded types row e direction i p site own based = by p.bounds.base (constant types i) refl refl
+  where
+    Bounded : Type 0
+    Bounded = AreSumBounds types row e direction i p (sum_node types direction e i site)
+
+    by : (base : Option ℕ) (c : Option ℤ) → p.bounds.base ≡ base → constant types i ≡ c → Bounded
+    by (Some base) c from is =
+        let ends : sum_bounds direction (constant types i) (Some p.bounds) ≡ Some p.bounds = rw from refl in
+        rw (own, based, ends) (rules.based {site = site} from)
+    by None None none is = rw (own, based, none, is) rules.unknown
+    by None (Some c) none is = moved_to (moved_by (against direction c) p.bounds) refl
+      where
+        moved_to : (o : Option Bounds) → moved_by (against direction c) p.bounds ≡ o → Bounded
+        moved_to None moved = rw (own, based, is, moved, none) rules.unknown
+        moved_to (Some q) moved =
+            let ends : sum_bounds direction (constant types i) (Some p.bounds) ≡ Some q = rw (is, moved, none) refl in
+            rw (own, based, ends) (rules.moved {site = site} none is moved)
+
+-- ---- findings
+
+met_is : (x : Finding) → is_met x ≡ true → x ≡ Meets
+met_is Meets h = refl
+met_is WasLost h = absurd (cc)
+met_is (Falls asked) h = absurd (cc)
+
+-- what bounds without a base meet
+pub record MeetsEnds (facts : ClosedTable) (asked b : Bounds) : Type 0 where
+  pub base : b.base ≡ None
+  pub ends : ends_find facts asked b ≡ Meets
+
+one_met : (facts : ClosedTable) (b : Bounds) → is_met (bounds_find facts one_element (Some b)) ≡ true → MeetsEnds facts one_element b
+one_met facts b h = by b.base refl
+  where
+    by : (base : Option ℕ) → b.base ≡ base → MeetsEnds facts one_element b
+    by None e = record { base = e; ends = met_is (ends_find facts one_element b) (let found = rw e at h in found) }
+    by (Some k) e = let none = rw e at h in absurd (cc)
+
+module _ (g : Frame) (types : List CType) (s : Scope) where
+  -- what a value stands for
+  abbrev pub FitsPlace : CType → Standing → Type 0
+  FitsPlace type ForNothing = Unit {0}
+  FitsPlace type ForArray = Unit {0}
+  FitsPlace type (For (OfLocal k)) = slice_get types k ≡ Some type
+  FitsPlace type (For (OfCell p)) = HasPlace g types s p type
+
+  pub record FitsValue (type : CType) (zero : Bool) (value : core.Expression) (place : Standing) : Type 0 where
+    pub has_type : HasType g types s value type
     pub is_number : zero ≡ true → IsNumberType type
     pub stands : FitsPlace type place
     pub scalar : IsScalar type
+    pub node : HasNode g.structs s.flow.vars type value
 
   -- what an expression is has a type
   abbrev pub Fits : Typed → Type 0
   Fits (Value type zero value place) = FitsValue type zero value place
   Fits (AStruct number (OfLocal k)) = ⊥
-  Fits (AStruct number (OfCell p)) = HasPlace g types p (Struct number)
+  Fits (AStruct number (OfCell p)) = HasPlace g types s p (Struct number)
 
   -- what it is fits with bounds at its node, wherever it begins
   abbrev pub FitsNoted : Typed → Type 0
@@ -73,17 +224,17 @@ module _ (g : Frame) (types : List CType) where
 
   -- and so has what a call is
   abbrev pub FitsCall : Called → Type 0
-  FitsCall (Gives type value) = HasType g types value type × IsScalar type
-  FitsCall (GivesNothing call) = (result : Option CType) (loop : Bool) → IsStatement g types result loop call
+  FitsCall (Gives type value) = HasType g types s value type × (IsScalar type × HasNode g.structs s.flow.vars type value)
+  FitsCall (GivesNothing call) = IsSimple g types s call
 
-  pub plain_fits : (type : CType) (value : core.Expression) → IsScalar type → HasType g types value type → Fits (Value type false value None)
-  plain_fits type value scalar h = record { has_type = h; is_number = λ x. absurd (cc); stands = tt; scalar = scalar }
+  plain_fits : (type : CType) (value : core.Expression) → IsScalar type → HasType g types s value type → HasNode g.structs s.flow.vars type value → Fits (Value type false value ForNothing)
+  plain_fits type value scalar h node = record { has_type = h; is_number = λ x. absurd (cc); stands = tt; scalar = scalar; node = node }
 
-  number_fits : (value : core.Expression) → HasType g types value Int → Fits (Value Int false value None)
-  number_fits value h = plain_fits Int value refl h
+  number_fits : (value : core.Expression) → HasType g types s value Int → Fits (Value Int false value ForNothing)
+  number_fits value h = plain_fits Int value refl h tt
 
   -- each char is an int
-  pub as_int : (t : CType) (value : core.Expression) → IsNumberType t → HasType g types value t → HasType g types value Int
+  pub as_int : (t : CType) (value : core.Expression) → IsNumberType t → HasType g types s value t → HasType g types s value Int
   as_int Int value n h = h
   as_int Char value n h = rules.widened h
   as_int (Struct number) value n h = absurd (cc)
@@ -91,62 +242,116 @@ module _ (g : Frame) (types : List CType) where
 
   -- ---- places
 
-  at_place_fits : (t : CType) (p : core.Place) → HasPlace g types p t → FitsNoted (at_place t p)
-  at_place_fits Int p h site = record { has_type = rules.load refl h (site, refl); is_number = λ x. absurd (cc); stands = h; scalar = refl }
-  at_place_fits Char p h site = record { has_type = rules.load refl h (site, refl); is_number = λ x. absurd (cc); stands = h; scalar = refl }
+  -- with the bounds that its type gives it
+  loaded : (t : CType) (p : core.Place) (site : Site) → IsScalar t → HasPlace g types s p t → HasType g types s (noted_if (bounds_at g.structs t site) (core.Load t p None)) t
+  loaded t p site scalar h = by (bounds_at g.structs t site) refl
+    where
+      by : (o : Option PointerBounds) → bounds_at g.structs t site ≡ o → HasType g types s (noted_if o (core.Load t p None)) t
+      by None e = rules.load scalar h (site, sym e)
+      by (Some b) e = rules.load scalar h (site, sym e)
+
+  load_fits : (t : CType) (p : core.Place) (site : Site) → IsScalar t → HasPlace g types s p t → FitsValue t false (noted_if (bounds_at g.structs t site) (core.Load t p None)) (For (OfCell p))
+  load_fits t p site scalar h =
+      record { has_type = loaded t p site scalar h; is_number = λ x. absurd (cc); stands = h; scalar = scalar; node = node_with g.structs s.flow.vars t site (λ o. noted_if o (core.Load t p None)) (load_noted t p) refl }
+
+  at_place_fits : (t : CType) (p : core.Place) → HasPlace g types s p t → FitsNoted (at_place t p)
+  at_place_fits Int p h site = load_fits Int p site refl h
+  at_place_fits Char p h site = load_fits Char p site refl h
   at_place_fits (Struct number) p h site = h
-  at_place_fits (Pointer m k t) p h site = record { has_type = rules.load refl h (site, refl); is_number = λ x. absurd (cc); stands = h; scalar = refl }
+  at_place_fits (Pointer m k t) p h site = load_fits (Pointer m k t) p site refl h
+
+  held : (t : CType) (k : ℕ) (site : Site) → slice_get types k ≡ Some t → HasType g types s (noted_if (bounds_at g.structs t site) (core.Local k None)) t
+  held t k site h = by (bounds_at g.structs t site) refl
+    where
+      by : (o : Option PointerBounds) → bounds_at g.structs t site ≡ o → HasType g types s (noted_if o (core.Local k None)) t
+      by None e = rules.local h (site, sym e)
+      by (Some b) e = rules.local h (site, sym e)
+
+  held_fits : (t : CType) (k : ℕ) (site : Site) → IsScalar t → slice_get types k ≡ Some t → FitsValue t false (noted_if (bounds_at g.structs t site) (core.Local k None)) (For (OfLocal k))
+  held_fits t k site scalar h =
+      record { has_type = held t k site h; is_number = λ x. absurd (cc); stands = h; scalar = scalar; node = node_with g.structs s.flow.vars t site (λ o. noted_if o (core.Local k None)) (local_noted k) refl }
 
   local_fits : (k : ℕ) (t : CType) → IsScalar t → slice_get types k ≡ Some t → FitsNoted (local_typed k t)
-  local_fits k Int scalar h site = record { has_type = rules.local h (site, refl); is_number = λ x. absurd (cc); stands = h; scalar = refl }
-  local_fits k Char scalar h site = record { has_type = rules.local h (site, refl); is_number = λ x. absurd (cc); stands = h; scalar = refl }
+  local_fits k Int scalar h site = held_fits Int k site refl h
+  local_fits k Char scalar h site = held_fits Char k site refl h
   local_fits k (Struct number) scalar h site = absurd (cc)
-  local_fits k (Pointer m d t) scalar h site = record { has_type = rules.local h (site, refl); is_number = λ x. absurd (cc); stands = h; scalar = refl }
+  local_fits k (Pointer m d t) scalar h site = held_fits (Pointer m d t) k site refl h
 
-  name_fits : AllByRecursion IsScalar types → (n : Named) → StandsFor g types n → FitsNoted (name_typed n)
-  name_fits all (Local k t) h = local_fits k t (of_element IsScalar types k t all h) h
-  name_fits all (Object k t) h = at_place_fits t (core.Direct k 0) (rules.direct h.found h.row)
-  name_fits all Nothing h = λ site. record { has_type = rules.word refl; is_number = λ x. refl; stands = tt; scalar = refl }
+  name_fits : Extends s.structs g.structs → AllByRecursion IsScalar types → (at : Site) (n : Named) → StandsFor g s.structs types n → FitsNoted (name_typed s.structs n at)
+  name_fits ext all at (Local k t) h = local_fits k t (of_element IsScalar types k t all h) h
+  name_fits ext all at (Object k t) h = at_place_fits t (core.Direct k 0) (rules.direct h.found h.row)
+  name_fits ext all at (Array k t n) h = λ site.
+      let size : size_of s.structs t ≡ size_of g.structs t = size_kept s.structs g.structs t ext h.1 in
+      record {
+        has_type = rules.array h.0.found h.0.some h.0.few h.0.rows refl size;
+        is_number = λ x. absurd (cc);
+        stands = tt;
+        scalar = refl;
+        node = record { own = record { size = size; some = array_sized g t n k h.0; below = record { lo = tt; hi = tt } }; based = refl };
+      }
+  name_fits ext all at Nothing h = λ site. record { has_type = rules.word refl; is_number = λ x. refl; stands = tt; scalar = refl; node = tt }
 
-  member_of : {p : core.Place} {n : ℕ} → HasPlace g types p (Struct n) → (k offset : ℕ) (t : CType) (site : Site) → slice_get (slots g.structs (Struct n)) k ≡ Some (record { type = t; offset = offset }) → IsScalar t → HasPlace g types (member_place p offset site) t
+  member_of : {p : core.Place} {n : ℕ} → HasPlace g types s p (Struct n) → (k offset : ℕ) (t : CType) (site : Site) → slice_get (slots g.structs (Struct n)) k ≡ Some (record { type = t; offset = offset }) → IsScalar t → HasPlace g types s (member_place p offset site) t
   member_of {n = n} (rules.direct {offset = first} {cells = is} found row) k offset t site slot scalar =
       rules.direct found (member_row g.structs (shape (object_block is)) n first k offset t scalar row slot)
   member_of (rules.pointed {e = e} h) k offset t site slot scalar =
       let place : offset ≡ 0 + offset = omega arith in
-      let here : HasPlace g types (core.Through e core.First offset site) t = rules.member k h slot scalar in
-      subst (λ o. HasPlace g types (core.Through e core.First o site) t) place here
+      let here : HasPlace g types s (core.Through e core.First offset site) t = rules.member k h slot scalar in
+      subst (λ o. HasPlace g types s (core.Through e core.First o site) t) place here
   member_of (rules.member i h found scalar') k offset t site slot scalar = absurd (cc)
+  member_of (rules.element {e = e} {i = i} h elements index) k offset t site slot scalar =
+      let place : offset ≡ 0 + offset = omega arith in
+      let here : HasPlace g types s (core.Through e (core.Element i) offset site) t = rules.element_member k h elements index slot scalar in
+      subst (λ o. HasPlace g types s (core.Through e (core.Element i) o site) t) place here
+  member_of (rules.element_member j h elements index found scalar') k offset t site slot scalar = absurd (cc)
+
+  checked_fits : {p : core.Place} {t : CType} → HasPlace g types s p t → (site : Site) → HasPlace g types s (checked_at p site) t
+  checked_fits (rules.direct found row) site = rules.direct found row
+  checked_fits (rules.pointed h) site = rules.pointed h
+  checked_fits (rules.member k h found scalar) site = rules.member k h found scalar
+  checked_fits (rules.element h elements index) site = rules.element h elements index
+  checked_fits (rules.element_member k h elements index found scalar) site = rules.element_member k h elements index found scalar
 
   -- a pointer to a place
-  pointer_fits : {p : core.Place} {t : CType} → HasPlace g types p t → (site : Site) → FitsNoted (pointer_to t p site)
-  pointer_fits (rules.direct found row) site = λ node. plain_fits _ _ refl (rules.address_of (rules.direct found row) (node, refl))
-  pointer_fits (rules.pointed h) site = λ node. plain_fits _ _ refl (rules.address_of (rules.pointed h) (node, refl))
-  pointer_fits (rules.member k h found scalar) site = λ node. plain_fits _ _ refl (rules.address_of (rules.member k h found scalar) (node, refl))
+  pointer_fits : {p : core.Place} {t : CType} → HasPlace g types s p t → (site : Site) → FitsNoted (pointer_to t p site)
+  pointer_fits h site = λ node. plain_fits _ _ refl (rules.address_of (checked_fits h site) (node, refl)) (node, refl)
 
   address_promises : (a : Typed) (site : Site) (span : Span) → Fits a → Promises FitsNoted (address a site span)
-  address_promises (Value type zero value None) site span h = tt
-  address_promises (Value type zero value (Some (OfLocal k))) site span h = tt
-  address_promises (Value type zero value (Some (OfCell p))) site span h = pointer_fits h.stands site
+  address_promises (Value type zero value ForNothing) site span h = tt
+  address_promises (Value type zero value ForArray) site span h = tt
+  address_promises (Value type zero value (For (OfLocal k))) site span h = tt
+  address_promises (Value type zero value (For (OfCell p))) site span h = pointer_fits h.stands site
   address_promises (AStruct number (OfLocal k)) site span h = tt
   address_promises (AStruct number (OfCell p)) site span h = pointer_fits h site
 
-  pointed_promises : (type : CType) (value : core.Expression) (site : Site) (span : Span) → HasType g types value type → Promises FitsNoted (pointed_at type value site span)
-  pointed_promises Int value site span h = tt
-  pointed_promises Char value site span h = tt
-  pointed_promises (Struct number) value site span h = tt
-  pointed_promises (Pointer m k t) value site span h = at_place_fits t (core.Through value core.First 0 site) (rules.pointed h)
+  -- where a pointer has bounds
+  elements_promise : {A : Type 0} (Q : A → Type 0) (t : CType) (value : core.Expression) (span : Span) (next : Verdict A) → IsRow g.structs s.flow.vars t value → ((p : PointerBounds) → HasElements g.structs value t p → Promises Q next) → Promises Q (with_elements value span next)
+  elements_promise Q t value span next h more = by (bounds_of value) refl h.own
+    where
+      by : (o : Option PointerBounds) → bounds_of value ≡ o → AreCounted g.structs s.flow.vars t o → Promises Q (with_elements value span next)
+      by None e counted = rw e tt
+      by (Some p) e counted = rw e (more p (record { bounds = e; size = counted.size; some = counted.some }))
+
+  pointed_promises : (type : CType) (value : core.Expression) (site : Site) (span : Span) → HasType g types s value type → HasNode g.structs s.flow.vars type value → Promises FitsNoted (pointed_at type value site span)
+  pointed_promises Int value site span h node = tt
+  pointed_promises Char value site span h node = tt
+  pointed_promises (Struct number) value site span h node = tt
+  pointed_promises (Pointer m kinds.One t) value site span h node = at_place_fits t (core.Through value core.First 0 site) (rules.pointed h)
+  pointed_promises (Pointer m kinds.Array t) value site span h node =
+      elements_promise FitsNoted t value span (Passes (at_place t (first_element value site))) node (λ p elements. at_place_fits t (first_element value site) (rules.element h elements (rules.word refl)))
+  pointed_promises (Pointer m kinds.Nt t) value site span h node = tt
 
   dereferenced_promises : (a : Typed) (site : Site) (span : Span) → Fits a → Promises FitsNoted (dereferenced a site span)
-  dereferenced_promises (Value type zero value place) site span h = pointed_promises type value site span h.has_type
+  dereferenced_promises (Value type zero value place) site span h = pointed_promises type value site span h.has_type h.node
   dereferenced_promises (AStruct number place) site span h = tt
 
   -- ---- operators
 
-  pub number_of_promises : {A : Type 0} (Q : A → Type 0) (a : Typed) (span : Span) (next : core.Expression → Verdict A) → Fits a → ((v : core.Expression) → HasType g types v Int → Promises Q (next v)) → Promises Q (number_of a span next)
+  pub number_of_promises : {A : Type 0} (Q : A → Type 0) (a : Typed) (span : Span) (next : core.Expression → Verdict A) → Fits a → ((v : core.Expression) → HasType g types s v Int → Promises Q (next v)) → Promises Q (number_of a span next)
   number_of_promises Q (Value type zero value place) span next h more = needs_promises Q (is_number type) E13 span (next value) (λ n. more value (as_int type value n h.has_type))
   number_of_promises Q (AStruct number place) span next h more = tt
 
-  pub scalar_of_promises : {A : Type 0} (Q : A → Type 0) (a : Typed) (span : Span) (next : core.Expression → Verdict A) → Fits a → ((v : core.Expression) (t : CType) → HasType g types v t → Promises Q (next v)) → Promises Q (scalar_of a span next)
+  pub scalar_of_promises : {A : Type 0} (Q : A → Type 0) (a : Typed) (span : Span) (next : core.Expression → Verdict A) → Fits a → ((v : core.Expression) (t : CType) → HasType g types s v t → Promises Q (next v)) → Promises Q (scalar_of a span next)
   scalar_of_promises Q (Value type zero value place) span next h more = more value type h.has_type
   scalar_of_promises Q (AStruct number place) span next h more = tt
 
@@ -157,30 +362,53 @@ module _ (g : Frame) (types : List CType) where
   unary_promises unary.Not a site span h = scalar_of_promises FitsNoted a span _ h (λ v t typed node. number_fits (core.Not v) (rules.inverse typed))
   unary_promises unary.Complement a site span h = number_of_promises FitsNoted a span _ h (λ v n node. number_fits (core.Complement v) (rules.complement n))
 
-  pub two_numbers_promise : {A : Type 0} (Q : A → Type 0) (a b : Typed) (span : Span) (next : core.Expression → core.Expression → Verdict A) → Fits a → Fits b → ((v w : core.Expression) → HasType g types v Int → HasType g types w Int → Promises Q (next v w)) → Promises Q (two_numbers a b span next)
+  pub two_numbers_promise : {A : Type 0} (Q : A → Type 0) (a b : Typed) (span : Span) (next : core.Expression → core.Expression → Verdict A) → Fits a → Fits b → ((v w : core.Expression) → HasType g types s v Int → HasType g types s w Int → Promises Q (next v w)) → Promises Q (two_numbers a b span next)
   two_numbers_promise Q a b span next ha hb more = number_of_promises Q a span _ ha (λ v n. number_of_promises Q b span _ hb (λ w m. more v w n m))
 
-  two_scalars_promise : {A : Type 0} (Q : A → Type 0) (a b : Typed) (span : Span) (next : core.Expression → core.Expression → Verdict A) → Fits a → Fits b → ((v w : core.Expression) (t u : CType) → HasType g types v t → HasType g types w u → Promises Q (next v w)) → Promises Q (two_scalars a b span next)
+  two_scalars_promise : {A : Type 0} (Q : A → Type 0) (a b : Typed) (span : Span) (next : core.Expression → core.Expression → Verdict A) → Fits a → Fits b → ((v w : core.Expression) (t u : CType) → HasType g types s v t → HasType g types s w u → Promises Q (next v w)) → Promises Q (two_scalars a b span next)
   two_scalars_promise Q a b span next ha hb more = scalar_of_promises Q a span _ ha (λ v t n. scalar_of_promises Q b span _ hb (λ w u m. more v w t u n m))
 
-  pub summands_promise : {A : Type 0} (Q : A → Type 0) (a b : Typed) (span : Span) (next : core.Expression → core.Expression → Verdict A) → Fits a → Fits b → ((v w : core.Expression) → HasType g types v Int → HasType g types w Int → Promises Q (next v w)) → Promises Q (summands a b span next)
-  summands_promise Q a b span next ha hb more =
-      needs_promises Q (not (is_pointer_value a || is_pointer_value b)) E19 span (two_numbers a b span next) (λ x. two_numbers_promise Q a b span next ha hb more)
+  pub without_ptr_promises : {A : Type 0} (Q : A → Type 0) (a b : Typed) (span : Span) (next : Verdict A) → (is_single_value a ≡ false → lacks_bounds a ≡ false → Promises Q next) → Promises Q (without_ptr a b span next)
+  without_ptr_promises Q a b span next h =
+      needs_promises Q (not (is_single_value a || is_single_value b)) E19 span _
+      (λ apart. needs_promises Q (not (lacks_bounds a || lacks_bounds b)) E18 span next (λ bounds. h (first_not (is_single_value a) (is_single_value b) apart) (first_not (lacks_bounds a) (lacks_bounds b) bounds)))
 
   arithmetic_promises : (operator : Operator) (a b : Typed) (site : Site) (span : Span) → Fits a → Fits b → Promises Fits (two_numbers a b span (arithmetic operator site))
   arithmetic_promises operator a b site span ha hb = two_numbers_promise Fits a b span (arithmetic operator site) ha hb (λ v w n m. number_fits (core.Arithmetic operator v w site) (rules.arithmetic n m))
 
-  sum_promises : (operator : Operator) (a b : Typed) (site : Site) (span : Span) → Fits a → Fits b → Promises Fits (summands a b span (arithmetic operator site))
-  sum_promises operator a b site span ha hb = summands_promise Fits a b span (arithmetic operator site) ha hb (λ v w n m. number_fits (core.Arithmetic operator v w site) (rules.arithmetic n m))
+  sum_fits : (m : Mode) (t : CType) (v w : core.Expression) (direction : Direction) (site : Site) (p : PointerBounds) → bounds_of v ≡ Some p → HasType g types s v (Pointer m kinds.Array t) → IsRow g.structs s.flow.vars t v → HasType g types s w Int
+      → Fits (Value (Pointer m kinds.Array t) false (core.Sum v direction w site (sum_node s.locals direction v w site)) ForNothing)
+  sum_fits m t v w direction site p own h row number =
+      let counted : CountElements g.structs s.flow.vars t p = subst (AreCounted g.structs s.flow.vars t) own row.own in
+      let bounds = sum_bounded s.locals (Pointer m kinds.Array t) v direction w p site own row.based in
+      plain_fits (Pointer m kinds.Array t) _ refl (rules.sum h (record { bounds = own; size = counted.size; some = counted.some }) number bounds)
+      (record { own = sum_counted g.structs s.flow.vars t s.locals (Pointer m kinds.Array t) v direction w p counted bounds; based = row.based })
+
+  summed_promises : (direction : Direction) (a b : Typed) (site : Site) (span : Span) → Fits a → Fits b → is_single_value a ≡ false → lacks_bounds a ≡ false → Promises Fits (summed s direction a b site span)
+  summed_promises direction (Value Int z v p) b site span ha hb single lacks = arithmetic_promises (operator_along direction) (Value Int z v p) b site span ha hb
+  summed_promises direction (Value Char z v p) b site span ha hb single lacks = arithmetic_promises (operator_along direction) (Value Char z v p) b site span ha hb
+  summed_promises direction (Value (Struct n) z v p) b site span ha hb single lacks = tt
+  summed_promises direction (Value (Pointer m kinds.One t) z v p) b site span ha hb single lacks = absurd (cc)
+  summed_promises direction (Value (Pointer m kinds.Nt t) z v p) b site span ha hb single lacks = absurd (cc)
+  summed_promises direction (Value (Pointer m kinds.Array t) z v place) b site span ha hb single lacks =
+      number_of_promises Fits b span _ hb (λ w number. by w number (bounds_of v) refl)
+    where
+      by : (w : core.Expression) → HasType g types s w Int → (o : Option PointerBounds) → bounds_of v ≡ o → Fits (Value (Pointer m kinds.Array t) false (core.Sum v direction w site (sum_node s.locals direction v w site)) ForNothing)
+      by w number None e = let none = rw e at lacks in absurd (cc)
+      by w number (Some p) e = sum_fits m t v w direction site p e ha.has_type ha.node number
+  summed_promises direction (AStruct n place) b site span ha hb single lacks = tt
+
+  sum_promises : (direction : Direction) (a b : Typed) (site : Site) (span : Span) → Fits a → Fits b → Promises Fits (sum_typed s direction a b site span)
+  sum_promises direction a b site span ha hb = without_ptr_promises Fits a b span (summed s direction a b site span) (summed_promises direction a b site span ha hb)
 
   -- a pointer has the type of one
   pub record IsPointerTo (t : CType) (v : core.Expression) : Type 0 where
     pub mode : Mode
     pub kind : Kind
     pub target : CType
-    pub typed : HasType g types v (Pointer mode kind target)
+    pub typed : HasType g types s v (Pointer mode kind target)
 
-  pointer_type : (t : CType) (v : core.Expression) → is_pointer t ≡ true → HasType g types v t → IsPointerTo t v
+  pointer_type : (t : CType) (v : core.Expression) → is_pointer t ≡ true → HasType g types s v t → IsPointerTo t v
   pointer_type Int v h typed = absurd (cc)
   pointer_type Char v h typed = absurd (cc)
   pointer_type (Struct number) v h typed = absurd (cc)
@@ -196,12 +424,12 @@ module _ (g : Frame) (types : List CType) where
   comparable_pointers (Pointer m k t) (Pointer m' k' t') h = (refl, refl)
 
   abbrev IsInt : core.Expression → Type 0
-  IsInt v = HasType g types v Int
+  IsInt v = HasType g types s v Int
 
   same_typed : (t u : CType) (v w : core.Expression) → IsPointerTo t v → IsPointerTo u w → IsInt (core.Same v w)
   same_typed t u v w a b = rules.same a.typed b.typed
 
-  equated_promises : (t : CType) (z : Bool) (v : core.Expression) (u : CType) (y : Bool) (w : core.Expression) (span : Span) → HasType g types v t → HasType g types w u → Promises IsInt (equated_values t z v u y w span)
+  equated_promises : (t : CType) (z : Bool) (v : core.Expression) (u : CType) (y : Bool) (w : core.Expression) (span : Span) → HasType g types s v t → HasType g types s w u → Promises IsInt (equated_values t z v u y w span)
   equated_promises t z v u y w span hv hw = by (is_number t && is_number u) (are_comparable t u) (is_pointer t && y) (is_pointer u && z) refl refl refl refl
     where
       by : (numbers same left right : Bool) → (is_number t && is_number u) ≡ numbers → are_comparable t u ≡ same → (is_pointer t && y) ≡ left → (is_pointer u && z) ≡ right → Promises IsInt (equated_values t z v u y w span)
@@ -216,7 +444,7 @@ module _ (g : Frame) (types : List CType) where
   equal_promises (Value t z v p) (AStruct n q) span ha hb = tt
   equal_promises (AStruct n p) b span ha hb = tt
 
-  ordered_promises : (comparison : Comparison) (t : CType) (v : core.Expression) (u : CType) (w : core.Expression) (span : Span) → HasType g types v t → HasType g types w u → Promises Fits (ordered_values comparison t v u w span)
+  ordered_promises : (comparison : Comparison) (t : CType) (v : core.Expression) (u : CType) (w : core.Expression) (span : Span) → HasType g types s v t → HasType g types s w u → Promises Fits (ordered_values comparison t v u w span)
   ordered_promises comparison t v u w span hv hw = by (is_number t && is_number u) (are_comparable t u) refl refl
     where
       by : (numbers same : Bool) → (is_number t && is_number u) ≡ numbers → are_comparable t u ≡ same → Promises Fits (ordered_values comparison t v u w span)
@@ -229,7 +457,7 @@ module _ (g : Frame) (types : List CType) where
   order_promises comparison (Value t z v p) (AStruct n q) span ha hb = tt
   order_promises comparison (AStruct n p) b span ha hb = tt
 
-  binary_promises : (operator : BinaryOperator) (a b : Typed) (site : Site) (span : Span) → Fits a → Fits b → Promises Fits (binary_typed operator a b site span)
+  binary_promises : (operator : BinaryOperator) (a b : Typed) (site : Site) (span : Span) → Fits a → Fits b → Promises Fits (binary_typed s operator a b site span)
   binary_promises binary.Or a b site span ha hb = two_scalars_promise Fits a b span _ ha hb (λ v w t u n m. number_fits (core.OrElse v w) (rules.either n m))
   binary_promises binary.And a b site span ha hb = two_scalars_promise Fits a b span _ ha hb (λ v w t u n m. number_fits (core.AndAlso v w) (rules.both n m))
   binary_promises binary.BitOr a b site span ha hb = arithmetic_promises (operators.Bitwise bits.Or) a b site span ha hb
@@ -243,36 +471,66 @@ module _ (g : Frame) (types : List CType) where
   binary_promises binary.GreaterEqual a b site span ha hb = order_promises comparisons.GreaterEqual a b span ha hb
   binary_promises binary.ShiftLeft a b site span ha hb = arithmetic_promises (operators.Arithmetic arithmetics.ShiftLeft) a b site span ha hb
   binary_promises binary.ShiftRight a b site span ha hb = arithmetic_promises (operators.Arithmetic arithmetics.ShiftRight) a b site span ha hb
-  binary_promises binary.Add a b site span ha hb = sum_promises (operators.Arithmetic arithmetics.Add) a b site span ha hb
-  binary_promises binary.Subtract a b site span ha hb = sum_promises (operators.Arithmetic arithmetics.Subtract) a b site span ha hb
+  binary_promises binary.Add a b site span ha hb = sum_promises directions.Forward a b site span ha hb
+  binary_promises binary.Subtract a b site span ha hb = sum_promises directions.Backward a b site span ha hb
   binary_promises binary.Multiply a b site span ha hb = arithmetic_promises (operators.Arithmetic arithmetics.Multiply) a b site span ha hb
   binary_promises binary.Divide a b site span ha hb = arithmetic_promises (operators.Arithmetic arithmetics.Divide) a b site span ha hb
   binary_promises binary.Remainder a b site span ha hb = arithmetic_promises (operators.Arithmetic arithmetics.Remainder) a b site span ha hb
 
-  indexed_promises : (a b : Typed) (span : Span) → Promises Fits (indexed a b span)
-  indexed_promises (Value t z v p) (Value u y w q) span = needs_promises Fits (is_pointer t && is_number u) E13 span (breaks E19 span) (λ x. tt)
-  indexed_promises (Value t z v p) (AStruct n q) span = tt
-  indexed_promises (AStruct n p) b span = tt
+  element_promises : (t : CType) (v w : core.Expression) (site : Site) (span : Span) → HasType g types s v t → HasNode g.structs s.flow.vars t v → HasType g types s w Int → Promises FitsNoted (element_at t v w site span)
+  element_promises Int v w site span h node number = tt
+  element_promises Char v w site span h node number = tt
+  element_promises (Struct n) v w site span h node number = tt
+  element_promises (Pointer m kinds.One t) v w site span h node number = tt
+  element_promises (Pointer m kinds.Nt t) v w site span h node number = tt
+  element_promises (Pointer m kinds.Array t) v w site span h node number =
+      elements_promise FitsNoted t v span _ node (λ p elements. at_place_fits t (core.Through v (core.Element w) 0 site) (rules.element h elements number))
 
-  -- ---- conversions
+  indexed_promises : (a b : Typed) (site : Site) (span : Span) → Fits a → Fits b → Promises FitsNoted (indexed a b site span)
+  indexed_promises (Value t z v p) (Value u y w q) site span ha hb =
+      needs_promises FitsNoted (is_pointer t && is_number u) E13 span (element_at t v w site span)
+      (λ both. element_promises t v w site span ha.has_type ha.node (as_int u w (and_parts (is_pointer t) (is_number u) both).1 hb.has_type))
+  indexed_promises (Value t z v p) (AStruct n q) site span ha hb = tt
+  indexed_promises (AStruct n p) b site span ha hb = tt
 
-  null_or : (zero : Bool) (type : CType) (value : core.Expression) (to : CType) → (zero ≡ true → IsNumberType type) → (zero || same_type type to) ≡ true → is_pointer to ≡ true → HasType g types value type → HasType g types (as_pointer (zero && is_number type) value) to
-  null_or true type value Int number h pointer typed = absurd (cc)
-  null_or true type value Char number h pointer typed = absurd (cc)
-  null_or true type value (Struct n) number h pointer typed = absurd (cc)
-  null_or true type value (Pointer m k t) number h pointer typed = rw (number refl) rules.null
-  null_or false type value to number h pointer typed = let same = same_equal type to h in subst (λ t. HasType g types value t) same typed
+  -- ---- what conversions ask of bounds
 
-  in_type_typed : (to type : CType) (zero : Bool) (value : core.Expression) → (zero ≡ true → IsNumberType type) → converts type zero to ≡ true → HasType g types value type → HasType g types (in_type to (zero && is_number type) value) to
-  in_type_typed Int type zero value number h typed = as_int type value h typed
-  in_type_typed Char type zero value number h typed = rules.low_byte (as_int type value h typed)
-  in_type_typed (Struct n) type zero value number h typed = absurd (cc)
-  in_type_typed (Pointer m k t) type zero value number h typed = null_or zero type value (Pointer m k t) number h refl typed
+  -- the bounds of a value meet those that are asked for, where it becomes one of the type
+  abbrev pub AreMet : Typed → CType → Type 0
+  AreMet (Value type zero value place) to = (zero || meets s.flow value (asked_of type to)) ≡ true
+  AreMet (AStruct number place) to = Unit {0}
 
-  pub converted_promises : {A : Type 0} (Q : A → Type 0) (a : Typed) (to : CType) (span : Span) (next : core.Expression → Verdict A) → Fits a → ((v : core.Expression) → HasType g types v to → Promises Q (next v)) → Promises Q (converted a to span next)
-  converted_promises Q (Value type zero value place) to span next h more =
-      needs_promises Q (converts type zero to) E13 span (next (in_type to (zero && is_number type) value)) (λ c. more (in_type to (zero && is_number type) value) (in_type_typed to type zero value h.is_number c h.has_type))
-  converted_promises Q (AStruct number place) to span next h more = tt
+  pub met_promises : {A : Type 0} (Q : A → Type 0) (a : Typed) (to : CType) (span : Span) (next : Verdict A) → (AreMet a to → Promises Q next) → Promises Q (bounds_met s.flow a to span next)
+  met_promises Q (Value type zero value place) to span next h = needs_promises Q (zero || meets s.flow value (asked_of type to)) E17 span next h
+  met_promises Q (AStruct number place) to span next h = h tt
+
+  -- the same of arguments and the types of their parameters
+  abbrev AllMet : List (Typed × Span) → List CType → Type 0
+  AllMet [] ts = Unit {0}
+  AllMet (a ∷ arguments) [] = Unit {0}
+  AllMet (a ∷ arguments) (t ∷ ts) = AreMet a.0 t × AllMet arguments ts
+
+  arguments_met_promise : {A : Type 0} (Q : A → Type 0) (arguments : List (Typed × Span)) (ts : List CType) (next : Verdict A) → (AllMet arguments ts → Promises Q next) → Promises Q (arguments_met s.flow arguments ts next)
+  arguments_met_promise Q [] ts next h = h tt
+  arguments_met_promise Q (a ∷ arguments) [] next h = h tt
+  arguments_met_promise Q (a ∷ arguments) (t ∷ ts) next h = met_promises Q a.0 t a.1 _ (λ first. arguments_met_promise Q arguments ts next (λ others. h (first, others)))
+
+  either_true : (test : Bool) → (test || true) ≡ true
+  either_true true = refl
+  either_true false = refl
+
+  -- nothing is asked of a number
+  number_met : (a : Typed) → AreMet a Int
+  number_met (Value Int zero value place) = either_true zero
+  number_met (Value Char zero value place) = either_true zero
+  number_met (Value (Struct n) zero value place) = either_true zero
+  number_met (Value (Pointer m k t) zero value place) = either_true zero
+  number_met (AStruct number place) = tt
+
+  all_met : (arguments : List (Typed × Span)) → AllMet arguments (Int ∷ [])
+  all_met [] = tt
+  all_met (a ∷ []) = (number_met a.0, tt)
+  all_met (a ∷ b ∷ arguments) = (number_met a.0, tt)
 
   -- ---- calls
 
@@ -280,16 +538,8 @@ module _ (g : Frame) (types : List CType) where
   AllFit [] = Unit {0}
   AllFit (a ∷ arguments) = Fits a.0 × AllFit arguments
 
-  arguments_promise : (arguments : List (Typed × Span)) (ts : List CType) → length ts ≡ length arguments → AllFit arguments → Promises (λ values. HaveTypes g types values ts) (arguments_as arguments ts)
-  arguments_promise [] [] many all = rules.done
-  arguments_promise [] (t ∷ ts) many all = absurd (omega arith)
-  arguments_promise (a ∷ arguments) [] many all = absurd (omega arith)
-  arguments_promise (a ∷ arguments) (t ∷ ts) many all =
-      converted_promises (λ values. HaveTypes g types values (t ∷ ts)) a.0 t a.1 _ all.0
-      (λ v typed. passing_promises (λ values. HaveTypes g types values ts) (λ values. HaveTypes g types values (t ∷ ts)) (arguments_as arguments ts) _ (arguments_promise arguments ts (omega arith) all.1) (λ others h. rules.more typed h))
-
   -- numbers cross as ints
-  crossing : {values : core.Arguments} {ts : List CType} → HaveTypes g types values ts → AllByRecursion IsNumberType ts → HaveTypes g types values (replicate (length ts) Int)
+  crossing : {values : core.Arguments} {ts : List CType} → HaveTypes g types s values ts → AllByRecursion IsNumberType ts → HaveTypes g types s values (replicate (length ts) Int)
   crossing rules.done all = rules.done
   crossing (rules.more {e = v} {t = t} h hs) all = rules.more (as_int t v all.0 h) (crossing hs all.1)
 
@@ -297,9 +547,11 @@ module _ (g : Frame) (types : List CType) where
   scalar_result None h = tt
   scalar_result (Some t) h = number_scalar t h
 
-  call_fits : (structs : List Structure) (callee : Callee) (ts : List CType) (result : Option CType) (values : core.Arguments) (site : Site) → Extends structs g.structs → IsKnownResult structs result → IsCallee g callee ts result → HaveTypes g types values ts → IsScalarResult result → FitsCall (call_of structs result callee values site)
-  call_fits structs callee ts None values site ext known is h scalar = λ result loop. rules.call_alone is h
-  call_fits structs callee ts (Some t) values site ext known is h scalar = (rules.call is h (site, bounds_kept structs g.structs t site ext known), scalar)
+  call_fits : (structs : List Structure) (callee : Callee) (ts : List CType) (result : Option CType) (values : core.Arguments) (site : Site) → Extends structs g.structs → IsKnownResult structs result → IsCallee g callee ts result → HaveTypes g types s values ts → IsScalarResult result → FitsCall (call_of structs result callee values site)
+  call_fits structs callee ts None values site ext known is h scalar = rules.call_alone is h
+  call_fits structs callee ts (Some t) values site ext known is h scalar =
+      let kept = bounds_kept structs g.structs t site ext known in
+      (rules.call is h (site, kept), (scalar, subst (λ b. HasNode g.structs s.flow.vars t (core.Call callee values b)) (sym kept) (node_with g.structs s.flow.vars t site (core.Call callee values) (λ o. refl) refl)))
 
   trusted_callee : (number : ℕ) (f : Signature) → IsTrusted g number f → IsCallee g (callees.Trusted number) f.parameters f.result
   trusted_callee number f is =
@@ -312,40 +564,132 @@ module _ (g : Frame) (types : List CType) where
       (subst (λ n. IsCallee g (callees.Tainted number site) (replicate n Int) is.import.result) is.parameters
       (rules.tainted is.found (subst IsNumberResult (sym is.result) is.number_result)))
 
-  first_fits : (of : core.Expression → core.Statement) → ((v : core.Expression) (result : Option CType) (loop : Bool) → HasType g types v Int → IsStatement g types result loop (of v)) → {values : core.Arguments} → HaveTypes g types values (Int ∷ []) → (result : Option CType) (loop : Bool) → IsStatement g types result loop (first_of of values)
-  first_fits of h (rules.more {e = v} typed rest) result loop = h v result loop typed
-
-  writes_promise : (of : core.Expression → core.Statement) → ((v : core.Expression) (result : Option CType) (loop : Bool) → HasType g types v Int → IsStatement g types result loop (of v)) → (arguments : List (Typed × Span)) (span : Span) → AllFit arguments → Promises FitsCall (writes of arguments span)
-  writes_promise of h arguments span all =
-      needs_promises FitsCall (length arguments == 1) E14 span _
-      (λ one. passing_promises (λ values. HaveTypes g types values (Int ∷ [])) FitsCall (arguments_as arguments (Int ∷ [])) _ (arguments_promise arguments (Int ∷ []) (sym (eqb-true (length arguments) 1 one)) all) (λ values typed. first_fits of h typed))
-
-  predefined_promises : (given : Given) (name : ℕ) (arguments : List (Typed × Span)) (span : Span) → AllFit arguments → Promises FitsCall (predefined_call given name arguments span)
-  predefined_promises given name arguments span all = by (name == given.next_input) (name == given.print_int) (name == given.putchar) refl refl refl
-    where
-      by : (input print put : Bool) → (name == given.next_input) ≡ input → (name == given.print_int) ≡ print → (name == given.putchar) ≡ put → Promises FitsCall (predefined_call given name arguments span)
-      by true print put e e1 e2 = rw e (needs_promises FitsCall (length arguments == 0) E14 span (Passes (Gives Int core.NextInput)) (λ none. (rules.next_input, refl)))
-      by false true put e e1 e2 = rw (e, e1) (writes_promise core.Print (λ v result loop h. rules.print h) arguments span all)
-      by false false true e e1 e2 = rw (e, e1, e2) (writes_promise core.PutByte (λ v result loop h. rules.put_byte h) arguments span all)
-      by false false false e e1 e2 = rw (e, e1, e2) tt
-
   with_result_promises : (c : Called) (span : Span) → FitsCall c → Promises Fits (with_result c span)
-  with_result_promises (Gives type value) span h = plain_fits type value h.1 h.0
+  with_result_promises (Gives type value) span h = plain_fits type value h.1.0 h.0 h.1.1
   with_result_promises (GivesNothing call) span h = tt
 
-  module _ (s : Scope) (knows : Knows g types s) where
+  module _ (knows : Knows g types s) where
+    -- ---- conversions
+
+    -- a pointer whose bounds lie around one element leads to it
+    leads_to_one : (b : Bounds) → AreEndsBelow s.flow.vars b → MeetsEnds s.flow.facts one_element b → LeadsToOne g.structs s b
+    leads_to_one b below met state known l valid =
+        (flows_hold g.structs s.flow knows.flow).narrow b one_element l state below (record { lo = tt; hi = tt }) (record { lo = tt; hi = tt }) (sym met.base) met.ends (known state (alike_here (length s.locals) state)).holds.met valid
+
+    -- a pointer that meets them is null, or its bounds do, or those that it has from a base
+    abbrev Finds : Option Bounds → Type 0
+    Finds b = is_met (bounds_find s.flow.facts one_element b) ≡ true
+
+    met_by : (P : Type 0) (value : core.Expression) → meets s.flow value (Some one_element) ≡ true → (is_null value ≡ true → P) → (Finds (own_bounds value) → P) → (Finds (based_bounds value) → P) → P
+    met_by P value met null own based =
+        let facts = s.flow.facts in
+        let first = is_met (bounds_find facts one_element (own_bounds value)) in
+        let second = is_met (bounds_find facts one_element (based_bounds value)) in
+        ⊎_elim null (λ found. ⊎_elim own based (or_cases first second found)) (or_cases (is_null value) (first || second) met)
+
+    none_met : (P : Type 0) (b : Option Bounds) → b ≡ None → Finds b → P
+    none_met P b none met = let found = rw none at met in absurd (cc)
+
+    null_typed : (m : Mode) (t : CType) (value : core.Expression) → is_null value ≡ true → HasType g types s value (Pointer m kinds.One t)
+    null_typed m t value null = subst (λ e. HasType g types s e (Pointer m kinds.One t)) (sym (null_is value null)) rules.null
+
+    -- a pointer with bounds as one to the element at which it stands
+    single_typed : (m : Mode) (t : CType) (value : core.Expression) → HasType g types s value (Pointer m kinds.Array t) → IsRow g.structs s.flow.vars t value → meets s.flow value (Some one_element) ≡ true → HasType g types s value (Pointer m kinds.One t)
+    single_typed m t value h row met =
+        met_by (HasType g types s value (Pointer m kinds.One t)) value met (null_typed m t value) (by (bounds_of value) refl row.own) (none_met (HasType g types s value (Pointer m kinds.One t)) (based_bounds value) row.based)
+      where
+        by : (o : Option PointerBounds) → bounds_of value ≡ o → AreCounted g.structs s.flow.vars t o → Finds (own_bounds value) → HasType g types s value (Pointer m kinds.One t)
+        by None e counted own = let found = rw e at own in absurd (cc)
+        by (Some p) e counted own =
+            let found : Finds (Some p.bounds) = rw e at own in
+            rules.single h (record { bounds = e; size = counted.size; some = counted.some }) (leads_to_one p.bounds counted.below (one_met s.flow.facts p.bounds found))
+
+    -- one into an array that a zero ends has no bounds to meet: it is null
+    ended_typed : (m : Mode) (t : CType) (value : core.Expression) → IsBare value → meets s.flow value (Some one_element) ≡ true → HasType g types s value (Pointer m kinds.One t)
+    ended_typed m t value bare met =
+        met_by (HasType g types s value (Pointer m kinds.One t)) value met (null_typed m t value) (λ own. let found = rw bare.own at own in absurd (cc)) (none_met (HasType g types s value (Pointer m kinds.One t)) (based_bounds value) bare.based)
+
+    kind_typed : (m : Mode) (t : CType) (from to : Kind) (value : core.Expression) → kind_converts from to ≡ true → HasType g types s value (Pointer m from t) → HasNode g.structs s.flow.vars (Pointer m from t) value → meets s.flow value (asked_as from to) ≡ true → HasType g types s value (Pointer m to t)
+    kind_typed m t kinds.One kinds.One value converts h node met = h
+    kind_typed m t kinds.One kinds.Array value converts h node met = rules.row h node
+    kind_typed m t kinds.One kinds.Nt value converts h node met = absurd (cc)
+    kind_typed m t kinds.Array kinds.One value converts h node met = single_typed m t value h node met
+    kind_typed m t kinds.Array kinds.Array value converts h node met = h
+    kind_typed m t kinds.Array kinds.Nt value converts h node met = absurd (cc)
+    kind_typed m t kinds.Nt kinds.One value converts h node met = ended_typed m t value node met
+    kind_typed m t kinds.Nt kinds.Array value converts h node met = rules.ended_row h node.own
+    kind_typed m t kinds.Nt kinds.Nt value converts h node met = h
+
+    pointer_typed : (type : CType) (m : Mode) (k : Kind) (t : CType) (value : core.Expression) → pointer_converts type k (Pointer m k t) ≡ true → HasType g types s value type → HasNode g.structs s.flow.vars type value → meets s.flow value (asked_of type (Pointer m k t)) ≡ true → HasType g types s value (Pointer m k t)
+    pointer_typed Int m k t value converts h node met = absurd (cc)
+    pointer_typed Char m k t value converts h node met = absurd (cc)
+    pointer_typed (Struct n) m k t value converts h node met = absurd (cc)
+    pointer_typed (Pointer m' k' t') m k t value converts h node met =
+        let both = and_parts (same_mode m' m && same_type t' t) (kind_converts k' k) converts in
+        let same = and_parts (same_mode m' m) (same_type t' t) both.0 in
+        subst (λ x. HasType g types s value (Pointer x k t)) (mode_equal m' m same.0)
+        (subst (λ x. HasType g types s value (Pointer m' k x)) (same_equal t' t same.1) (kind_typed m' t' k' k value both.1 h node met))
+
+    -- the constant 0 is null
+    null_or : (zero : Bool) (type : CType) (m : Mode) (k : Kind) (t : CType) (value : core.Expression) → (zero ≡ true → IsNumberType type) → converts type zero (Pointer m k t) ≡ true → HasType g types s value type → HasNode g.structs s.flow.vars type value
+        → (zero || meets s.flow value (asked_of type (Pointer m k t))) ≡ true → HasType g types s (as_pointer (zero && is_number type) value) (Pointer m k t)
+    null_or true type m k t value number converts h node met = rw (number refl) rules.null
+    null_or false type m k t value number converts h node met = pointer_typed type m k t value converts h node met
+
+    in_type_typed : (to type : CType) (zero : Bool) (value : core.Expression) → (zero ≡ true → IsNumberType type) → converts type zero to ≡ true → HasType g types s value type → HasNode g.structs s.flow.vars type value → (zero || meets s.flow value (asked_of type to)) ≡ true → HasType g types s (in_type to (zero && is_number type) value) to
+    in_type_typed Int type zero value number h typed node met = as_int type value h typed
+    in_type_typed Char type zero value number h typed node met = rules.low_byte (as_int type value h typed)
+    in_type_typed (Struct n) type zero value number h typed node met = absurd (cc)
+    in_type_typed (Pointer m k t) type zero value number h typed node met = null_or zero type m k t value number h typed node met
+
+    -- a value that converts has the type where its bounds meet those that are asked for
+    pub converted_promises : {A : Type 0} (Q : A → Type 0) (a : Typed) (to : CType) (span : Span) (next : core.Expression → Verdict A) → Fits a → ((v : core.Expression) → (AreMet a to → HasType g types s v to) → Promises Q (next v)) → Promises Q (converted a to span next)
+    converted_promises Q (Value type zero value place) to span next h more =
+        needs_promises Q (converts type zero to) E13 span (next (in_type to (zero && is_number type) value)) (λ c. more (in_type to (zero && is_number type) value) (in_type_typed to type zero value h.is_number c h.has_type h.node))
+    converted_promises Q (AStruct number place) to span next h more = tt
+
+    abbrev HaveConverted : List (Typed × Span) → List CType → core.Arguments → Type 0
+    HaveConverted arguments ts values = AllMet arguments ts → HaveTypes g types s values ts
+
+    arguments_promise : (arguments : List (Typed × Span)) (ts : List CType) → length ts ≡ length arguments → AllFit arguments → Promises (HaveConverted arguments ts) (arguments_as arguments ts)
+    arguments_promise [] [] many all = λ met. rules.done
+    arguments_promise [] (t ∷ ts) many all = absurd (omega arith)
+    arguments_promise (a ∷ arguments) [] many all = absurd (omega arith)
+    arguments_promise (a ∷ arguments) (t ∷ ts) many all =
+        converted_promises (HaveConverted (a ∷ arguments) (t ∷ ts)) a.0 t a.1 _ all.0
+        (λ v typed. passing_promises (HaveConverted arguments ts) (HaveConverted (a ∷ arguments) (t ∷ ts)) (arguments_as arguments ts) _ (arguments_promise arguments ts (omega arith) all.1) (λ others h met. rules.more (typed met.0) (h met.1)))
+
+    -- ---- predefined functions
+
+    first_fits : (of : core.Expression → core.Statement) → ((v : core.Expression) → HasType g types s v Int → IsSimple g types s (of v)) → {values : core.Arguments} → HaveTypes g types s values (Int ∷ []) → IsSimple g types s (first_of of values)
+    first_fits of h (rules.more {e = v} typed rest) = h v typed
+
+    writes_promise : (of : core.Expression → core.Statement) → ((v : core.Expression) → HasType g types s v Int → IsSimple g types s (of v)) → (arguments : List (Typed × Span)) (span : Span) → AllFit arguments → Promises FitsCall (writes of arguments span)
+    writes_promise of h arguments span all =
+        needs_promises FitsCall (length arguments == 1) E14 span _
+        (λ one. passing_promises (HaveConverted arguments (Int ∷ [])) FitsCall (arguments_as arguments (Int ∷ [])) _ (arguments_promise arguments (Int ∷ []) (sym (eqb-true (length arguments) 1 one)) all) (λ values typed. first_fits of h (typed (all_met arguments))))
+
+    predefined_promises : (given : Given) (name : ℕ) (arguments : List (Typed × Span)) (span : Span) → AllFit arguments → Promises FitsCall (predefined_call given name arguments span)
+    predefined_promises given name arguments span all = by (name == given.next_input) (name == given.print_int) (name == given.putchar) refl refl refl
+      where
+        by : (input print put : Bool) → (name == given.next_input) ≡ input → (name == given.print_int) ≡ print → (name == given.putchar) ≡ put → Promises FitsCall (predefined_call given name arguments span)
+        by true print put e e1 e2 = rw e (needs_promises FitsCall (length arguments == 0) E14 span (Passes (Gives Int core.NextInput)) (λ none. (rules.next_input, (refl, tt))))
+        by false true put e e1 e2 = rw (e, e1) (writes_promise core.Print (λ v h. rules.print h) arguments span all)
+        by false false true e e1 e2 = rw (e, e1, e2) (writes_promise core.PutByte (λ v h. rules.put_byte h) arguments span all)
+        by false false false e e1 e2 = rw (e, e1, e2) tt
+
     -- ---- members
 
-    member_fits : (n : ℕ) (p : core.Place) (found : ℕ × CType) (site : Site) → HasPlace g types p (Struct n) → HasMember (members_of s.structs n) 0 found → FitsNoted (at_place found.1 (member_place p (offset_among (cells_of s.structs (Struct n)) found.0) site))
+    member_fits : (n : ℕ) (p : core.Place) (found : ℕ × CType) (site : Site) → HasPlace g types s p (Struct n) → HasMember (members_of s.structs n) 0 found → FitsNoted (at_place found.1 (member_place p (offset_among (cells_of s.structs (Struct n)) found.0) site))
     member_fits n p found site h m =
         let k : m.index ≡ found.0 = let e = m.counted in omega arith in
         let slot = member_slot g s knows.file n m.index m.member m.listed in
         let scalar = of_element (λ x. IsScalar x.ctype) (members_of s.structs n) m.index m.member (knows.file.scalar_members n) m.listed in
         let there = member_of h m.index (offset_among (cells_of s.structs (Struct n)) m.index) m.member.ctype site slot scalar in
-        let typed = subst (λ t. HasPlace g types (member_place p (offset_among (cells_of s.structs (Struct n)) m.index) site) t) m.typed there in
-        at_place_fits found.1 _ (subst (λ i. HasPlace g types (member_place p (offset_among (cells_of s.structs (Struct n)) i) site) found.1) k typed)
+        let typed = subst (λ t. HasPlace g types s (member_place p (offset_among (cells_of s.structs (Struct n)) m.index) site) t) m.typed there in
+        at_place_fits found.1 _ (subst (λ i. HasPlace g types s (member_place p (offset_among (cells_of s.structs (Struct n)) i) site) found.1) k typed)
 
-    member_at_promises : (n : ℕ) (p : core.Place) (name : ℕ) (site : Site) (span : Span) → HasPlace g types p (Struct n) → Promises FitsNoted (member_at s n p name site span)
+    member_at_promises : (n : ℕ) (p : core.Place) (name : ℕ) (site : Site) (span : Span) → HasPlace g types s p (Struct n) → Promises FitsNoted (member_at s n p name site span)
     member_at_promises n p name site span h = by (member_from 0 (members_named s n) (members_of s.structs n) name) refl
       where
         by : (o : Option (ℕ × CType)) → member_from 0 (members_named s n) (members_of s.structs n) name ≡ o → Promises FitsNoted (member_at s n p name site span)
@@ -357,17 +701,30 @@ module _ (g : Frame) (types : List CType) where
     dotted_promises (AStruct n (OfLocal k)) name site span h = absurd h
     dotted_promises (AStruct n (OfCell p)) name site span h = member_at_promises n p name site span h
 
-    pointed_by_promises : (type : CType) (value : core.Expression) (name : ℕ) (site : Site) (span : Span) → HasType g types value type → Promises FitsNoted (pointed_by s type value name site span)
-    pointed_by_promises Int value name site span h = tt
-    pointed_by_promises Char value name site span h = tt
-    pointed_by_promises (Struct n) value name site span h = tt
-    pointed_by_promises (Pointer m k Int) value name site span h = tt
-    pointed_by_promises (Pointer m k Char) value name site span h = tt
-    pointed_by_promises (Pointer m k (Pointer m' k' t)) value name site span h = tt
-    pointed_by_promises (Pointer m k (Struct n)) value name site span h = member_at_promises n (core.Through value core.First 0 site) name site span (rules.pointed h)
+    pointed_by_promises : (type : CType) (value : core.Expression) (name : ℕ) (site : Site) (span : Span) → HasType g types s value type → HasNode g.structs s.flow.vars type value → Promises FitsNoted (pointed_by s type value name site span)
+    pointed_by_promises Int value name site span h node = tt
+    pointed_by_promises Char value name site span h node = tt
+    pointed_by_promises (Struct n) value name site span h node = tt
+    pointed_by_promises (Pointer m kinds.One Int) value name site span h node = tt
+    pointed_by_promises (Pointer m kinds.One Char) value name site span h node = tt
+    pointed_by_promises (Pointer m kinds.One (Pointer m' k' t)) value name site span h node = tt
+    pointed_by_promises (Pointer m kinds.One (Struct n)) value name site span h node = member_at_promises n (core.Through value core.First 0 site) name site span (rules.pointed h)
+    pointed_by_promises (Pointer m kinds.Array Int) value name site span h node = tt
+    pointed_by_promises (Pointer m kinds.Array Char) value name site span h node = tt
+    pointed_by_promises (Pointer m kinds.Array (Pointer m' k' t)) value name site span h node = tt
+    pointed_by_promises (Pointer m kinds.Array (Struct n)) value name site span h node = by (bounds_of value) refl node.own
+      where
+        by : (o : Option PointerBounds) → bounds_of value ≡ o → AreCounted g.structs s.flow.vars (Struct n) o → Promises FitsNoted (pointed_by s (Pointer m kinds.Array (Struct n)) value name site span)
+        by None e counted =
+            passing_promises (λ (t : Typed). Unit {0}) FitsNoted (member_at s n (first_element value site) name site span) _ (anything_promised (member_at s n (first_element value site) name site span)) (λ t _. rw e tt)
+        by (Some p) e counted =
+            passing_promises FitsNoted FitsNoted (member_at s n (first_element value site) name site span) _
+            (member_at_promises n (first_element value site) name site span (rules.element h (record { bounds = e; size = counted.size; some = counted.some }) (rules.word refl)))
+            (λ t fits. needs_promises FitsNoted (is_some (bounds_of value)) E18 span (Passes t) (λ there. fits))
+    pointed_by_promises (Pointer m kinds.Nt t) value name site span h node = tt
 
     arrowed_promises : (a : Typed) (name : ℕ) (site : Site) (span : Span) → Fits a → Promises FitsNoted (arrowed s a name site span)
-    arrowed_promises (Value type zero value place) name site span h = pointed_by_promises type value name site span h.has_type
+    arrowed_promises (Value type zero value place) name site span h = pointed_by_promises type value name site span h.has_type h.node
     arrowed_promises (AStruct n place) name site span h = tt
 
     -- ---- calls of functions that are declared
@@ -375,7 +732,7 @@ module _ (g : Frame) (types : List CType) where
     result_known : (name : ℕ) (f : Signature) → function_named s.functions name ≡ Some f → IsKnownResult s.structs f.result
     result_known name f found = named_has (λ (x : Signature). IsKnownResult s.structs x.result) s.functions name f knows.file.closed.of_functions found
 
-    side_fits : (name : ℕ) (f : Signature) (site : Site) (values : core.Arguments) (side : Bool) → is_import f ≡ side → function_named s.functions name ≡ Some f → HaveTypes g types values f.parameters → FitsCall (call_of s.structs f.result (callee_of side (side_number side s.functions f.name 0) site) values site)
+    side_fits : (name : ℕ) (f : Signature) (site : Site) (values : core.Arguments) (side : Bool) → is_import f ≡ side → function_named s.functions name ≡ Some f → HaveTypes g types s values f.parameters → FitsCall (call_of s.structs f.result (callee_of side (side_number side s.functions f.name 0) site) values site)
     side_fits name f site values true e found h =
         let number = side_number true s.functions f.name 0 in
         let is = knows.file.tainted name f found e in
@@ -390,14 +747,14 @@ module _ (g : Frame) (types : List CType) where
     called_promises (Some f) name arguments site span e all =
         needs_promises FitsCall (length f.parameters == length arguments) E14 span _
         (λ many. crossing_promises FitsCall (is_import f) arguments _
-        (passing_promises (λ values. HaveTypes g types values f.parameters) FitsCall (arguments_as arguments f.parameters) _ (arguments_promise arguments f.parameters (eqb-true (length f.parameters) (length arguments) many) all)
-        (λ values typed. side_fits name f site values (is_import f) refl e typed)))
+        (passing_promises (HaveConverted arguments f.parameters) FitsCall (arguments_as arguments f.parameters) _ (arguments_promise arguments f.parameters (eqb-true (length f.parameters) (length arguments) many) all)
+        (λ values typed. arguments_met_promise FitsCall arguments f.parameters _ (λ met. side_fits name f site values (is_import f) refl e (typed met)))))
 
     -- ---- the walk
 
     noted_fits : (site : Site) (t : Typed) → FitsNoted t → IsKnownTyped s.structs t → Fits (with_bounds s.structs site t)
     noted_fits site (Value type zero value place) h known =
-        subst (λ b. Fits (Value type zero (noted b value) place)) (sym (bounds_kept s.structs g.structs type site knows.file.structs known)) (h site)
+        subst (λ b. Fits (Value type zero (noted_if b value) place)) (sym (bounds_kept s.structs g.structs type site knows.file.structs known)) (h site)
     noted_fits site (AStruct number place) h known = h site
 
     -- with the bounds at its node
@@ -406,9 +763,9 @@ module _ (g : Frame) (types : List CType) where
     bounded_promises site (Passes (AStruct number place)) known h = h site
     bounded_promises site (Stops stop) known h = tt
 
-    constant_promises : (value : ℕ) (zero : Bool) (span : Span) → Promises Fits (constant value zero span)
+    constant_promises : (value : ℕ) (zero : Bool) (span : Span) → Promises Fits (constant_typed value zero span)
     constant_promises value zero span =
-        needs_promises Fits (nat_lt value (2 ^ 31)) E04 span (Passes (Value Int zero (core.Number (pos value)) None)) (λ low. record { has_type = rules.word low; is_number = λ x. refl; stands = tt; scalar = refl })
+        needs_promises Fits (nat_lt value (2 ^ 31)) E04 span (Passes (Value Int zero (core.Number (pos value)) ForNothing)) (λ low. record { has_type = rules.word low; is_number = λ x. refl; stands = tt; scalar = refl; node = tt })
 
     mutual
       pub typed_promises : (at : Places) (x : Expression) → Promises Fits (typed at s x)
@@ -416,8 +773,8 @@ module _ (g : Frame) (types : List CType) where
       typed_promises at (e.Character value span) = constant_promises value false span
       typed_promises at (e.Text bytes span) = tt
       typed_promises at (e.Name name) =
-          bounded_promises (site_at at name.span) (passing (named s name.number) (λ n. Passes (name_typed n))) (typed_known s knows.file.closed at (e.Name name))
-          (passing_promises (StandsFor g types) FitsNoted (named s name.number) _ (name_stands g types s knows name.number) (name_fits knows.scalar))
+          bounded_promises (site_at at name.span) (passing (named s name.number) (λ n. Passes (name_typed s.structs n (site_at at name.span)))) (typed_known s knows.file.closed at (e.Name name))
+          (passing_promises (StandsFor g s.structs types) FitsNoted (named s name.number) _ (name_stands g types s knows name.number) (name_fits knows.file.structs knows.scalar (site_at at name.span)))
       typed_promises at (e.Call callee arguments span) =
           passing_promises AllFit Fits (all_typed at s arguments) _ (all_promise at arguments)
           (λ ts all. passing_promises FitsCall Fits (called s (function_named s.functions callee.number) callee.number ts (site_at at span) span) _ (called_promises (function_named s.functions callee.number) callee.number ts (site_at at span) span refl all)
@@ -429,7 +786,9 @@ module _ (g : Frame) (types : List CType) where
       typed_promises at (e.Malloc word type size span) = tt
       typed_promises at (e.Calloc word type count size span) = tt
       typed_promises at (e.Index base index span) =
-          passing_promises Fits Fits (typed at s base) _ (typed_promises at base) (λ a ha. passing_promises Fits Fits (typed at s index) _ (typed_promises at index) (λ b hb. indexed_promises a b span))
+          bounded_promises (site_at at span) (passing (typed at s base) (λ a. passing (typed at s index) (λ b. indexed a b (site_at at span) span))) (typed_known s knows.file.closed at (e.Index base index span))
+          (passing_promises Fits FitsNoted (typed at s base) _ (typed_promises at base)
+          (λ a ha. passing_promises Fits FitsNoted (typed at s index) _ (typed_promises at index) (λ b hb. indexed_promises a b (site_at at span) span ha hb)))
       typed_promises at (e.Dot base member span) =
           bounded_promises (site_at at span) (passing (typed at s base) (λ a. dotted s a member.number (site_at at span) span)) (typed_known s knows.file.closed at (e.Dot base member span))
           (passing_promises Fits FitsNoted (typed at s base) _ (typed_promises at base) (λ a h. dotted_promises a member.number (site_at at span) span h))

@@ -12,7 +12,7 @@ use Rattle.ckc_tree.specs.Statements.{Assignment, Declarator, Declaration, ForIn
 use Rattle.pointer_modes.specs.Types.{CType, Member, Structure, members_of}
 use Rattle.ckc_core.specs.Core as core
 use Rattle.region_typing_rules.specs.Verdicts.{Verdict, Passes, Stops, passing}
-use Rattle.region_typing_rules.specs.Scopes.{Scope, Signature, Variable, function_named}
+use Rattle.region_typing_rules.specs.Scopes.{Scope, Signature, FileVariable, function_named}
 use Rattle.region_typing_rules.specs.Types.{is_scalar, without_stars, base_type}
 use Rattle.region_typing_rules.specs.Expressions.{Places, is_import, side_number, call_typed}
 use Rattle.bounds_flow.specs.Flows.{Knowledge, cut_off}
@@ -22,7 +22,7 @@ use Rattle.region_typing_rules.specs.Statements.{Walked, both, assignment, assig
 use Rattle.region_typing_rules.specs.Typed.{Frame, IsScalar}
 use Rattle.region_typing_rules.proofs.Verdicts.{Promises, passing_promises, needs_promises, anything_promised, later_promises, Extends, extends_append}
 use Rattle.region_typing_rules.proofs.Known.{IsKnown, IsClosed, base_known}
-use Rattle.region_typing_rules.proofs.Knowledge.{IsTrusted, IsTainted, IsObject, KnowsFile}
+use Rattle.region_typing_rules.proofs.Knowledge.{IsTrusted, IsTainted, IsVariable, KnowsFile}
 use Rattle.region_typing_rules.proofs.FlowSizes.{told_size, assigned_size, settling_size, outside_size, others_size}
 
 -- what stands at file level stays, and so do the result and the loop; locals are added, which are scalars
@@ -92,7 +92,7 @@ file_known g a b h k =
       closed = h.closed k.closed;
       few_members = subst (λ x. (n : ℕ) → length (members_of x n) ≤ 64) h.structs k.few_members;
       scalar_members = subst (λ x. (n : ℕ) → AllByRecursion (λ (m : Member). IsScalar m.ctype) (members_of x n)) h.structs k.scalar_members;
-      variables = subst (λ vs. (n : ℕ) (v : Variable) → slice_get vs n ≡ Some v → IsObject g v.type n) h.variables k.variables;
+      variables = subst (λ vs. (n : ℕ) (v : FileVariable) → slice_get vs n ≡ Some v → IsVariable g v.type v.length n) h.variables k.variables;
       trusted = subst (λ fs. (name : ℕ) (f : Signature) → function_named fs name ≡ Some f → is_import f ≡ false → IsTrusted g (side_number false fs f.name 0) f) h.functions k.trusted;
       tainted = subst (λ fs. (name : ℕ) (f : Signature) → function_named fs name ≡ Some f → is_import f ≡ true → IsTainted g (side_number true fs f.name 0) f) h.functions k.tainted;
     }

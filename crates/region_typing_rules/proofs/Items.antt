@@ -1,54 +1,52 @@
--- Items that break no rule lead from a walk as it should be to another one.
-use Rattle.std.proofs.Common.{◌≡◌, ℕ, suc, ◌+◌, ◌*◌, ◌<◌, ◌≤◌, Bool, true, false, List, [], ◌∷◌, ◌++◌, map, take, length, Option, Some, None, refl, sym, ap, ◌∙◌, subst, append_assoc, ⊎_elim, arith}
-use Rattle.std.specs.Prelude.{◌==◌, bytes_eq, nat_lt, nat_le, not, ◌&&◌, ◌||◌, is_some, is_none}
+-- Functions, and items that break no rule, lead from a walk as it should be to another one.
+use Rattle.std.proofs.Common.{◌≡◌, ℕ, suc, ◌+◌, ◌*◌, ◌≤◌, Bool, true, false, List, [], ◌∷◌, ◌++◌, map, take, length, Option, Some, None, refl, sym, ap, ◌∙◌, subst, append_assoc, ⊎_elim, arith}
+use Rattle.std.specs.Prelude.{◌==◌, bytes_eq, nat_lt, not, ◌&&◌, ◌||◌, is_some, is_none}
 use Rattle.std.specs.List.{AllByRecursion, list_all, list_any}
 use Rattle.std.proofs.lemmas.Bool.Decides.{nat_tests}
-use Rattle.std.proofs.lemmas.Bool.{and_parts, or_cases, eqb-true, ltb-true, leb-true}
+use Rattle.std.proofs.lemmas.Bool.{and_parts, or_cases, ltb-true}
 use Rattle.std.proofs.lemmas.List.{length-append, length-map, append-nil}
-use Rattle.ckc_text.specs.declared.place.Span.{Span}
-use Rattle.ckc_text.specs.declared.code.Code.TheVariants.{E08, E10, E13, E15, E27}
+use Rattle.ckc_text.specs.declared.code.Code.TheVariants.{E08, E10, E13, E15}
 use Rattle.ckc_tree.specs.declared.item.FunctionKind.{FunctionKind}
 use Rattle.ckc_tree.specs.declared.item.FunctionKind.TheVariants as function_kinds
 use Rattle.ckc_tree.specs.declared.item.Region.{Region}
 use Rattle.ckc_tree.specs.Types.{TypeTree, IntType, CharType, StructType, PointerType, type_span}
 use Rattle.ckc_tree.specs.Statements as trees
-use Rattle.ckc_tree.specs.Statements.{Initializer, Declarator}
 use Rattle.ckc_tree.specs.Items as i
-use Rattle.ckc_names_rules.specs.declared.given.Given.{Given}
 use Rattle.ckc_names_rules.specs.Given as names
 use Rattle.ckc_names_rules.specs.Naming as naming
 use Rattle.ckc_names_rules.specs.Naming.{is_int_type, is_int, takes_nothing, is_main_function, is_main}
 use Rattle.built_forms.specs.Built.{is_number_type, is_number_result, is_number_parameter, built_parameters, built_of_kind, built_function, built_item}
 use Rattle.ckc_tree.specs.Items.{Item}
 use Rattle.ckc_tree.specs.Heights.{◌beside◌, statements_reach, optional_bounds_reach, result_reach, parameters_reach, optional_body_reach, item_reach, items_reach}
-use Rattle.flat_bytes.specs.Blocks.{rounded_up}
-use Rattle.pointer_modes.specs.Layout.{size_of}
-use Rattle.pointer_modes.specs.Types.{CType, Int, Char, Struct, Pointer, Member, Structure}
-use Rattle.ckc_core.specs.Programs.{Initial}
+use Rattle.pointer_modes.specs.Types.{CType, Int, Structure}
 use Rattle.ckc_core.specs.Core as core
-use Rattle.ckc_core.specs.States.{shape, object_block}
 use Rattle.ckc_core.specs.Stacks.{statements_stack}
-use Rattle.region_typing_rules.specs.Verdicts.{Verdict, Passes, Stops, passing, meant, picked}
-use Rattle.region_typing_rules.specs.Scopes.{Scope, Signature, Variable, struct_named, function_named}
+use Rattle.region_typing_rules.specs.Verdicts.{Verdict, Passes, Stops, passing, picked}
+use Rattle.region_typing_rules.specs.Scopes.{Scope, Signature, Variable, function_named}
 use Rattle.region_typing_rules.specs.Types.{base_type, without_stars, type_named}
-use Rattle.region_typing_rules.specs.Expressions.{Places, Typed, typed, is_import, is_tainted}
+use Rattle.region_typing_rules.specs.Expressions.{Places, is_import, is_tainted}
 use Rattle.region_typing_rules.specs.Statements.{statements, with_local, is_unchecked}
 use Rattle.bounds_flow.specs.Flows.{at_entry}
 use Rattle.region_typing_rules.specs.Knowing.{all_declared}
 use Rattle.region_typing_rules.specs.Items as items
-use Rattle.region_typing_rules.specs.Items.{Walk, in_checked_region, is_struct, member_types, scalar_members, with_struct, member_names, signed_constant, structure, Walked, initializer, object_cells, with_variable, WalkedVariable, written_size, few_bytes, room_for, room_for_first, variables, with_objects, global, listed, parameter_types, result_type, with_function, with_parameters, limited, variables_in, inside, core_function, function_body, is_defined, agrees, all_scalar, scalar_result, function_rules, signature_of, function, item}
-use Rattle.region_typing_rules.specs.Typed.{Frame, HasRow, IsScalar, IsScalarResult, AreStatements, IsNumberResult}
-use Rattle.region_typing_rules.specs.Lowerable.{cells_size, objects_size, IsRoomy}
-use Rattle.region_typing_rules.proofs.Verdicts.{Promises, passing_promises, needs_promises, anything_promised, promised_so, both_promise, later_promises, all_promised, Extends, extends_append}
-use Rattle.region_typing_rules.proofs.Known.{IsKnown, IsKnownResult, known_later, all_so, of_members, with_struct_closed, without_known, base_known, type_known}
+use Rattle.region_typing_rules.specs.Items.{Walk, scalar_members, structure, variables, global, listed, parameter_types, result_type, with_function, with_parameters, variables_in, inside, core_function, function_body, is_defined, agrees, all_scalar, scalar_result, function_rules, signature_of, function, item}
+use Rattle.region_typing_rules.specs.Typed.{Frame, IsScalar, IsScalarResult, AreStatements, IsNumberResult}
+use Rattle.region_typing_rules.proofs.Verdicts.{Promises, passing_promises, needs_promises, anything_promised, promised_so, both_promise, later_promises, all_promised, Extends}
+use Rattle.region_typing_rules.proofs.Known.{IsKnown, IsKnownResult, without_known, base_known, type_known}
 use Rattle.region_typing_rules.proofs.Knowledge.{IsNumberType, KnowsFile}
 use Rattle.region_typing_rules.proofs.Growth.{Grows, stays, grows_further, file_known, local_grows, statements_grow, GrowsTo}
-use Rattle.region_typing_rules.proofs.Statements.{statements_promise}
 use Rattle.region_typing_rules.proofs.Stacks.{beside_first, beside_second, around_higher, HasFew}
 use Rattle.region_typing_rules.proofs.StatementStacks.{HaveFew, statements_low}
-use Rattle.region_typing_rules.proofs.Layouts.{ConstantFits, IsStart, AreCellsOf, IsWalked, cells_row, whole_size, object_promises, constant_promises}
 use Rattle.region_typing_rules.proofs.Signatures.{named_further, named_last, side_further, Agrees, agrees_equal, scalars_all, result_scalar, IsDeclared}
-use Rattle.region_typing_rules.proofs.Walks.{FileGrows, file_stays, file_further, AreSettled, IsBody, IsWell, settled_later, bodies_later, all_append}
+use Rattle.region_typing_rules.specs.KnownIsSo.{IsSo, IsWalk}
+use Rattle.region_typing_rules.proofs.Sound.{AreSound, statements_sound}
+use Rattle.region_typing_rules.proofs.Soundness.{EndsAs, runs_further, types_held}
+use Rattle.region_typing_rules.proofs.Entries.{inside_entry}
+use Rattle.region_typing_rules.proofs.Safe.{setting_of}
+use Rattle.ckc_core.specs.Meaning.{effects, knot}
+use Rattle.ckc_core.specs.States.{shapes}
+use Rattle.region_typing_rules.proofs.Walks.{FileGrows, file_stays, file_further, AreSettled, IsBody, IsWell, bodies_later, all_append}
+use Rattle.region_typing_rules.proofs.Objects.{Follows, region_promises, structure_promises, global_promises}
 
 -- what is so of `main`
 record MainParts (d : i.Function) : Type 0 where
@@ -76,281 +74,6 @@ IsNamedMain entry (i.GlobalItem d) = Unit {0}
 IsNamedMain entry (i.FunctionItem d) = is_main_function d ≡ true → d.name.number ≡ entry
 
 module _ (height entry : ℕ) where
-  -- a walk as it should be behind another one
-  pub record Follows (a b : Walk) : Type 0 where
-    pub well : IsWell height b
-    pub settled : AreSettled b.scope.structs b.scope.variables b.objects
-    pub grows : FileGrows a.scope b.scope
-
-  -- the region of an item is checked
-  region_promises : (P : Walk → Type 0) (s : Scope) (span : Span) (w : Walk) → P w → Promises P (in_checked_region s span w)
-  region_promises P s span w h = needs_promises P (not s.is_off) E15 span (Passes w) (λ on. h)
-
-  -- ---- structs
-
-  few_promised : (g : Scope) (members : List i.Member) (before : List Member) → length before ≤ 64 → Promises (λ (ms : List Member). length ms ≤ 64) (member_types g members before)
-  few_promised g [] before few = few
-  few_promised g (m ∷ members) before few =
-      needs_promises (λ (ms : List Member). length ms ≤ 64) (nat_lt (length before) 64) E08 (type_span m.type.base) _
-      (λ low. passing_promises (λ (t : CType). Unit {0}) (λ (ms : List Member). length ms ≤ 64) (type_named g m.type) _ (anything_promised (type_named g m.type))
-      (λ t _. few_promised g members (before ++ record { name = m.name.name; ctype = t; span = m.span } ∷ []) (let below = ltb-true (length before) 64 low in let new : Member = record { name = m.name.name; ctype = t; span = m.span } in omega (arith, length-append before (new ∷ [])))))
-
-  members_known : (g : Scope) → length g.tags ≤ length g.structs → (members : List i.Member) (before : List Member) → AllByRecursion (λ (m : Member). IsKnown g.structs m.ctype) before → Promises (AllByRecursion (λ (m : Member). IsKnown g.structs m.ctype)) (member_types g members before)
-  members_known g tagged [] before all = all
-  members_known g tagged (m ∷ members) before all =
-      let known = λ (x : Member). IsKnown g.structs x.ctype in
-      needs_promises (AllByRecursion known) (nat_lt (length before) 64) E08 (type_span m.type.base) _
-      (λ low. passing_promises (IsKnown g.structs) (AllByRecursion known) (type_named g m.type) _ (type_known g tagged m.type)
-      (λ t h. members_known g tagged members (before ++ record { name = m.name.name; ctype = t; span = m.span } ∷ []) (all_append known before (record { name = m.name.name; ctype = t; span = m.span }) all h)))
-
-  no_struct : (t : CType) → not (is_struct t) ≡ true → IsScalar t
-  no_struct Int h = refl
-  no_struct Char h = refl
-  no_struct (Struct n) h = absurd (cc)
-  no_struct (Pointer m k t) h = refl
-
-  scalars_promised : {A : Type 0} (Q : A → Type 0) (members : List Member) (next : Verdict A) → (AllByRecursion (λ (m : Member). IsScalar m.ctype) members → Promises Q next) → Promises Q (scalar_members members next)
-  scalars_promised Q [] next h = h tt
-  scalars_promised Q (m ∷ members) next h = needs_promises Q (not (is_struct m.ctype)) E27 m.span (scalar_members members next) (λ one. scalars_promised Q members next (λ all. h (no_struct m.ctype one, all)))
-
-  -- one struct more
-  with_struct_follows : (w : Walk) (tag : ℕ) (names : List ℕ) (tainted : Bool) (members : List Member) → IsWell height w → AreSettled w.scope.structs w.scope.variables w.objects → length members ≤ 64 → AllByRecursion (λ (m : Member). IsScalar m.ctype) members → AllByRecursion (λ (m : Member). IsKnown (with_struct tag names tainted members w.scope).structs m.ctype) members → Follows w (record w { scope = with_struct tag names tainted members w.scope })
-  with_struct_follows w tag names tainted members well settled few scalars known =
-      let new : Structure = record { tainted = tainted; members = members } in
-      let ext = extends_append w.scope.structs (new ∷ []) in
-      let after = with_struct tag names tainted members w.scope in
-      let grows : FileGrows w.scope after = record { structs = ext; variables = λ k x h. h; functions = λ name f h. h; numbers = λ side name f h. refl } in
-      record {
-        well = record {
-          closed = with_struct_closed w.scope tag names tainted members known well.closed;
-          few = of_members (λ ms. length ms ≤ 64) (omega arith) w.scope.structs new well.few few;
-          scalars = of_members (AllByRecursion (λ (m : Member). IsScalar m.ctype)) tt w.scope.structs new well.scalars scalars;
-          start = well.start;
-          declared = well.declared;
-          bodies = bodies_later height w.scope after w.bodies well.closed grows well.bodies;
-          roomy = well.roomy;
-          bytes = well.bytes;
-          room = well.room;
-        };
-        settled = settled_later w.scope.structs (w.scope.structs ++ new ∷ []) w.scope.variables w.objects ext settled;
-        grows = grows;
-      }
-
-  -- a struct with its members, or with none while these are walked
-  abbrev with_members : i.Structure → List Member → Structure
-  with_members d members = record { tainted = d.tainted; members = members }
-
-  structure_promises : (w : Walk) (d : i.Structure) → IsWell height w → AreSettled w.scope.structs w.scope.variables w.objects → Promises (Follows w) (structure w d)
-  structure_promises w d well settled =
-      let inside = with_struct d.tag.number (member_names d.members) d.tainted [] w.scope in
-      needs_promises (Follows w) (nat_lt (length w.scope.structs) 4096) E08 d.span _
-      (λ low. passing_promises (λ (ms : List Member). (length ms ≤ 64) × AllByRecursion (λ (m : Member). IsKnown inside.structs m.ctype) ms) (Follows w) (member_types inside d.members []) _
-      (both_promise (λ (ms : List Member). length ms ≤ 64) (AllByRecursion (λ (m : Member). IsKnown inside.structs m.ctype)) (member_types inside d.members []) (few_promised inside d.members [] (omega arith)) (members_known inside tagged d.members [] tt))
-      (λ members h. scalars_promised (Follows w) members _
-      (λ scalars. region_promises (Follows w) w.scope d.span _ (with_struct_follows w d.tag.number (member_names d.members) d.tainted members well settled h.0 scalars (later members h.1)))))
-    where
-      tagged : length (w.scope.tags ++ d.tag.number ∷ []) ≤ length (w.scope.structs ++ with_members d [] ∷ [])
-      tagged = omega (arith, well.closed.tagged, length-append w.scope.tags (d.tag.number ∷ []), length-append w.scope.structs (with_members d [] ∷ []))
-
-      -- a struct is known as well by its members as without them
-      later : (members : List Member) → AllByRecursion (λ (m : Member). IsKnown (w.scope.structs ++ with_members d [] ∷ []) m.ctype) members → AllByRecursion (λ (m : Member). IsKnown (w.scope.structs ++ with_members d members ∷ []) m.ctype) members
-      later members all =
-          let longer : length (w.scope.structs ++ with_members d [] ∷ []) ≤ length (w.scope.structs ++ with_members d members ∷ []) = omega (arith, length-append w.scope.structs (with_members d [] ∷ []), length-append w.scope.structs (with_members d members ∷ [])) in
-          all_so (λ (m : Member). IsKnown (w.scope.structs ++ with_members d [] ∷ []) m.ctype) (λ (m : Member). IsKnown (w.scope.structs ++ with_members d members ∷ []) m.ctype) (λ m. known_later (w.scope.structs ++ with_members d [] ∷ []) (w.scope.structs ++ with_members d members ∷ []) m.ctype longer) members all
-
-  -- ---- file-level variables
-
-  initializer_promises : (at : Places) (s : Scope) (o : Option Initializer) → Promises IsWalked (initializer at s o)
-  initializer_promises at s None = tt
-  initializer_promises at s (Some (trees.Value value)) = passing_promises (λ (t : Typed). (given : Given) → ConstantFits (signed_constant given value)) IsWalked (typed at s value) _
-      (all_promised (λ (given : Given) (t : Typed). ConstantFits (signed_constant given value)) (typed at s value) (λ given. constant_promises given at s value)) (λ t h. h)
-  initializer_promises at s (Some (trees.Constants constants span)) = tt
-
-  -- variables that wait for their cells
-  abbrev AreWaiting : List Variable → List WalkedVariable → Type 0
-  AreWaiting [] [] = Unit {0}
-  AreWaiting [] (x ∷ walked) = ⊥
-  AreWaiting (v ∷ vs) [] = ⊥
-  AreWaiting (v ∷ vs) (x ∷ walked) = (v.type ≡ x.type) × IsWalked x.initial × AreWaiting vs walked
-
-  waiting_append : (vs : List Variable) (walked : List WalkedVariable) (v : Variable) (x : WalkedVariable) → AreWaiting vs walked → v.type ≡ x.type → IsWalked x.initial → AreWaiting (vs ++ v ∷ []) (walked ++ x ∷ [])
-  waiting_append [] [] v x h type initial = (type, initial, tt)
-  waiting_append [] (y ∷ walked) v x h type initial = absurd h
-  waiting_append (u ∷ vs) [] v x h type initial = absurd h
-  waiting_append (u ∷ vs) (y ∷ walked) v x h type initial = (h.0, h.1, waiting_append vs walked v x h.2 type initial)
-
-  -- the bytes that they will take with their gaps
-  abbrev waiting_size : List Structure → List Variable → ℕ
-  waiting_size structs [] = 0
-  waiting_size structs (v ∷ vs) = rounded_up (size_of structs v.type) + 16 + waiting_size structs vs
-
-  waiting_more : (structs : List Structure) (vs : List Variable) (v : Variable) → waiting_size structs (vs ++ v ∷ []) ≡ waiting_size structs vs + (rounded_up (size_of structs v.type) + 16)
-  waiting_more structs [] v = omega arith
-  waiting_more structs (u ∷ vs) v = omega (arith, waiting_more structs vs v)
-
-  objects_more : (objects : List (List Initial)) (cells : List Initial) → objects_size (objects ++ cells ∷ []) ≡ objects_size objects + (rounded_up (cells_size cells) + 16)
-  objects_more [] cells = omega arith
-  objects_more (o ∷ objects) cells = omega (arith, objects_more objects cells)
-
-  -- a walk in which some variables wait
-  record Waits (a : Walk) (x : Walk × List WalkedVariable) : Type 0 where
-    settled_ones : List Variable
-    waiting_ones : List Variable
-    all : x.0.scope.variables ≡ settled_ones ++ waiting_ones
-    well : IsWell height x.0
-    settled : AreSettled x.0.scope.structs settled_ones x.0.objects
-    waiting : AreWaiting waiting_ones x.1
-    grows : FileGrows a.scope x.0.scope
-    bytes : objects_size x.0.objects + waiting_size x.0.scope.structs waiting_ones ≤ x.0.taken
-
-  -- the bytes of a type as it is written are those that it has
-  abbrev IsSized : Scope → TypeTree → CType → Type 0
-  IsSized g base type = (size : ℕ) → written_size g base 0 ≡ Passes size → size ≡ size_of g.structs type
-
-  base_sized : (g : Scope) (base : TypeTree) → Promises (IsSized g base) (base_type g base)
-  base_sized g (IntType span) = λ size h. let same : size_of g.structs Int ≡ size = cc in sym same
-  base_sized g (CharType span) = λ size h. let same : size_of g.structs Char ≡ size = cc in sym same
-  base_sized g (PointerType word element stars span) =
-      let target = passing (base_type g element) (without_stars element stars) in
-      passing_promises (λ (t : CType). Unit {0}) (IsSized g (PointerType word element stars span)) target _ (anything_promised target) (λ t _ size h. let same : 4 ≡ size = cc in sym same)
-  base_sized g (StructType tag span) = by (struct_named g tag.number) refl
-    where
-      by : (o : Option ℕ) → struct_named g tag.number ≡ o → Promises (IsSized g (StructType tag span)) (passing (meant o) (λ n. Passes (Struct n)))
-      by None e = tt
-      by (Some n) e = λ size h. let h' = rw e at h in let same : size_of g.structs (Struct n) ≡ size = cc in sym same
-
-  sized_later : (g : Scope) (name : ℕ) (t : CType) (base : TypeTree) (type : CType) → IsSized g base type → IsSized (with_variable name t g) base type
-  sized_later g name t (IntType span) type h = h
-  sized_later g name t (CharType span) type h = h
-  sized_later g name t (StructType tag span) type h = h
-  sized_later g name t (PointerType word element stars span) type h = h
-
-  -- a variable more has room, by its type as it is written
-  record HasRoom (w : Walk) (base : TypeTree) (stars taken : ℕ) : Type 0 where
-    size : ℕ
-    written : written_size w.scope base stars ≡ Passes size
-    bytes : taken ≡ w.taken + (rounded_up size + 16)
-    within : taken ≤ 32768
-
-  room_promises : (w : Walk) (base : TypeTree) (span : Span) (d : Declarator) → Promises (HasRoom w base d.stars) (room_for w base span d)
-  room_promises w base span d = needs_promises (HasRoom w base d.stars) (nat_lt (length w.scope.variables) 4096) E08 span _ (λ few. by (written_size w.scope base d.stars) refl)
-    where
-      by : (v : Verdict ℕ) → written_size w.scope base d.stars ≡ v → Promises (HasRoom w base d.stars) (passing v (λ size. few_bytes (w.taken + (rounded_up size + 16)) span))
-      by (Passes size) e =
-          let taken = w.taken + (rounded_up size + 16) in
-          needs_promises (HasRoom w base d.stars) (nat_le taken 32768) E08 span (Passes taken) (λ room. record { size = size; written = e; bytes = refl; within = leb-true taken 32768 room })
-      by (Stops stop) e = tt
-
-  -- a type behind which no stars stand
-  starless : (base : TypeTree) (stars : ℕ) (type : CType) → Promises (λ (t : CType). (stars ≡ 0) × (t ≡ type)) (without_stars base stars type)
-  starless base stars type = needs_promises (λ (t : CType). (stars ≡ 0) × (t ≡ type)) (stars == 0) E15 (type_span base) (Passes type) (λ none. (eqb-true stars 0 none, refl))
-
-  taken_by : (w : Walk) (base : TypeTree) (type t : CType) (stars taken : ℕ) → IsSized w.scope base type → HasRoom w base stars taken → stars ≡ 0 → t ≡ type → taken ≡ w.taken + (rounded_up (size_of w.scope.structs t) + 16)
-  taken_by w base type t stars taken sized room none same =
-      let size = sized room.size (subst (λ n. written_size w.scope base n ≡ Passes room.size) none room.written) ∙ ap (size_of w.scope.structs) (sym same) in
-      room.bytes ∙ ap (λ n. w.taken + (rounded_up n + 16)) size
-
-  with_variable_waits : (a w : Walk) (walked : List WalkedVariable) (name : ℕ) (t : CType) (initial : Walked) (taken : ℕ) → IsKnown w.scope.structs t → taken ≡ w.taken + (rounded_up (size_of w.scope.structs t) + 16) → taken ≤ 32768 → Waits a (w, walked) → IsWalked initial → Waits a (record w { scope = with_variable name t w.scope; taken = taken }, walked ++ record { type = t; initial = initial } ∷ [])
-  with_variable_waits a w walked name t initial taken known bytes within h is =
-      let v : Variable = record { name = name; type = t } in
-      let c = h.well.closed in
-      let after = with_variable name t w.scope in
-      let more : FileGrows w.scope after = record { structs = λ k x e. e; variables = extends_append w.scope.variables (v ∷ []); functions = λ n f e. e; numbers = λ side n f e. refl } in
-      record {
-        settled_ones = h.settled_ones;
-        waiting_ones = h.waiting_ones ++ v ∷ [];
-        all = ap (λ vs. vs ++ v ∷ []) h.all ∙ append_assoc h.settled_ones h.waiting_ones (v ∷ []);
-        well = record {
-          closed = record { tagged = c.tagged; of_members = c.of_members; of_functions = c.of_functions; of_variables = all_append (λ (x : Variable). IsKnown w.scope.structs x.type) w.scope.variables v c.of_variables known; of_locals = c.of_locals };
-          few = h.well.few;
-          scalars = h.well.scalars;
-          start = h.well.start;
-          declared = h.well.declared;
-          bodies = bodies_later height w.scope after w.bodies h.well.closed more h.well.bodies;
-          roomy = h.well.roomy;
-          bytes = omega (arith, h.well.bytes, bytes);
-          room = within;
-        };
-        settled = h.settled;
-        waiting = waiting_append h.waiting_ones walked v (record { type = t; initial = initial }) h.waiting refl is;
-        grows = file_further a.scope w.scope after h.grows more;
-        bytes = omega (arith, h.bytes, bytes, waiting_more w.scope.structs h.waiting_ones v);
-      }
-
-  variables_promise : (at : Places) (a w : Walk) (base : TypeTree) (type : CType) (span : Span) (ds : List Declarator) (walked : List WalkedVariable) → IsKnown w.scope.structs type → IsSized w.scope base type → Waits a (w, walked) → Promises (Waits a) (variables at w base type span ds walked)
-  variables_promise at a w base type span [] walked known sized h = h
-  variables_promise at a w base type span (d ∷ ds) walked known sized h =
-      passing_promises (HasRoom w base d.stars) (Waits a) (room_for w base span d) _ (room_promises w base span d)
-      (λ taken room. passing_promises (λ (t : CType). (d.stars ≡ 0) × (t ≡ type)) (Waits a) (without_stars base d.stars type) _ (starless base d.stars type)
-      (λ t plain. passing_promises IsWalked (Waits a) (initializer at (with_variable d.name.number t w.scope) d.initializer) _ (initializer_promises at (with_variable d.name.number t w.scope) d.initializer)
-      (λ initial is. variables_promise at a (record w { scope = with_variable d.name.number t w.scope; taken = taken }) base type span ds (walked ++ record { type = t; initial = initial } ∷ []) known (sized_later w.scope d.name.number t base type sized)
-      (with_variable_waits a w walked d.name.number t initial taken (subst (IsKnown w.scope.structs) (sym plain.1) known) (taken_by w base type t d.stars taken sized room plain.0 plain.1) room.within h is))))
-
-  settled_append : (structs : List Structure) (vs : List Variable) (objects : List (List Initial)) (v : Variable) (cells : List Initial) → AreSettled structs vs objects → HasRow structs (shape (object_block cells)) 0 v.type → AreSettled structs (vs ++ v ∷ []) (objects ++ cells ∷ [])
-  settled_append structs [] [] v cells h stands = (stands, tt)
-  settled_append structs [] (o ∷ objects) v cells h stands = absurd h
-  settled_append structs (u ∷ vs) [] v cells h stands = absurd h
-  settled_append structs (u ∷ vs) (o ∷ objects) v cells h stands = (h.0, settled_append structs vs objects v cells h.1 stands)
-
-  -- the cells of the first one that waits
-  with_cells : (a w : Walk) (x : WalkedVariable) (walked : List WalkedVariable) (cells : List Initial) → Waits a (w, x ∷ walked) → AreCellsOf w.scope.structs x.type cells → 0 < length cells → Waits a (record w { objects = w.objects ++ cells ∷ [] }, walked)
-  with_cells a w x walked cells h is some = by h.waiting_ones h.all h.waiting h.bytes
-    where
-      row : HasRow w.scope.structs (shape (object_block cells)) 0 x.type
-      row = subst (λ c. HasRow w.scope.structs (shape (object_block c)) 0 x.type) (sym is.same) (cells_row w.scope.structs x.type is.number (subst (λ (c : List Initial). 0 < length c) is.same some))
-
-      size : cells_size cells ≡ size_of w.scope.structs x.type
-      size = ap cells_size is.same ∙ whole_size w.scope.structs x.type is.number (subst (λ (c : List Initial). 0 < length c) is.same some)
-
-      taken : (v : Variable) → v.type ≡ x.type → objects_size (w.objects ++ cells ∷ []) ≡ objects_size w.objects + (rounded_up (size_of w.scope.structs v.type) + 16)
-      taken v type = objects_more w.objects cells ∙ ap (λ n. objects_size w.objects + (rounded_up n + 16)) (size ∙ ap (size_of w.scope.structs) (sym type))
-
-      by : (vs : List Variable) → w.scope.variables ≡ h.settled_ones ++ vs → AreWaiting vs (x ∷ walked) → objects_size w.objects + waiting_size w.scope.structs vs ≤ w.taken → Waits a (record w { objects = w.objects ++ cells ∷ [] }, walked)
-      by [] all waiting bytes = absurd waiting
-      by (v ∷ vs) all waiting bytes = record {
-        settled_ones = h.settled_ones ++ v ∷ [];
-        waiting_ones = vs;
-        all = all ∙ sym (append_assoc h.settled_ones (v ∷ []) vs);
-        well = record { closed = h.well.closed; few = h.well.few; scalars = h.well.scalars; start = all_append (AllByRecursion IsStart) w.objects cells h.well.start is.start; declared = h.well.declared; bodies = h.well.bodies; roomy = all_append (λ (o : List Initial). AllByRecursion IsRoomy o × (0 < length o)) w.objects cells h.well.roomy (is.roomy, some); bytes = omega (arith, bytes, taken v waiting.0); room = h.well.room };
-        settled = settled_append w.scope.structs h.settled_ones w.objects v cells h.settled (subst (λ t. HasRow w.scope.structs (shape (object_block cells)) 0 t) (sym waiting.0) row);
-        waiting = waiting.2;
-        grows = h.grows;
-        bytes = omega (arith, bytes, taken v waiting.0);
-      }
-
-  -- none waits any more
-  none_waits : (a w : Walk) → Waits a (w, []) → Follows a w
-  none_waits a w h = by h.waiting_ones h.all h.waiting
-    where
-      by : (vs : List Variable) → w.scope.variables ≡ h.settled_ones ++ vs → AreWaiting vs [] → Follows a w
-      by (v ∷ vs) all waiting = absurd waiting
-      by [] all waiting =
-          let same : h.settled_ones ≡ w.scope.variables = sym (all ∙ append-nil h.settled_ones) in
-          record { well = h.well; settled = subst (λ vs. AreSettled w.scope.structs vs w.objects) same h.settled; grows = h.grows }
-
-  with_objects_promises : (a w : Walk) (span : Span) (walked : List WalkedVariable) → Waits a (w, walked) → Promises (Follows a) (with_objects w span walked)
-  with_objects_promises a w span [] h = none_waits a w h
-  with_objects_promises a w span (x ∷ walked) h =
-      passing_promises (AreCellsOf w.scope.structs x.type) (Follows a) (object_cells w.scope.given w.scope.structs x.type x.initial span) _ (object_promises w.scope.given w.scope.structs x.type x.initial span h.well.scalars (first_walked h.waiting_ones h.waiting))
-      (λ cells is. needs_promises (Follows a) (nat_lt 0 (length cells)) E10 span _
-      (λ some. with_objects_promises a (record w { objects = w.objects ++ cells ∷ [] }) span walked (with_cells a w x walked cells h is (ltb-true 0 (length cells) some))))
-    where
-      first_walked : (vs : List Variable) → AreWaiting vs (x ∷ walked) → IsWalked x.initial
-      first_walked [] waiting = absurd waiting
-      first_walked (v ∷ vs) waiting = waiting.1
-
-  nothing_waits : (w : Walk) → IsWell height w → AreSettled w.scope.structs w.scope.variables w.objects → Waits w (w, [])
-  nothing_waits w well settled = record { settled_ones = w.scope.variables; waiting_ones = []; all = sym (append-nil w.scope.variables); well = well; settled = settled; waiting = tt; grows = file_stays w.scope; bytes = omega (arith, well.bytes) }
-
-  global_promises : (at : Places) (w : Walk) (d : i.Global) → IsWell height w → AreSettled w.scope.structs w.scope.variables w.objects → Promises (Follows w) (global at w d)
-  global_promises at w d well settled =
-      passing_promises (λ (n : ℕ). Unit {0}) (Follows w) (room_for_first w d d.declarators) _ (anything_promised (room_for_first w d d.declarators))
-      (λ taken _. passing_promises (λ (t : CType). IsSized w.scope d.base t × IsKnown w.scope.structs t) (Follows w) (base_type w.scope d.base) _
-      (both_promise (IsSized w.scope d.base) (IsKnown w.scope.structs) (base_type w.scope d.base) (base_sized w.scope d.base) (base_known w.scope well.closed.tagged d.base))
-      (λ type is. passing_promises (Waits w) (Follows w) (variables at w d.base type d.span d.declarators []) _ (variables_promise at w w d.base type d.span d.declarators [] is.1 is.0 (nothing_waits w well settled))
-      (λ x h. passing_promises (Follows w) (Follows w) (with_objects x.0 d.span x.1) _ (with_objects_promises w x.0 d.span x.1 h)
-      (λ v follows. region_promises (Follows w) v.scope d.span v follows))))
-
   -- ---- functions
 
   -- a type of the tree that is a number's
@@ -533,18 +256,26 @@ module _ (height entry : ℕ) where
     frame : Frame
     types : List CType
     scalar : AllByRecursion IsScalar types
+    vars : ℕ
+    budget : ℕ
+    sandbox : ℕ
+    trusted : ℕ
     known : KnowsFile frame s
+    walk : IsWalk vars s
+
+  abbrev IsSoundBody : (s : Scope) → Premises s → core.Statements × Scope → Type 0
+  IsSoundBody s p x = AreSound p.frame p.types p.scalar p.vars p.budget p.sandbox p.trusted s x
 
   abbrev IsWalkedBody : Scope → core.Statements × Scope → Type 0
-  IsWalkedBody s x = (statements_stack x.0 ≤ 17 * height) × GrowsTo s x × ((p : Premises s) → Extends x.1.locals p.types → AreStatements p.frame p.types s.result s.in_loop x.0)
+  IsWalkedBody s x = (statements_stack x.0 ≤ 17 * height) × GrowsTo s x × ((p : Premises s) → IsSoundBody s p x)
 
   body_walked : (at : Places) (s : Scope) (body : trees.Statements) → HaveFew s → (statements_reach body).height ≤ height → Promises (IsWalkedBody s) (statements at s body)
   body_walked at s body few low =
-      promised_so (λ (x : core.Statements × Scope). (statements_stack x.0 ≤ 17 * height) × (GrowsTo s x × ((p : Premises s) → Extends x.1.locals p.types → AreStatements p.frame p.types s.result s.in_loop x.0))) (IsWalkedBody s) (statements at s body)
-      (both_promise (λ (x : core.Statements × Scope). statements_stack x.0 ≤ 17 * height) (λ (x : core.Statements × Scope). GrowsTo s x × ((p : Premises s) → Extends x.1.locals p.types → AreStatements p.frame p.types s.result s.in_loop x.0)) (statements at s body)
+      promised_so (λ (x : core.Statements × Scope). (statements_stack x.0 ≤ 17 * height) × (GrowsTo s x × ((p : Premises s) → IsSoundBody s p x))) (IsWalkedBody s) (statements at s body)
+      (both_promise (λ (x : core.Statements × Scope). statements_stack x.0 ≤ 17 * height) (λ (x : core.Statements × Scope). GrowsTo s x × ((p : Premises s) → IsSoundBody s p x)) (statements at s body)
       (statements_low at s few body (17 * height) (omega arith)) (
-      both_promise (GrowsTo s) (λ (x : core.Statements × Scope). (p : Premises s) → Extends x.1.locals p.types → AreStatements p.frame p.types s.result s.in_loop x.0) (statements at s body) (statements_grow at s body)
-      (all_promised (λ (p : Premises s) (x : core.Statements × Scope). Extends x.1.locals p.types → AreStatements p.frame p.types s.result s.in_loop x.0) (statements at s body) (λ p. statements_promise p.frame p.types p.scalar at s p.known body))))
+      both_promise (GrowsTo s) (λ (x : core.Statements × Scope). (p : Premises s) → IsSoundBody s p x) (statements at s body) (statements_grow at s body)
+      (all_promised (λ (p : Premises s) (x : core.Statements × Scope). IsSoundBody s p x) (statements at s body) (λ p. statements_sound p.frame p.types p.scalar p.vars p.budget p.sandbox p.trusted at s body p.walk p.known))))
       (λ x h. (h.0, h.1.0, h.1.1))
 
   -- a function of a scope that is declared as another one
@@ -569,17 +300,39 @@ module _ (height entry : ℕ) where
         named = known.named;
         parameters = subst (λ n. take n x.1.locals ≡ types) count taken.0 ∙ sym same ∙ sym known.agrees.parameters;
         result = sym known.agrees.result;
-        typed = λ g file. record {
-          parameters = subst (λ n. n ≤ length x.1.locals) count taken.1;
-          locals = locals;
-          result = result;
-          body = subst (λ r. AreStatements g x.1.locals r false x.0) (sym grown.result) (subst (λ l. AreStatements g x.1.locals (inside f ps body s).result l x.0) (sym grown.loop) (walked.2 (record { frame = g; types = x.1.locals; scalar = locals; known = file_inside g f ps body s few all known_types file }) (λ k t e. e)));
+        safe = λ g file. record {
+          typed = record {
+            parameters = subst (λ n. n ≤ length x.1.locals) count taken.1;
+            locals = locals;
+            result = result;
+            body = subst (λ r. AreStatements g x.1.locals r false x.0) (sym grown.result) (subst (λ l. AreStatements g x.1.locals (inside f ps body s).result l x.0) (sym grown.loop) ((walked.2 (premises g file locals 0 0 0)).typed (λ k t e. e)));
+          };
+          runs = λ budget sandbox trusted n knots low u kept.
+              runs_further g budget n low x.1.locals (λ flow t. EndsAs g (inside f ps body s).result (inside f ps body s).in_loop flow t × IsSo g.structs x.1 flow t) (EndsAs g f.result false) (effects true (setting_of g budget sandbox trusted) (knot true (setting_of g budget sandbox trusted) n) x.0 u)
+              ((walked.2 (premises g file locals budget sandbox trusted)).runs (λ k t e. e) n knots low u
+              (record { kept = kept; known = (inside_entry f ps body s few).free g.structs u (types_held g.structs (shapes u.blocks) x.1.locals u.locals kept.locals) }))
+              (λ flow t h. subst (λ r. EndsAs g r false flow t) (sym grown.result) (subst (λ l. EndsAs g (inside f ps body s).result l flow t) (sym grown.loop) h.0));
         };
         few_parameters = few;
         few_locals = few_of (walked.1.few (grown.few (omega arith)));
         low = walked.0;
       }
     where
+      premises : (g : Frame) → KnowsFile g s → AllByRecursion IsScalar x.1.locals → (budget sandbox trusted : ℕ) → Premises (inside f ps body s)
+      premises g file locals budget sandbox trusted =
+          let all : AllByRecursion IsScalar (map (λ (p : Variable). p.type) ps) = subst (AllByRecursion IsScalar) same scalars in
+          record {
+            frame = g;
+            types = x.1.locals;
+            scalar = locals;
+            vars = variables_in (length ps) body;
+            budget = budget;
+            sandbox = sandbox;
+            trusted = trusted;
+            known = file_inside g f ps body s few all known_types file;
+            walk = (inside_entry f ps body s few).walk;
+          }
+
       few_of : length x.1.locals ≤ x.1.flow.vars → length x.1.locals ≤ 256
       few_of h = omega (arith, h, few_variables (length ps) body, walked.1.size, sizes_kept ps (at_start f ps body s))
 
@@ -598,7 +351,7 @@ module _ (height entry : ℕ) where
 
   -- behind an item a walk is as it should be, and `main` is known if it was one
   pub record Passed (w : Walk) (is_main : Bool) (v : Walk) : Type 0 where
-    pub follows : Follows w v
+    pub follows : Follows height w v
     pub main : is_main ≡ true → HasMain v.scope
 
   -- what the rules of a declaration ask
@@ -620,7 +373,7 @@ module _ (height entry : ℕ) where
   module _ (w : Walk) (well : IsWell height w) (settled : AreSettled w.scope.structs w.scope.variables w.objects) where
     -- with a function that is declared, for the first time or again
     record Declares (known : Option Signature) (f : Signature) : Type 0 where
-      follows : Follows w (record w { scope = with_function known f w.scope })
+      follows : Follows height w (record w { scope = with_function known f w.scope })
       is_known : IsKnownAs (with_function known f w.scope) f
 
     declares : (known : Option Signature) (f : Signature) → function_named w.scope.functions f.name ≡ known → IsRuled known f → IsDeclared f → IsKnownResult w.scope.structs f.result → Declares known f
@@ -774,7 +527,7 @@ module _ (height entry : ℕ) where
 
     -- ---- items
 
-    no_main : (v : Verdict Walk) → Promises (Follows w) v → Promises (Passed w false) v
+    no_main : (v : Verdict Walk) → Promises (Follows height w) v → Promises (Passed w false) v
     no_main (Passes v) h = record { follows = h; main = λ e. absurd (cc) }
     no_main (Stops stop) h = tt
 
@@ -800,8 +553,8 @@ module _ (height entry : ℕ) where
       where
         region_grows : (region : Region) → FileGrows w.scope (record w.scope { is_off = items.is_off region })
         region_grows region = record { structs = λ k x h. h; variables = λ k x h. h; functions = λ name f h. h; numbers = λ side name f h. refl }
-    item_promises at all (i.StructureItem d) of_main built low = no_main (structure w d) (structure_promises w d well settled)
-    item_promises at all (i.GlobalItem d) of_main built low = no_main (global at w d) (global_promises at w d well settled)
+    item_promises at all (i.StructureItem d) of_main built low = no_main (structure w d) (structure_promises height w d well settled)
+    item_promises at all (i.GlobalItem d) of_main built low = no_main (global at w d) (global_promises height at w d well settled)
     item_promises at all (i.FunctionItem d) of_main built low = function_promises at all d of_main built (let last = beside_second (result_reach d.result beside parameters_reach d.parameters beside optional_bounds_reach d.bounds) (optional_body_reach d.body) in omega arith)
 
   -- behind one item and others

@@ -15,7 +15,7 @@ use Rattle.region_typing_rules.specs.Scopes.{Scope, Signature, Variable, functio
 use Rattle.region_typing_rules.specs.Expressions.{Places, is_tainted}
 use Rattle.region_typing_rules.specs.Statements.{is_unchecked}
 use Rattle.region_typing_rules.specs.Types.{base_type, without_stars}
-use Rattle.region_typing_rules.specs.Items.{Defined, Walk, Walked, WalkedVariable, in_checked_region, is_struct, member_types, member_names, with_struct, scalar_members, structure, initializer, object_cells, variables, with_variable, room_for, room_for_first, with_objects, global, listed, parameter_types, result_type, with_function, function_body, agrees, all_scalar, scalar_result, is_defined, function_rules, signature_of, function}
+use Rattle.region_typing_rules.specs.Items.{Defined, Walk, Walked, WalkedVariable, in_checked_region, is_struct, member_types, member_names, with_struct, scalar_members, structure, initializer, object_cells, variables, with_variable, length_of, room_for, room_for_first, with_objects, global, listed, parameter_types, result_type, with_function, function_body, agrees, all_scalar, scalar_result, is_defined, function_rules, signature_of, function}
 use Rattle.region_typing_rules.proofs.Verdicts.{Promises, passing_promises, needs_promises}
 
 -- whatever is passed on
@@ -53,13 +53,13 @@ module _ (P : List Signature → List Defined → Type 0) where
   KeepsFirst x = Keeps x.0
 
   abbrev with_one : Walk → Declarator → ℕ → CType → Walk
-  with_one w d taken t = record w { scope = with_variable d.name.number t w.scope; taken = taken }
+  with_one w d taken t = record w { scope = with_variable d.name.number t (length_of d) w.scope; taken = taken }
 
   abbrev behind_initial : Places → Walk → TypeTree → CType → Span → Declarator → List Declarator → List WalkedVariable → ℕ → CType → Walked → Verdict (Walk × List WalkedVariable)
-  behind_initial at w base type span d ds done taken t initial = variables at (with_one w d taken t) base type span ds (done ++ record { type = t; initial = initial } ∷ [])
+  behind_initial at w base type span d ds done taken t initial = variables at (with_one w d taken t) base type span ds (done ++ record { type = t; length = length_of d; initial = initial } ∷ [])
 
   abbrev behind_type : Places → Walk → TypeTree → CType → Span → Declarator → List Declarator → List WalkedVariable → ℕ → CType → Verdict (Walk × List WalkedVariable)
-  behind_type at w base type span d ds done taken t = passing (initializer at (with_variable d.name.number t w.scope) d.initializer) (behind_initial at w base type span d ds done taken t)
+  behind_type at w base type span d ds done taken t = passing (initializer at (with_variable d.name.number t (length_of d) w.scope) d.initializer) (behind_initial at w base type span d ds done taken t)
 
   abbrev behind_room : Places → Walk → TypeTree → CType → Span → Declarator → List Declarator → List WalkedVariable → ℕ → Verdict (Walk × List WalkedVariable)
   behind_room at w base type span d ds done taken = passing (without_stars base d.stars type) (behind_type at w base type span d ds done taken)
@@ -69,8 +69,8 @@ module _ (P : List Signature → List Defined → Type 0) where
   variables_kept at w base type span (d ∷ ds) done h =
       passing_any KeepsFirst (room_for w base span d) (behind_room at w base type span d ds done) (λ taken.
       passing_any KeepsFirst (without_stars base d.stars type) (behind_type at w base type span d ds done taken) (λ t.
-      passing_any KeepsFirst (initializer at (with_variable d.name.number t w.scope) d.initializer) (behind_initial at w base type span d ds done taken t) (λ initial.
-      variables_kept at (with_one w d taken t) base type span ds (done ++ record { type = t; initial = initial } ∷ []) h)))
+      passing_any KeepsFirst (initializer at (with_variable d.name.number t (length_of d) w.scope) d.initializer) (behind_initial at w base type span d ds done taken t) (λ initial.
+      variables_kept at (with_one w d taken t) base type span ds (done ++ record { type = t; length = length_of d; initial = initial } ∷ []) h)))
 
   abbrev behind_cells : Walk → Span → List WalkedVariable → List Initial → Verdict Walk
   behind_cells w span vs cells = needs (nat_lt 0 (length cells)) E10 span (with_objects (record w { objects = w.objects ++ cells ∷ [] }) span vs)
@@ -78,7 +78,7 @@ module _ (P : List Signature → List Defined → Type 0) where
   objects_kept : (w : Walk) (span : Span) (vs : List WalkedVariable) → Keeps w → Promises Keeps (with_objects w span vs)
   objects_kept w span [] h = h
   objects_kept w span (v ∷ vs) h =
-      passing_any Keeps (object_cells w.scope.given w.scope.structs v.type v.initial span) (behind_cells w span vs) (λ cells.
+      passing_any Keeps (object_cells w.scope.given w.scope.structs v.type v.length v.initial span) (behind_cells w span vs) (λ cells.
       needs_promises Keeps (nat_lt 0 (length cells)) E10 span (with_objects (record w { objects = w.objects ++ cells ∷ [] }) span vs) (λ e. objects_kept (record w { objects = w.objects ++ cells ∷ [] }) span vs h))
 
   abbrev behind_objects : i.Global → Walk → Verdict Walk

@@ -1,5 +1,5 @@
 -- What a walk knows of the program that it leads to, and what names stand for there.
-use Rattle.std.proofs.Common.{◌≡◌, ℕ, zero, suc, ◌+◌, ◌≤◌, Bool, true, false, List, [], ◌∷◌, take, length, Option, Some, None, refl, ap, subst, arith}
+use Rattle.std.proofs.Common.{◌≡◌, ℕ, zero, suc, ◌+◌, ◌<◌, ◌≤◌, Bool, true, false, List, [], ◌∷◌, take, length, Option, Some, None, refl, ap, subst, arith}
 use Rattle.std.specs.Prelude.{◌==◌, slice_get, not, ◌&&◌}
 use Rattle.std.proofs.lemmas.Bool.{eqb-true, and_parts}
 use Rattle.std.specs.List.{AllByRecursion}
@@ -10,17 +10,20 @@ use Rattle.pointer_modes.specs.declared.ctype.Mode.TheVariants as modes
 use Rattle.pointer_modes.specs.declared.ctype.Kind.{Kind}
 use Rattle.pointer_modes.specs.declared.ctype.Kind.TheVariants as kinds
 use Rattle.pointer_modes.specs.Types.{CType, Int, Char, Struct, Pointer, Member, Structure, members_of}
-use Rattle.pointer_modes.specs.Layout.{placed_from, member_sizes, cells_of, aligned_up, scalar_size}
+use Rattle.bounds_flow.specs.Conditions.{IsFlow}
+use Rattle.pointer_modes.specs.Layout.{placed_from, member_sizes, sizes_of, end_from, size_of, cells_of, aligned_up, scalar_size}
+use Rattle.pointer_modes.proofs.Layouts.{widths, size_behind}
 use Rattle.ckc_core.specs.Programs.{Initial, Import}
 use Rattle.ckc_core.specs.Core as core
 use Rattle.ckc_core.specs.States.{shape, object_block, same_mode, same_kind, same_type}
 use Rattle.region_typing_rules.specs.Verdicts.{Verdict, meant, picked}
-use Rattle.region_typing_rules.specs.Scopes.{Scope, Signature, Variable, Visible, Named, Local, Object, Nothing, local_if, found_if, local_named, object_named, or_else, null_named, named, function_named}
+use Rattle.region_typing_rules.specs.Scopes.{Scope, Signature, FileVariable, Visible, Named, Local, Object, Array, Nothing, local_if, found_if, local_named, object_of, object_named, or_else, null_named, named, function_named}
 use Rattle.region_typing_rules.specs.Types.{is_number}
 use Rattle.region_typing_rules.specs.Expressions.{Typed, is_checked_argument, without_checked, crossing, is_import, side_number, member_from, offset_among}
-use Rattle.region_typing_rules.specs.Typed.{Frame, slots_from, slots, HasRow, IsNumberResult, IsScalar, IsScalarResult}
+use Rattle.bounds_flow_meaning.specs.Rows.{slots_from, slots, HasRow}
+use Rattle.region_typing_rules.specs.Typed.{Frame, AreRows, IsNumberResult, IsScalar, IsScalarResult}
 use Rattle.region_typing_rules.proofs.Verdicts.{Promises, needs_promises, Extends}
-use Rattle.region_typing_rules.proofs.Known.{IsClosed}
+use Rattle.region_typing_rules.proofs.Known.{IsKnown, IsClosed}
 
 abbrev pub IsNumberType : CType → Type 0
 IsNumberType t = is_number t ≡ true
@@ -48,25 +51,73 @@ pub record IsObject (g : Frame) (type : CType) (number : ℕ) : Type 0 where
   pub found : slice_get g.program.objects number ≡ Some cells
   pub row : HasRow g.structs (shape (object_block cells)) 0 type
 
+-- an array of the program, and as many values of its type in a row
+pub record IsArray (g : Frame) (type : CType) (length number : ℕ) : Type 0 where
+  pub cells : List Initial
+  pub found : slice_get g.program.objects number ≡ Some cells
+  pub some : 0 < length
+  pub few : length ≤ 8192
+  pub rows : AreRows g.structs (shape (object_block cells)) type length
+
+-- a file-level variable of a type, and of so many elements where it is an array
+abbrev pub IsVariable : Frame → CType → Option ℕ → (number : ℕ) → Type 0
+IsVariable g type None number = IsObject g type number
+IsVariable g type (Some length) number = IsArray g type length number
+
 -- the structs, the variables and the functions that are known are those of the program
 pub record KnowsFile (g : Frame) (s : Scope) : Type 0 where
   pub structs : Extends s.structs g.structs
   pub closed : IsClosed s
   pub few_members : (n : ℕ) → length (members_of s.structs n) ≤ 64
   pub scalar_members : (n : ℕ) → AllByRecursion (λ m. IsScalar m.ctype) (members_of s.structs n)
-  pub variables : (k : ℕ) (v : Variable) → slice_get s.variables k ≡ Some v → IsObject g v.type k
+  pub variables : (k : ℕ) (v : FileVariable) → slice_get s.variables k ≡ Some v → IsVariable g v.type v.length k
   pub trusted : (name : ℕ) (f : Signature) → function_named s.functions name ≡ Some f → is_import f ≡ false → IsTrusted g (side_number false s.functions f.name 0) f
   pub tainted : (name : ℕ) (f : Signature) → function_named s.functions name ≡ Some f → is_import f ≡ true → IsTainted g (side_number true s.functions f.name 0) f
 
--- and so are the locals of the function that is walked
+-- and so are the locals of the function that is walked, of each of which its flow speaks
 pub record Knows (g : Frame) (types : List CType) (s : Scope) : Type 0 where
   pub file : KnowsFile g s
+  pub flow : IsFlow s.flow
+  pub few : length s.locals ≤ s.flow.vars
   pub locals : Extends s.locals types
   pub scalar : AllByRecursion IsScalar types
 
+-- ---- sizes
+
+aligned_least : (t : CType) (n : ℕ) → n ≤ aligned_up (scalar_size t) n
+aligned_least Int n = omega arith
+aligned_least Char n = omega arith
+aligned_least (Struct number) n = omega arith
+aligned_least (Pointer m k t) n = omega arith
+
+end_least : (members : List Member) (place : ℕ) → place ≤ end_from place (member_sizes members)
+end_least [] place = omega arith
+end_least (m ∷ members) place = omega (arith, aligned_least m.ctype place, end_least members (aligned_up (scalar_size m.ctype) place + scalar_size m.ctype))
+
+scalar_some : (t : CType) → 0 < scalar_size t
+scalar_some Int = omega arith
+scalar_some Char = omega arith
+scalar_some (Struct number) = omega arith
+scalar_some (Pointer m k t) = omega arith
+
+members_some : (members : List Member) → 0 < length (slots_from members (placed_from 0 (member_sizes members))) → 0 < end_from 0 (member_sizes members)
+members_some [] h = absurd (omega arith)
+members_some (m ∷ members) h = omega (arith, scalar_some m.ctype, end_least members (aligned_up (scalar_size m.ctype) 0 + scalar_size m.ctype))
+
+-- a type that consists of scalars has bytes
+size_some : (structs : List Structure) (t : CType) → 0 < length (slots structs t) → 0 < size_of structs t
+size_some structs Int h = omega arith
+size_some structs Char h = omega arith
+size_some structs (Pointer m k t) h = omega arith
+size_some structs (Struct n) h = omega (arith, members_some (members_of structs n) h, size_behind (sizes_of structs (Struct n)) (widths structs (Struct n)))
+
+-- and so has the type of an array's elements
+pub array_sized : (g : Frame) (type : CType) (length number : ℕ) → IsArray g type length number → 0 < size_of g.structs type
+array_sized g type length number is = size_some g.structs type (is.rows 0 is.some).stands.there
+
 -- ---- types
 
-mode_equal : (a b : Mode) → same_mode a b ≡ true → a ≡ b
+pub mode_equal : (a b : Mode) → same_mode a b ≡ true → a ≡ b
 mode_equal modes.Checked modes.Checked h = refl
 mode_equal modes.Checked modes.Tainted h = absurd (cc)
 mode_equal modes.Checked modes.Raw h = absurd (cc)
@@ -125,52 +176,65 @@ crossing_promises Q false arguments next h = h
 
 -- ---- names
 
--- what a name stands for is there
-abbrev pub StandsFor : Frame → List CType → Named → Type 0
-StandsFor g types (Local k t) = slice_get types k ≡ Some t
-StandsFor g types (Object k t) = IsObject g t k
-StandsFor g types Nothing = Unit {0}
+-- what a name stands for is there, and of an array the size of its elements is known
+abbrev pub StandsFor : Frame → List Structure → List CType → Named → Type 0
+StandsFor g structs types (Local k t) = slice_get types k ≡ Some t
+StandsFor g structs types (Object k t) = IsObject g t k
+StandsFor g structs types (Array k t n) = IsArray g t n k × IsKnown structs t
+StandsFor g structs types Nothing = Unit {0}
 
-abbrev IfNamed : Frame → List CType → Option Named → Type 0
-IfNamed g types None = Unit {0}
-IfNamed g types (Some n) = StandsFor g types n
+abbrev IfNamed : Frame → List Structure → List CType → Option Named → Type 0
+IfNamed g structs types None = Unit {0}
+IfNamed g structs types (Some n) = StandsFor g structs types n
 
-module _ (g : Frame) (types : List CType) where
-  found_stands : (test : Bool) (this other : Option Named) → IfNamed g types this → IfNamed g types other → IfNamed g types (found_if test this other)
+module _ (g : Frame) (structs : List Structure) (types : List CType) where
+  abbrev Stands : Option Named → Type 0
+  Stands o = IfNamed g structs types o
+
+  found_stands : (test : Bool) (this other : Option Named) → Stands this → Stands other → Stands (found_if test this other)
   found_stands true this other h h' = h
   found_stands false this other h h' = h'
 
-  local_stands : (o : Option CType) (k : ℕ) → ((t : CType) → o ≡ Some t → slice_get types k ≡ Some t) → IfNamed g types (local_if o k)
+  local_stands : (o : Option CType) (k : ℕ) → ((t : CType) → o ≡ Some t → slice_get types k ≡ Some t) → Stands (local_if o k)
   local_stands None k h = tt
   local_stands (Some t) k h = h t refl
 
-  locals_stand : (known : List CType) → Extends known types → (visible : List Visible) (name : ℕ) → IfNamed g types (local_named known visible name)
+  locals_stand : (known : List CType) → Extends known types → (visible : List Visible) (name : ℕ) → Stands (local_named known visible name)
   locals_stand known ext [] name = tt
   locals_stand known ext (v ∷ visible) name =
       found_stands (name == v.name) (local_if (slice_get known v.local) v.local) (local_named known visible name) (local_stands (slice_get known v.local) v.local (λ t h. ext v.local t h)) (locals_stand known ext visible name)
 
-  objects_stand : (number : ℕ) (variables : List Variable) (name : ℕ) → ((k : ℕ) (v : Variable) → slice_get variables k ≡ Some v → IsObject g v.type (number + k)) → IfNamed g types (object_named number variables name)
-  objects_stand number [] name h = tt
-  objects_stand number (v ∷ variables) name h =
-      let first : number + 0 ≡ number = omega arith in
-      found_stands (name == v.name) (Some (Object number v.type)) (object_named (suc number) variables name) (subst (λ k. IsObject g v.type k) first (h 0 v refl))
-      (objects_stand (suc number) variables name (λ k w e. let same : number + suc k ≡ suc number + k = omega arith in subst (λ j. IsObject g w.type j) same (h (suc k) w e)))
+  object_stands : (number : ℕ) (type : CType) (length : Option ℕ) → IsVariable g type length number → IsKnown structs type → Stands (Some (object_of number type length))
+  object_stands number type None h known = h
+  object_stands number type (Some length) h known = (h, known)
 
-  either_stands : (this other : Option Named) → IfNamed g types this → IfNamed g types other → IfNamed g types (or_else this other)
+  objects_stand : (number : ℕ) (variables : List FileVariable) (name : ℕ) → ((k : ℕ) (v : FileVariable) → slice_get variables k ≡ Some v → IsVariable g v.type v.length (number + k))
+      → AllByRecursion (λ (v : FileVariable). IsKnown structs v.type) variables → Stands (object_named number variables name)
+  objects_stand number [] name h known = tt
+  objects_stand number (v ∷ variables) name h known =
+      let first : number + 0 ≡ number = omega arith in
+      found_stands (name == v.name) (Some (object_of number v.type v.length)) (object_named (suc number) variables name)
+      (object_stands number v.type v.length (subst (λ k. IsVariable g v.type v.length k) first (h 0 v refl)) known.0)
+      (objects_stand (suc number) variables name (λ k w e. let same : number + suc k ≡ suc number + k = omega arith in subst (λ j. IsVariable g w.type w.length j) same (h (suc k) w e)) known.1)
+
+  either_stands : (this other : Option Named) → Stands this → Stands other → Stands (or_else this other)
   either_stands (Some n) other h h' = h
   either_stands None other h h' = h'
 
-  meant_stands : (o : Option Named) → IfNamed g types o → Promises (StandsFor g types) (meant o)
+  meant_stands : (o : Option Named) → Stands o → Promises (StandsFor g structs types) (meant o)
   meant_stands None h = tt
   meant_stands (Some n) h = h
 
-  pub name_stands : (s : Scope) → Knows g types s → (name : ℕ) → Promises (StandsFor g types) (named s name)
-  name_stands s knows name =
-      meant_stands (or_else (local_named s.locals s.visible name) (or_else (object_named 0 s.variables name) (null_named s.given name)))
-      (either_stands (local_named s.locals s.visible name) (or_else (object_named 0 s.variables name) (null_named s.given name)) (locals_stand s.locals knows.locals s.visible name)
-      (either_stands (object_named 0 s.variables name) (null_named s.given name)
-      (objects_stand 0 s.variables name (λ k v e. let same : k ≡ 0 + k = omega arith in subst (λ j. IsObject g v.type j) same (knows.file.variables k v e)))
-      (found_stands (name == s.given.null) (Some Nothing) None tt tt)))
+pub name_stands : (g : Frame) (types : List CType) (s : Scope) → Knows g types s → (name : ℕ) → Promises (StandsFor g s.structs types) (named s name)
+name_stands g types s knows name =
+    let locals = local_named s.locals s.visible name in
+    let objects = object_named 0 s.variables name in
+    let null = null_named s.given name in
+    meant_stands g s.structs types (or_else locals (or_else objects null))
+    (either_stands g s.structs types locals (or_else objects null) (locals_stand g s.structs types s.locals knows.locals s.visible name)
+    (either_stands g s.structs types objects null
+    (objects_stand g s.structs types 0 s.variables name (λ k v e. let same : k ≡ 0 + k = omega arith in subst (λ j. IsVariable g v.type v.length j) same (knows.file.variables k v e)) knows.file.closed.of_variables)
+    (found_stands g s.structs types (name == s.given.null) (Some Nothing) None tt tt)))
 
 -- ---- members
 

@@ -11,7 +11,7 @@ use Rattle.pointer_modes.specs.Types.{CType, Int, Char, Struct, Pointer, Member,
 use Rattle.pointer_modes.specs.Layout.{size_of}
 use Rattle.ckc_core.specs.declared.program.Site.{Site}
 use Rattle.region_typing_rules.specs.Verdicts.{Passes, passing, meant}
-use Rattle.region_typing_rules.specs.Scopes.{Scope, Signature, Variable, struct_named}
+use Rattle.region_typing_rules.specs.Scopes.{Scope, Signature, FileVariable, struct_named}
 use Rattle.region_typing_rules.specs.Types.{base_type, without_stars, type_named}
 use Rattle.region_typing_rules.specs.Expressions.{bounds_at}
 use Rattle.region_typing_rules.specs.Items.{with_struct}
@@ -70,11 +70,11 @@ of_members P none (x ∷ structs) s h new (suc n) = of_members P none structs s 
 -- ---- scopes
 
 -- all types that are in a scope name structs of the scope alone
-pub record AreClosed (tags : List ℕ) (structs : List Structure) (functions : List Signature) (variables : List Variable) (locals : List CType) : Type 0 where
+pub record AreClosed (tags : List ℕ) (structs : List Structure) (functions : List Signature) (variables : List FileVariable) (locals : List CType) : Type 0 where
   pub tagged : length tags ≤ length structs
   pub of_members : (n : ℕ) → AllByRecursion (λ (m : Member). IsKnown structs m.ctype) (members_of structs n)
   pub of_functions : AllByRecursion (λ (f : Signature). IsKnownResult structs f.result) functions
-  pub of_variables : AllByRecursion (λ (v : Variable). IsKnown structs v.type) variables
+  pub of_variables : AllByRecursion (λ (v : FileVariable). IsKnown structs v.type) variables
   pub of_locals : AllByRecursion (IsKnown structs) locals
 
 abbrev pub IsClosed : Scope → Type 0
@@ -90,7 +90,7 @@ with_struct_closed s tag names tainted members known c =
       tagged = omega (arith, c.tagged, length-append s.tags (tag ∷ []), length-append s.structs (new ∷ []));
       of_members = of_members (AllByRecursion (λ (m : Member). IsKnown more m.ctype)) tt s.structs new (λ n. all_so (λ (m : Member). IsKnown s.structs m.ctype) (λ (m : Member). IsKnown more m.ctype) (λ m. known_later s.structs more m.ctype longer) (members_of s.structs n) (c.of_members n)) known;
       of_functions = all_so (λ (f : Signature). IsKnownResult s.structs f.result) (λ (f : Signature). IsKnownResult more f.result) (λ f. result_later s.structs more f.result longer) s.functions c.of_functions;
-      of_variables = all_so (λ (v : Variable). IsKnown s.structs v.type) (λ (v : Variable). IsKnown more v.type) (λ v. known_later s.structs more v.type longer) s.variables c.of_variables;
+      of_variables = all_so (λ (v : FileVariable). IsKnown s.structs v.type) (λ (v : FileVariable). IsKnown more v.type) (λ v. known_later s.structs more v.type longer) s.variables c.of_variables;
       of_locals = all_so (IsKnown s.structs) (IsKnown more) (λ t. known_later s.structs more t longer) s.locals c.of_locals;
     }
 

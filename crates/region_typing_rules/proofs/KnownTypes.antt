@@ -1,26 +1,31 @@
 -- The type of an expression in a closed scope names declared structs alone.
 use Rattle.std.proofs.Common.{◌≡◌, ℕ, suc, ◌^◌, Bool, true, false, List, [], ◌∷◌, length, Option, Some, None, refl}
-use Rattle.std.specs.Prelude.{◌==◌, slice_get, nat_lt, not, ◌&&◌, ◌||◌}
+use Rattle.std.specs.Prelude.{◌==◌, slice_get, nat_lt, not, ◌&&◌, ◌||◌, is_some}
 use Rattle.std.specs.List.{AllByRecursion}
 use Rattle.ckc_text.specs.declared.place.Span.{Span}
-use Rattle.ckc_text.specs.declared.code.Code.TheVariants.{E04, E13, E14, E19}
+use Rattle.ckc_text.specs.declared.code.Code.TheVariants.{E04, E13, E14, E17, E18, E19}
 use Rattle.ckc_tree.specs.declared.expr.UnaryOperator.{UnaryOperator}
 use Rattle.ckc_tree.specs.declared.expr.UnaryOperator.TheVariants as unary
 use Rattle.ckc_tree.specs.declared.expr.BinaryOperator.{BinaryOperator}
 use Rattle.ckc_tree.specs.declared.expr.BinaryOperator.TheVariants as binary
 use Rattle.ckc_tree.specs.Expressions as e
 use Rattle.ckc_tree.specs.Expressions.{Expression}
+use Rattle.pointer_modes.specs.declared.ctype.Kind.TheVariants as kinds
 use Rattle.pointer_modes.specs.Types.{CType, Int, Char, Struct, Pointer, Member, Structure, members_of}
 use Rattle.ckc_core.specs.declared.program.Site.{Site}
 use Rattle.act_words.specs.declared.operator.Comparison.{Comparison}
 use Rattle.ckc_core.specs.declared.program.Callee.{Callee}
+use Rattle.ckc_core.specs.declared.program.Direction.{Direction}
+use Rattle.ckc_core.specs.declared.program.Direction.TheVariants as directions
 use Rattle.ckc_core.specs.Core as core
+use Rattle.ckc_core.specs.Meaning.{bounds_of}
 use Rattle.ckc_core.proofs.Elements.{of_element}
+use Rattle.bounds_flow.specs.Flows.{Knowledge}
 use Rattle.ckc_names_rules.specs.declared.given.Given.{Given}
-use Rattle.region_typing_rules.specs.Verdicts.{Verdict, Passes, Stops, passing, breaks, meant, picked}
-use Rattle.region_typing_rules.specs.Scopes.{Scope, Signature, Variable, Visible, Named, Local, Object, Nothing, local_if, found_if, local_named, object_named, or_else, null_named, named, function_named, members_named}
+use Rattle.region_typing_rules.specs.Verdicts.{Verdict, Passes, Stops, passing, meant, picked}
+use Rattle.region_typing_rules.specs.Scopes.{Scope, Signature, FileVariable, Visible, Named, Local, Object, Array, Nothing, local_if, found_if, local_named, object_of, object_named, or_else, null_named, named, function_named, members_named}
 use Rattle.region_typing_rules.specs.Types.{type_named, is_number, is_pointer, are_comparable}
-use Rattle.region_typing_rules.specs.Expressions.{Places, OfLocal, OfCell, Typed, Value, AStruct, Called, Gives, GivesNothing, site_at, bounded, number, at_place, local_typed, name_typed, member_from, member_at, dotted, pointed_by, arrowed, pointed_at, dereferenced, address, number_of, scalar_of, unary_typed, is_pointer_value, two_numbers, two_scalars, equated, ordered, binary_typed, indexed, arguments_as, is_import, call_of, declared_callee, writes, predefined_call, called, with_result, typed, all_typed}
+use Rattle.region_typing_rules.specs.Expressions.{Places, OfLocal, OfCell, ForNothing, ForArray, For, Typed, Value, AStruct, Called, Gives, GivesNothing, site_at, bounded, number, at_place, local_typed, name_typed, member_from, member_at, dotted, with_elements, first_element, pointed_by, arrowed, pointed_at, dereferenced, address, number_of, scalar_of, unary_typed, is_single_value, lacks_bounds, two_numbers, two_scalars, operator_along, summed, sum_typed, equated, ordered, binary_typed, element_at, indexed, asked_of, meets, arguments_met, arguments_as, is_import, call_of, declared_callee, writes, predefined_call, called, with_result, typed, all_typed}
 use Rattle.region_typing_rules.proofs.Verdicts.{Promises, passing_promises, needs_promises, anything_promised}
 use Rattle.region_typing_rules.proofs.Known.{IsKnown, IsKnownResult, IsClosed}
 use Rattle.region_typing_rules.proofs.Knowledge.{crossing_promises}
@@ -37,6 +42,7 @@ IsKnownCall structs (GivesNothing call) = Unit {0}
 abbrev IsKnownNamed : List Structure → Named → Type 0
 IsKnownNamed structs (Local local type) = IsKnown structs type
 IsKnownNamed structs (Object object type) = IsKnown structs type
+IsKnownNamed structs (Array object type length) = IsKnown structs type
 IsKnownNamed structs Nothing = Unit {0}
 
 abbrev IfKnown : List Structure → Option Named → Type 0
@@ -66,10 +72,14 @@ module _ (structs : List Structure) where
   locals_known locals all (v ∷ visible) name =
       found_known (name == v.name) (local_if (slice_get locals v.local) v.local) (local_named locals visible name) (local_known locals all v.local (slice_get locals v.local) refl) (locals_known locals all visible name)
 
-  objects_known : (number : ℕ) (variables : List Variable) (name : ℕ) → AllByRecursion (λ (v : Variable). IsKnown structs v.type) variables → IfKnown structs (object_named number variables name)
+  object_known : (number : ℕ) (type : CType) (length : Option ℕ) → IsKnown structs type → IfKnown structs (Some (object_of number type length))
+  object_known number type None h = h
+  object_known number type (Some length) h = h
+
+  objects_known : (number : ℕ) (variables : List FileVariable) (name : ℕ) → AllByRecursion (λ (v : FileVariable). IsKnown structs v.type) variables → IfKnown structs (object_named number variables name)
   objects_known number [] name all = tt
   objects_known number (v ∷ variables) name all =
-      found_known (name == v.name) (Some (Object number v.type)) (object_named (suc number) variables name) all.0 (objects_known (suc number) variables name all.1)
+      found_known (name == v.name) (Some (object_of number v.type v.length)) (object_named (suc number) variables name) (object_known number v.type v.length all.0) (objects_known (suc number) variables name all.1)
 
   either_known : (this other : Option Named) → IfKnown structs this → IfKnown structs other → IfKnown structs (or_else this other)
   either_known (Some n) other h h' = h
@@ -93,25 +103,32 @@ module _ (structs : List Structure) where
   local_typed_known local (Struct number) h = h
   local_typed_known local (Pointer m k t) h = h
 
-  name_known : (n : Named) → IsKnownNamed structs n → Known (name_typed n)
-  name_known (Local local type) h = local_typed_known local type h
-  name_known (Object object type) h = at_place_known type (core.Direct object 0) h
-  name_known Nothing h = tt
+  name_known : (site : Site) (n : Named) → IsKnownNamed structs n → Known (name_typed structs n site)
+  name_known site (Local local type) h = local_typed_known local type h
+  name_known site (Object object type) h = at_place_known type (core.Direct object 0) h
+  name_known site (Array object type length) h = h
+  name_known site Nothing h = tt
+
+  with_elements_known : (value : core.Expression) (span : Span) (t : Typed) → Known t → Promises Known (with_elements value span (Passes t))
+  with_elements_known value span t h = needs_promises Known (is_some (bounds_of value)) E18 span (Passes t) (λ there. h)
 
   pointed_known : (type : CType) (value : core.Expression) (site : Site) (span : Span) → IsKnown structs type → Promises Known (pointed_at type value site span)
   pointed_known Int value site span h = tt
   pointed_known Char value site span h = tt
   pointed_known (Struct number) value site span h = tt
-  pointed_known (Pointer m k t) value site span h = at_place_known t _ h
+  pointed_known (Pointer m kinds.One t) value site span h = at_place_known t _ h
+  pointed_known (Pointer m kinds.Array t) value site span h = with_elements_known value span (at_place t (first_element value site)) (at_place_known t (first_element value site) h)
+  pointed_known (Pointer m kinds.Nt t) value site span h = tt
 
   dereferenced_known : (a : Typed) (site : Site) (span : Span) → Known a → Promises Known (dereferenced a site span)
   dereferenced_known (Value type zero value place) site span h = pointed_known type value site span h
   dereferenced_known (AStruct number place) site span h = tt
 
   address_known : (a : Typed) (site : Site) (span : Span) → Known a → Promises Known (address a site span)
-  address_known (Value type zero value None) site span h = tt
-  address_known (Value type zero value (Some (OfLocal k))) site span h = tt
-  address_known (Value type zero value (Some (OfCell p))) site span h = h
+  address_known (Value type zero value ForNothing) site span h = tt
+  address_known (Value type zero value ForArray) site span h = tt
+  address_known (Value type zero value (For (OfLocal k))) site span h = tt
+  address_known (Value type zero value (For (OfCell p))) site span h = h
   address_known (AStruct number (OfLocal k)) site span h = tt
   address_known (AStruct number (OfCell p)) site span h = h
 
@@ -151,30 +168,50 @@ module _ (structs : List Structure) where
       by false true e e1 = rw (e, e1) tt
       by false false e e1 = rw (e, e1) tt
 
-  binary_known : (operator : BinaryOperator) (a b : Typed) (site : Site) (span : Span) → Promises Known (binary_typed operator a b site span)
-  binary_known binary.Or a b site span = scalars_known a b span _
-  binary_known binary.And a b site span = scalars_known a b span _
-  binary_known binary.BitOr a b site span = numbers_known a b span _
-  binary_known binary.BitXor a b site span = numbers_known a b span _
-  binary_known binary.BitAnd a b site span = numbers_known a b span _
-  binary_known binary.Equal a b site span = equal_known a b span (λ v. v)
-  binary_known binary.NotEqual a b site span = equal_known a b span core.Not
-  binary_known binary.Less a b site span = ordered_known _ a b span
-  binary_known binary.LessEqual a b site span = ordered_known _ a b span
-  binary_known binary.Greater a b site span = ordered_known _ a b span
-  binary_known binary.GreaterEqual a b site span = ordered_known _ a b span
-  binary_known binary.ShiftLeft a b site span = numbers_known a b span _
-  binary_known binary.ShiftRight a b site span = numbers_known a b span _
-  binary_known binary.Add a b site span = needs_promises Known (not (is_pointer_value a || is_pointer_value b)) E19 span _ (λ x. numbers_known a b span _)
-  binary_known binary.Subtract a b site span = needs_promises Known (not (is_pointer_value a || is_pointer_value b)) E19 span _ (λ x. numbers_known a b span _)
-  binary_known binary.Multiply a b site span = numbers_known a b span _
-  binary_known binary.Divide a b site span = numbers_known a b span _
-  binary_known binary.Remainder a b site span = numbers_known a b span _
+  summed_known : (s : Scope) (direction : Direction) (a b : Typed) (site : Site) (span : Span) → Known a → Promises Known (summed s direction a b site span)
+  summed_known s direction (Value Int zero v place) b site span h = numbers_known (Value Int zero v place) b span (λ x y. core.Arithmetic (operator_along direction) x y site)
+  summed_known s direction (Value Char zero v place) b site span h = numbers_known (Value Char zero v place) b span (λ x y. core.Arithmetic (operator_along direction) x y site)
+  summed_known s direction (Value (Struct n) zero v place) b site span h = tt
+  summed_known s direction (Value (Pointer m k t) zero v place) b site span h = number_of_known b span _ (λ w. h)
+  summed_known s direction (AStruct n place) b site span h = tt
 
-  indexed_known : (a b : Typed) (span : Span) → Promises Known (indexed a b span)
-  indexed_known (Value t z v p) (Value u y w q) span = needs_promises Known (is_pointer t && is_number u) E13 span (breaks E19 span) (λ x. tt)
-  indexed_known (Value t z v p) (AStruct n q) span = tt
-  indexed_known (AStruct n p) b span = tt
+  sum_known : (s : Scope) (direction : Direction) (a b : Typed) (site : Site) (span : Span) → Known a → Promises Known (sum_typed s direction a b site span)
+  sum_known s direction a b site span h =
+      needs_promises Known (not (is_single_value a || is_single_value b)) E19 span _
+      (λ x. needs_promises Known (not (lacks_bounds a || lacks_bounds b)) E18 span _ (λ y. summed_known s direction a b site span h))
+
+  binary_known : (s : Scope) (operator : BinaryOperator) (a b : Typed) (site : Site) (span : Span) → Known a → Promises Known (binary_typed s operator a b site span)
+  binary_known s binary.Or a b site span h = scalars_known a b span _
+  binary_known s binary.And a b site span h = scalars_known a b span _
+  binary_known s binary.BitOr a b site span h = numbers_known a b span _
+  binary_known s binary.BitXor a b site span h = numbers_known a b span _
+  binary_known s binary.BitAnd a b site span h = numbers_known a b span _
+  binary_known s binary.Equal a b site span h = equal_known a b span (λ v. v)
+  binary_known s binary.NotEqual a b site span h = equal_known a b span core.Not
+  binary_known s binary.Less a b site span h = ordered_known _ a b span
+  binary_known s binary.LessEqual a b site span h = ordered_known _ a b span
+  binary_known s binary.Greater a b site span h = ordered_known _ a b span
+  binary_known s binary.GreaterEqual a b site span h = ordered_known _ a b span
+  binary_known s binary.ShiftLeft a b site span h = numbers_known a b span _
+  binary_known s binary.ShiftRight a b site span h = numbers_known a b span _
+  binary_known s binary.Add a b site span h = sum_known s directions.Forward a b site span h
+  binary_known s binary.Subtract a b site span h = sum_known s directions.Backward a b site span h
+  binary_known s binary.Multiply a b site span h = numbers_known a b span _
+  binary_known s binary.Divide a b site span h = numbers_known a b span _
+  binary_known s binary.Remainder a b site span h = numbers_known a b span _
+
+  element_known : (t : CType) (v w : core.Expression) (site : Site) (span : Span) → IsKnown structs t → Promises Known (element_at t v w site span)
+  element_known Int v w site span h = tt
+  element_known Char v w site span h = tt
+  element_known (Struct n) v w site span h = tt
+  element_known (Pointer m kinds.One t) v w site span h = tt
+  element_known (Pointer m kinds.Array t) v w site span h = with_elements_known v span _ (at_place_known t (core.Through v (core.Element w) 0 site) h)
+  element_known (Pointer m kinds.Nt t) v w site span h = tt
+
+  indexed_known : (a b : Typed) (site : Site) (span : Span) → Known a → Promises Known (indexed a b site span)
+  indexed_known (Value t z v p) (Value u y w q) site span h = needs_promises Known (is_pointer t && is_number u) E13 span (element_at t v w site span) (λ x. element_known t v w site span h)
+  indexed_known (Value t z v p) (AStruct n q) site span h = tt
+  indexed_known (AStruct n p) b site span h = tt
 
   -- ---- calls
 
@@ -195,6 +232,13 @@ module _ (structs : List Structure) where
       by false true put e e1 e2 = rw (e, e1) (writes_known core.Print arguments span)
       by false false true e e1 e2 = rw (e, e1, e2) (writes_known core.PutByte arguments span)
       by false false false e e1 e2 = rw (e, e1, e2) tt
+
+  arguments_met_known : (f : Knowledge) (arguments : List (Typed × Span)) (ts : List CType) (next : Verdict Called) → Promises (IsKnownCall structs) next → Promises (IsKnownCall structs) (arguments_met f arguments ts next)
+  arguments_met_known f [] ts next h = h
+  arguments_met_known f (a ∷ arguments) [] next h = h
+  arguments_met_known f ((Value type zero value place, span) ∷ arguments) (t ∷ ts) next h =
+      needs_promises (IsKnownCall structs) (zero || meets f value (asked_of type t)) E17 span (arguments_met f arguments ts next) (λ met. arguments_met_known f arguments ts next h)
+  arguments_met_known f ((AStruct n place, span) ∷ arguments) (t ∷ ts) next h = arguments_met_known f arguments ts next h
 
   with_result_known : (c : Called) (span : Span) → IsKnownCall structs c → Promises Known (with_result c span)
   with_result_known (Gives type value) span h = h
@@ -244,10 +288,17 @@ module _ (s : Scope) (closed : IsClosed s) where
       by Int = tt
       by Char = tt
       by (Struct n) = tt
-      by (Pointer m k Int) = tt
-      by (Pointer m k Char) = tt
-      by (Pointer m k (Pointer m' k' t)) = tt
-      by (Pointer m k (Struct n)) = member_at_known n (core.Through value core.First 0 site) name site span
+      by (Pointer m kinds.One Int) = tt
+      by (Pointer m kinds.One Char) = tt
+      by (Pointer m kinds.One (Pointer m' k' t)) = tt
+      by (Pointer m kinds.One (Struct n)) = member_at_known n (core.Through value core.First 0 site) name site span
+      by (Pointer m kinds.Array Int) = tt
+      by (Pointer m kinds.Array Char) = tt
+      by (Pointer m kinds.Array (Pointer m' k' t)) = tt
+      by (Pointer m kinds.Array (Struct n)) =
+          passing_promises (IsKnownTyped s.structs) (IsKnownTyped s.structs) (member_at s n (first_element value site) name site span) _
+          (member_at_known n (first_element value site) name site span) (λ t h. with_elements_known s.structs value span t h)
+      by (Pointer m kinds.Nt t) = tt
 
   called_known : (o : Option Signature) (name : ℕ) (arguments : List (Typed × Span)) (site : Site) (span : Span) → function_named s.functions name ≡ o → Promises (IsKnownCall s.structs) (called s o name arguments site span)
   called_known None name arguments site span e = predefined_known s.structs s.given name arguments span
@@ -255,14 +306,15 @@ module _ (s : Scope) (closed : IsClosed s) where
       needs_promises (IsKnownCall s.structs) (length f.parameters == length arguments) E14 span _
       (λ many. crossing_promises (IsKnownCall s.structs) (is_import f) arguments _
       (passing_promises (λ (values : core.Arguments). Unit {0}) (IsKnownCall s.structs) (arguments_as arguments f.parameters) _ (anything_promised (arguments_as arguments f.parameters))
-      (λ values _. call_known s.structs (declared_callee s f site) f.result values site (named_has (λ (x : Signature). IsKnownResult s.structs x.result) s.functions name f closed.of_functions e))))
+      (λ values _. arguments_met_known s.structs s.flow arguments f.parameters _ (call_known s.structs (declared_callee s f site) f.result values site (named_has (λ (x : Signature). IsKnownResult s.structs x.result) s.functions name f closed.of_functions e)))))
 
   pub typed_known : (at : Places) (x : Expression) → Promises (IsKnownTyped s.structs) (typed at s x)
   typed_known at (e.Number value span) = needs_promises (IsKnownTyped s.structs) (nat_lt value (2 ^ 31)) E04 span _ (λ low. tt)
   typed_known at (e.Character value span) = needs_promises (IsKnownTyped s.structs) (nat_lt value (2 ^ 31)) E04 span _ (λ low. tt)
   typed_known at (e.Text bytes span) = tt
   typed_known at (e.Name name) =
-      bounded_known s (site_at at name.span) (passing (named s name.number) (λ n. Passes (name_typed n))) (passing_promises (IsKnownNamed s.structs) (IsKnownTyped s.structs) (named s name.number) _ (named_known name.number) (name_known s.structs))
+      bounded_known s (site_at at name.span) (passing (named s name.number) (λ n. Passes (name_typed s.structs n (site_at at name.span))))
+      (passing_promises (IsKnownNamed s.structs) (IsKnownTyped s.structs) (named s name.number) _ (named_known name.number) (name_known s.structs (site_at at name.span)))
   typed_known at (e.Call callee arguments span) =
       passing_promises (λ (ts : List (Typed × Span)). Unit {0}) (IsKnownTyped s.structs) (all_typed at s arguments) _ (anything_promised (all_typed at s arguments))
       (λ ts _. passing_promises (IsKnownCall s.structs) (IsKnownTyped s.structs) (called s (function_named s.functions callee.number) callee.number ts (site_at at span) span) _
@@ -273,8 +325,9 @@ module _ (s : Scope) (closed : IsClosed s) where
   typed_known at (e.Malloc word type size span) = tt
   typed_known at (e.Calloc word type count size span) = tt
   typed_known at (e.Index base index span) =
-      passing_promises (λ (t : Typed). Unit {0}) (IsKnownTyped s.structs) (typed at s base) _ (anything_promised (typed at s base))
-      (λ a _. passing_promises (λ (t : Typed). Unit {0}) (IsKnownTyped s.structs) (typed at s index) _ (anything_promised (typed at s index)) (λ b _. indexed_known s.structs a b span))
+      bounded_known s (site_at at span) (passing (typed at s base) (λ a. passing (typed at s index) (λ b. indexed a b (site_at at span) span)))
+      (passing_promises (IsKnownTyped s.structs) (IsKnownTyped s.structs) (typed at s base) _ (typed_known at base)
+      (λ a h. passing_promises (λ (t : Typed). Unit {0}) (IsKnownTyped s.structs) (typed at s index) _ (anything_promised (typed at s index)) (λ b _. indexed_known s.structs a b (site_at at span) span h)))
   typed_known at (e.Dot base member span) =
       bounded_known s (site_at at span) (passing (typed at s base) (λ a. dotted s a member.number (site_at at span) span)) (passing_promises (λ (t : Typed). Unit {0}) (IsKnownTyped s.structs) (typed at s base) _ (anything_promised (typed at s base)) (λ a _. dotted_known a member.number (site_at at span) span))
   typed_known at (e.Arrow base member span) =
@@ -282,5 +335,5 @@ module _ (s : Scope) (closed : IsClosed s) where
   typed_known at (e.Unary operator operand span) =
       bounded_known s (site_at at span) (passing (typed at s operand) (λ a. unary_typed operator a (site_at at span) span)) (passing_promises (IsKnownTyped s.structs) (IsKnownTyped s.structs) (typed at s operand) _ (typed_known at operand) (λ a h. unary_known s.structs operator a (site_at at span) span h))
   typed_known at (e.Binary operator left right span) =
-      passing_promises (λ (t : Typed). Unit {0}) (IsKnownTyped s.structs) (typed at s left) _ (anything_promised (typed at s left))
-      (λ a _. passing_promises (λ (t : Typed). Unit {0}) (IsKnownTyped s.structs) (typed at s right) _ (anything_promised (typed at s right)) (λ b _. binary_known s.structs operator a b (site_at at span) span))
+      passing_promises (IsKnownTyped s.structs) (IsKnownTyped s.structs) (typed at s left) _ (typed_known at left)
+      (λ a h. passing_promises (λ (t : Typed). Unit {0}) (IsKnownTyped s.structs) (typed at s right) _ (anything_promised (typed at s right)) (λ b _. binary_known s.structs s operator a b (site_at at span) span h))

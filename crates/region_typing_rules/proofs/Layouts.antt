@@ -21,9 +21,11 @@ use Rattle.ckc_core.specs.Steps.{low_byte}
 use Rattle.ckc_names_rules.specs.declared.given.Given.{Given}
 use Rattle.region_typing_rules.specs.Verdicts.{passing}
 use Rattle.region_typing_rules.specs.Scopes.{Scope}
-use Rattle.region_typing_rules.specs.Expressions.{Places, Typed, typed, constant, offset_among, unary_typed, site_at}
-use Rattle.region_typing_rules.specs.Items.{negative, null_number, unsigned_constant, negated_of, positive_of, signed_constant, strides_from, strides_of, cell_types, numbered_cells, cells_with, Walked, Missing, Written, Constants, is_zero, number_or_break, written_cells, object_cells}
-use Rattle.region_typing_rules.specs.Typed.{Slot, slots_from, slots, Stands, HasRow, HasValue, IsScalar, IsInitial}
+use Rattle.region_typing_rules.specs.Expressions.{Places, Typed, typed, constant_typed, offset_among, unary_typed, site_at}
+use Rattle.ckc_tree.specs.declared.stmt.SignedConstant.{SignedConstant}
+use Rattle.region_typing_rules.specs.Items.{negative, null_number, unsigned_constant, negated_of, positive_of, signed_constant, strides_from, strides_of, cell_types, numbered_cells, cells_with, Walked, Missing, Written, Constants, unsigned_number, is_zero, number_or_break, written_cells}
+use Rattle.bounds_flow_meaning.specs.Rows.{Slot, slots_from, slots, Stands, HasRow}
+use Rattle.region_typing_rules.specs.Typed.{HasValue, IsScalar, IsInitial}
 use Rattle.region_typing_rules.specs.Lowerable.{cells_size, IsRoomy}
 use Rattle.ckc_core.proofs.Numbers.{low_byte_small}
 use Rattle.region_typing_rules.proofs.Values.{value_typed, scalar_stands}
@@ -53,22 +55,23 @@ slots_kept a b (Struct n) ext h = by (slice_get a n) refl
     by None e = let none = rw e at h in absurd (omega arith)
     by (Some x) e = let e' = ext n x e in rw (e, e') refl
 
--- what stands somewhere stands there when more structs are declared
+-- a type of which something stands somewhere takes as many bytes when more structs are declared
+pub bytes_kept : (a b : List Structure) (t : CType) → Extends a b → 0 < length (slots a t) → size_of a t ≡ size_of b t
+bytes_kept a b Int ext some = refl
+bytes_kept a b Char ext some = refl
+bytes_kept a b (Pointer m k t) ext some = refl
+bytes_kept a b (Struct n) ext some = by (slice_get a n) refl
+  where
+    by : (o : Option Structure) → slice_get a n ≡ o → size_of a (Struct n) ≡ size_of b (Struct n)
+    by None e = let none = rw e at some in absurd (omega arith)
+    by (Some x) e = let e' = ext n x e in rw (e, e') refl
+
+-- and stands there
 pub row_kept : (a b : List Structure) (s : Shape) (byte : ℕ) (t : CType) → Extends a b → HasRow a s byte t → HasRow b s byte t
 row_kept a b s byte t ext h = record {
   stands = subst (λ row. Stands s byte row) (slots_kept a b t ext h.stands.there) h.stands;
-  room = subst (λ n. byte + n ≤ sum s.strides) (bytes_kept t h.stands.there) h.room;
+  room = subst (λ n. byte + n ≤ sum s.strides) (bytes_kept a b t ext h.stands.there) h.room;
 }
-  where
-    bytes_kept : (t : CType) → 0 < length (slots a t) → size_of a t ≡ size_of b t
-    bytes_kept Int some = refl
-    bytes_kept Char some = refl
-    bytes_kept (Pointer m k t) some = refl
-    bytes_kept (Struct n) some = by (slice_get a n) refl
-      where
-        by : (o : Option Structure) → slice_get a n ≡ o → size_of a (Struct n) ≡ size_of b (Struct n)
-        by None e = let none = rw e at some in absurd (omega arith)
-        by (Some x) e = let e' = ext n x e in rw (e, e') refl
 
 -- ---- places
 
@@ -86,14 +89,14 @@ first_at_zero (Struct n) = refl
 first_at_zero (Pointer m k t) = refl
 
 -- a size or an alignment is 1 or 4
-scalar_width : (t : CType) → (scalar_size t ≡ 1) ⊎ (scalar_size t ≡ 4)
+pub scalar_width : (t : CType) → (scalar_size t ≡ 1) ⊎ (scalar_size t ≡ 4)
 scalar_width Int = inr refl
 scalar_width Char = inl refl
 scalar_width (Struct n) = inr refl
 scalar_width (Pointer m k t) = inr refl
 
 -- behind a cell that takes bytes the others stand as they do without it
-behind_cell : (t : CType) (types : List CType) (stride : ℕ) (strides : List ℕ) (zero_ended : Bool) (byte : ℕ) → 0 < stride → type_at (record { types = t ∷ types; strides = stride ∷ strides; zero_ended = zero_ended }) (stride + byte) ≡ type_at (record { types = types; strides = strides; zero_ended = zero_ended }) byte
+pub behind_cell : (t : CType) (types : List CType) (stride : ℕ) (strides : List ℕ) (zero_ended : Bool) (byte : ℕ) → 0 < stride → type_at (record { types = t ∷ types; strides = stride ∷ strides; zero_ended = zero_ended }) (stride + byte) ≡ type_at (record { types = types; strides = strides; zero_ended = zero_ended }) byte
 behind_cell t types stride strides zero_ended byte wide =
     let not_first : (stride + byte == 0) ≡ false = grind (arith, nat_tests) in
     let not_inside : nat_lt (stride + byte) stride ≡ false = grind (arith, nat_tests) in
@@ -227,7 +230,7 @@ whole_size structs (Pointer m k t) number some = refl
 whole_size structs (Struct n) number some = members_size number (members_of structs n) (size_of structs (Struct n)) (struct_wide (members_of structs n)) some
 
 -- they stand in their own room
-strides_whole : (cells : List Initial) → sum (shape (object_block cells)).strides ≡ cells_size cells
+pub strides_whole : (cells : List Initial) → sum (shape (object_block cells)).strides ≡ cells_size cells
 strides_whole [] = refl
 strides_whole (i ∷ cells) = sum_by-cons (λ (n : ℕ). n) i.stride (shape (object_block cells)).strides ∙ ap (λ n. i.stride + n) (strides_whole cells)
 
@@ -261,12 +264,12 @@ pub record AreCellsOf (structs : List Structure) (t : CType) (cells : List Initi
   pub roomy : AllByRecursion IsRoomy cells
 
 -- cells with a number of 32 bits that each of their types has
-cells_of_number : (structs : List Structure) (t : CType) (number : ℤ) → is_word_number number ≡ true → AllByRecursion (λ (u : CType). initial_value u number ≡ states.Null → number ≡ pos 0) (cell_types structs t) → AllByRecursion (λ (u : CType). (structs : List Structure) → HasValue structs [] u (initial_value u number)) (cell_types structs t) → AreCellsOf structs t (cells_with structs t number)
+pub cells_of_number : (structs : List Structure) (t : CType) (number : ℤ) → is_word_number number ≡ true → AllByRecursion (λ (u : CType). initial_value u number ≡ states.Null → number ≡ pos 0) (cell_types structs t) → AllByRecursion (λ (u : CType). (structs : List Structure) → HasValue structs [] u (initial_value u number)) (cell_types structs t) → AreCellsOf structs t (cells_with structs t number)
 cells_of_number structs t number word null values =
     let start = numbered_start number (cell_types structs t) (strides_of structs t) values in
     record { number = number; same = refl; start = start; roomy = roomy_start number (cell_types structs t) (strides_of structs t) word null (all_roomy structs t number) start }
 
-zero_cells : (structs : List Structure) (t : CType) → ((n : ℕ) → AllByRecursion (λ (m : Member). IsScalar m.ctype) (members_of structs n)) → AreCellsOf structs t (cells_with structs t (pos 0))
+pub zero_cells : (structs : List Structure) (t : CType) → ((n : ℕ) → AllByRecursion (λ (m : Member). IsScalar m.ctype) (members_of structs n)) → AreCellsOf structs t (cells_with structs t (pos 0))
 zero_cells structs Int all = cells_of_number structs Int (pos 0) refl (zero_null (Int ∷ [])) (zero_start Int refl, tt)
 zero_cells structs Char all = cells_of_number structs Char (pos 0) refl (zero_null (Char ∷ [])) (zero_start Char refl, tt)
 zero_cells structs (Pointer m k t) all = cells_of_number structs (Pointer m k t) (pos 0) refl (zero_null (Pointer m k t ∷ [])) (zero_start (Pointer m k t) refl, tt)
@@ -277,43 +280,49 @@ abbrev pub ConstantFits : Option ℤ → Type 0
 ConstantFits None = Unit {0}
 ConstantFits (Some z) = is_word_number z ≡ true
 
--- an initial value that was walked
+-- each number of a list is one of 31 bits
+abbrev pub AreSmall : List SignedConstant → Type 0
+AreSmall [] = Unit {0}
+AreSmall (c ∷ cs) = (nat_lt (unsigned_number c.constant) (2 ^ 31) ≡ true) × AreSmall cs
+
+-- what is known of an initial value that was walked
 abbrev pub IsWalked : Walked → Type 0
 IsWalked Missing = Unit {0}
 IsWalked (Written value t) = (given : Given) → ConstantFits (signed_constant given value)
-IsWalked Constants = Unit {0}
+IsWalked (Constants cs) = AreSmall cs
 
-negative_fits : (n : ℕ) → nat_lt n (2 ^ 31) ≡ true → is_word_number (negative n) ≡ true
+pub negative_fits : (n : ℕ) → nat_lt n (2 ^ 31) ≡ true → is_word_number (negative n) ≡ true
 negative_fits zero h = refl
 negative_fits (suc n) h = grind (arith, nat_tests)
 
-int_cells : (structs : List Structure) (o : Option ℤ) (span : Span) → ConstantFits o → Promises (AreCellsOf structs Int) (number_or_break o span (cells_with structs Int))
-int_cells structs None span h = tt
-int_cells structs (Some z) span h = cells_of_number structs Int z h ((λ null. absurd (cc)), tt) ((λ structs. h), tt)
+pub int_of : (structs : List Structure) (z : ℤ) → is_word_number z ≡ true → AreCellsOf structs Int (cells_with structs Int z)
+int_of structs z h = cells_of_number structs Int z h ((λ null. absurd (cc)), tt) ((λ structs. h), tt)
 
-char_cells : (structs : List Structure) (o : Option ℤ) (span : Span) → Promises (AreCellsOf structs Char) (number_or_break o span (λ n. cells_with structs Char (low_byte n)))
-char_cells structs None span = tt
-char_cells structs (Some z) span =
+pub char_of : (structs : List Structure) (z : ℤ) → AreCellsOf structs Char (cells_with structs Char (low_byte z))
+char_of structs z =
     let small = low_byte_small z in
     let test : nat_lt (word z % 256) 256 ≡ true = grind (arith, nat_tests) in
     let word : is_word_number (low_byte z) ≡ true = grind (arith, nat_tests) in
     cells_of_number structs Char (low_byte z) word ((λ null. absurd (cc)), tt) ((λ structs. test), tt)
 
-written_promises : (given : Given) (structs : List Structure) (t : CType) (value : Expression) (x : Typed) (span : Span) → ConstantFits (signed_constant given value) → Promises (AreCellsOf structs t) (written_cells given structs t value x span)
+int_cells : (structs : List Structure) (o : Option ℤ) (span : Span) → ConstantFits o → Promises (AreCellsOf structs Int) (number_or_break o span (cells_with structs Int))
+int_cells structs None span h = tt
+int_cells structs (Some z) span h = int_of structs z h
+
+char_cells : (structs : List Structure) (o : Option ℤ) (span : Span) → Promises (AreCellsOf structs Char) (number_or_break o span (λ n. cells_with structs Char (low_byte n)))
+char_cells structs None span = tt
+char_cells structs (Some z) span = char_of structs z
+
+pub written_promises : (given : Given) (structs : List Structure) (t : CType) (value : Expression) (x : Typed) (span : Span) → ConstantFits (signed_constant given value) → Promises (AreCellsOf structs t) (written_cells given structs t value x span)
 written_promises given structs Int value x span h = int_cells structs (signed_constant given value) span h
 written_promises given structs Char value x span h = char_cells structs (signed_constant given value) span
 written_promises given structs (Struct n) value x span h = tt
 written_promises given structs (Pointer m k t) value x span h =
     needs_promises (AreCellsOf structs (Pointer m k t)) (is_zero x) E13 span _ (λ yes. cells_of_number structs (Pointer m k t) (pos 0) refl (zero_null (Pointer m k t ∷ [])) (zero_start (Pointer m k t) refl, tt))
 
-pub object_promises : (given : Given) (structs : List Structure) (t : CType) (x : Walked) (span : Span) → ((n : ℕ) → AllByRecursion (λ (m : Member). IsScalar m.ctype) (members_of structs n)) → IsWalked x → Promises (AreCellsOf structs t) (object_cells given structs t x span)
-object_promises given structs t Missing span all h = zero_cells structs t all
-object_promises given structs t (Written value x) span all h = written_promises given structs t value x span (h given)
-object_promises given structs t Constants span all h = tt
-
 -- constants of which no rule is broken
 module _ (given : Given) (at : Places) (s : Scope) where
-  number_fits : (value : ℕ) (zero_value : Bool) (span : Span) → Promises (λ (t : Typed). nat_lt value (2 ^ 31) ≡ true) (constant value zero_value span)
+  number_fits : (value : ℕ) (zero_value : Bool) (span : Span) → Promises (λ (t : Typed). nat_lt value (2 ^ 31) ≡ true) (constant_typed value zero_value span)
   number_fits value zero_value span = needs_promises (λ (t : Typed). nat_lt value (2 ^ 31) ≡ true) (nat_lt value (2 ^ 31)) E04 span _ (λ low. low)
 
   negated_null : (test : Bool) → ConstantFits (negated_of (null_number test))

@@ -1,6 +1,7 @@
 pub mod Worlds
 pub mod Values
 pub mod Validity
+pub mod Sure
 pub mod Soundness
 pub mod Programs
 pub mod Verdicts
@@ -8,15 +9,18 @@ pub mod Known
 pub mod Knowledge
 pub mod Sizes
 pub mod KnownTypes
+pub mod Elements
 pub mod Expressions
 pub mod FlowSizes
 pub mod Growth
 pub mod Assigning
 pub mod Statements
 pub mod Layouts
+pub mod Copies
 pub mod Sides
 pub mod Signatures
 pub mod Walks
+pub mod Objects
 pub mod Items
 pub mod Typing
 pub mod Stacks
@@ -47,4 +51,5 @@ pub mod Ways
 pub mod Declaring
 pub mod Turns
 pub mod Sound
-pub mod Bodies
+pub mod Entries
+pub mod Safe

@@ -8,12 +8,14 @@ use Rattle.ckc_tree.specs.Types.{TypeTree}
 use Rattle.ckc_tree.specs.Expressions as e
 use Rattle.ckc_tree.specs.Expressions.{Expression}
 use Rattle.ckc_tree.specs.Statements as s
-use Rattle.ckc_tree.specs.Statements.{Initializer, Declarator, Declaration, Assignment, assignment_span, ForInitial, Statement, Statements}
+use Rattle.ckc_tree.specs.Statements.{Declarator, Declaration, Assignment, ForInitial, Statement, Statements}
+use Rattle.bounds_flow.specs.Flows.{Knowledge}
 use Rattle.pointer_modes.specs.Types.{CType}
 use Rattle.ckc_core.specs.Core as core
+use Rattle.region_typing_rules.specs.Verdicts.{Passes}
 use Rattle.region_typing_rules.specs.Scopes.{Scope, Visible}
-use Rattle.region_typing_rules.specs.Types.{is_scalar, converts, without_stars, base_type}
-use Rattle.region_typing_rules.specs.Expressions.{Places, Typed, Value, AStruct, Called, Gives, GivesNothing, call_typed, typed}
+use Rattle.region_typing_rules.specs.Types.{is_scalar, without_stars, base_type}
+use Rattle.region_typing_rules.specs.Expressions.{Places, Typed, Called, Gives, GivesNothing, call_typed, typed}
 use Rattle.region_typing_rules.specs.Knowing.{when, local_number, target_marked, marked_at, assignment_marked, bundle_marked, step_marked, hiding, hidden_by, hidden_first, first_marked, marked, all_marked, at_loop}
 use Rattle.region_typing_rules.specs.Statements.{Walked, both, assigning, zero_value, with_local, initialised, declarator, declarators, declaration, at_alternative, before_step, in_loop, is_unchecked, condition, optional_condition, optional_step, first_part, alone, return, returned, returned_nothing, statement, statements}
 use Rattle.region_typing_rules.proofs.Verdicts.{Promises, passing_promises, needs_promises, extends_last}
@@ -22,7 +24,7 @@ use Rattle.region_typing_rules.proofs.Assigning.{assigning_promises, declared_pr
 use Rattle.region_typing_rules.proofs.Moving.{AssignsOnly, AllAssignOnly}
 use Rattle.region_typing_rules.proofs.Assigns.{IsPlain}
 use Rattle.region_typing_rules.proofs.Sources.{IsNameOf, IsFreshCall, call_typed_fresh}
-use Rattle.region_typing_rules.proofs.Marks.{IsAssignment, IsFirst, target_of, assignment_plain, initialised_plain}
+use Rattle.region_typing_rules.proofs.Marks.{IsAssignment, IsFirst, target_of, converted_met, assignment_plain, initialised_plain}
 
 -- ---- marks are only added
 
@@ -221,10 +223,9 @@ return_only may core.ReturnNothing h = tt
 return_only may core.Break h = absurd h
 return_only may core.Continue h = absurd h
 
-returned_is : (o : Option CType) (t : Typed) (span : Span) → Promises IsReturn (returned o t span)
-returned_is None t span = tt
-returned_is (Some type) (Value u null value place) span = needs_promises IsReturn (converts u null type) E13 span _ (λ ok. tt)
-returned_is (Some type) (AStruct number place) span = tt
+returned_is : (f : Knowledge) (o : Option CType) (t : Typed) (span : Span) → Promises IsReturn (returned f o t span)
+returned_is f None t span = tt
+returned_is f (Some type) t span = converted_met IsReturn f t type span (λ v. Passes (core.Return v)) (λ v. tt)
 
 nothing_is : (o : Option CType) (span : Span) → Promises IsReturn (returned_nothing o span)
 nothing_is None span = tt
@@ -232,11 +233,11 @@ nothing_is (Some type) span = tt
 
 pub return_is : (at : Places) (g : Scope) (o : Option Expression) (span : Span) → Promises IsReturn (return at g o span)
 return_is at g None span = nothing_is g.result span
-return_is at g (Some x) span = passing_any IsReturn (typed at g x) _ (λ t. returned_is g.result t span)
+return_is at g (Some x) span = passing_any IsReturn (typed at g x) _ (λ t. returned_is g.flow g.result t span)
 
 pub call_only : (may : ℕ → Bool) (x : core.Statement) → IsPlain [] x → AssignsOnly may x
 call_only may core.Nothing h = tt
-call_only may (core.SetLocal local value) h = absurd (let q = h.1.1 in cc)
+call_only may (core.SetLocal local value) h = absurd (let q = h.1 in cc)
 call_only may (core.Store type place value) h = tt
 call_only may (core.UpdateLocal char local operator value site) h = absurd (let q = h.1 in cc)
 call_only may (core.Update type place operator value site) h = tt

@@ -18,7 +18,7 @@ use Rattle.ckc_core.specs.Core as core
 use Rattle.region_typing_rules.specs.Verdicts.{Verdict, Passes, passing}
 use Rattle.region_typing_rules.specs.Scopes.{Scope, Signature, named, function_named}
 use Rattle.region_typing_rules.specs.Types.{type_named}
-use Rattle.region_typing_rules.specs.Expressions.{Places, Typed, site_at, bounded, name_typed, dotted, arrowed, unary_typed, predefined_call, called, typed, all_typed, call_typed}
+use Rattle.region_typing_rules.specs.Expressions.{Places, Typed, site_at, bounded, name_typed, dotted, arrowed, unary_typed, indexed, predefined_call, called, typed, all_typed, call_typed}
 use Rattle.region_typing_rules.proofs.NamedVerdicts.{AllNamed, Any, then_named, needs_named, dotted_named, arrowed_named, unary_named, binary_named, indexed_named, declared_named, writes_named, result_named}
 use Rattle.region_typing_rules.proofs.NamedMentions.{AreFound, found_append}
 use Rattle.region_typing_rules.proofs.NamedScopes.{number_equal, Agrees, among_any, call_function, name_meant, found_tags, type_named_named}
@@ -78,7 +78,7 @@ module _ (of : Numbers) (at : Places) (n : Scopes) (g : Scope) (agrees : Agrees 
     typed_named (e.Number value span) built found = needs_named Any (nat_lt value (2 ^ 31)) E04 span _ tt
     typed_named (e.Character value span) built found = needs_named Any (nat_lt value (2 ^ 31)) E04 span _ tt
     typed_named (e.Text bytes span) built found = tt
-    typed_named (e.Name name) built found = bounded_named g (site_at at name.span) (passing (named g (of name.name)) (λ x. Passes (name_typed x))) (then_named Any (named g (of name.name)) _ (name_meant of n g agrees name found.0) (λ x. tt))
+    typed_named (e.Name name) built found = bounded_named g (site_at at name.span) (passing (named g (of name.name)) (λ x. Passes (name_typed g.structs x (site_at at name.span)))) (then_named Any (named g (of name.name)) _ (name_meant of n g agrees name found.0) (λ x. tt))
     typed_named (e.Call callee arguments span) built found =
         let parts = and_parts (not (bytes_eq callee.name strlen)) (built_expressions arguments) built in
         then_named Any (all_typed at g (number_expressions of arguments)) _ (all_named arguments parts.1 found.1)
@@ -93,7 +93,8 @@ module _ (of : Numbers) (at : Places) (n : Scopes) (g : Scope) (agrees : Agrees 
     typed_named (e.Index base index span) built found =
         let parts = and_parts (built_expression base) (built_expression index) built in
         let both = found_append n (expression_mentions base) (expression_mentions index) found in
-        then_named Any (typed at g (number_expression of base)) _ (typed_named base parts.0 both.0) (λ a. then_named Any (typed at g (number_expression of index)) _ (typed_named index parts.1 both.1) (λ b. indexed_named a b span))
+        bounded_named g (site_at at span) (passing (typed at g (number_expression of base)) (λ a. passing (typed at g (number_expression of index)) (λ b. indexed a b (site_at at span) span)))
+        (then_named Any (typed at g (number_expression of base)) _ (typed_named base parts.0 both.0) (λ a. then_named Any (typed at g (number_expression of index)) _ (typed_named index parts.1 both.1) (λ b. indexed_named a b (site_at at span) span)))
     typed_named (e.Dot base member span) built found =
         bounded_named g (site_at at span) (passing (typed at g (number_expression of base)) (λ a. dotted g a (of member.name) (site_at at span) span)) (then_named Any (typed at g (number_expression of base)) _ (typed_named base built (found_append n (expression_mentions base) _ found).0) (λ a. dotted_named g a (of member.name) (site_at at span) span))
     typed_named (e.Arrow base member span) built found =
@@ -102,7 +103,7 @@ module _ (of : Numbers) (at : Places) (n : Scopes) (g : Scope) (agrees : Agrees 
     typed_named (e.Binary operator left right span) built found =
         let parts = and_parts (built_expression left) (built_expression right) built in
         let both = found_append n (expression_mentions left) (expression_mentions right) found in
-        then_named Any (typed at g (number_expression of left)) _ (typed_named left parts.0 both.0) (λ a. then_named Any (typed at g (number_expression of right)) _ (typed_named right parts.1 both.1) (λ b. binary_named operator a b (site_at at span) span))
+        then_named Any (typed at g (number_expression of left)) _ (typed_named left parts.0 both.0) (λ a. then_named Any (typed at g (number_expression of right)) _ (typed_named right parts.1 both.1) (λ b. binary_named g operator a b (site_at at span) span))
 
     pub all_named : (xs : Expressions) → built_expressions xs ≡ true → AreFound n (expressions_mentions xs) → AllNamed (all_typed at g (number_expressions of xs))
     all_named e.NoMore built found = tt

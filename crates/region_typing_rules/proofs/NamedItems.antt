@@ -1,12 +1,12 @@
 -- In a whole program each name stands for something, where naming finds no fault.
-use Rattle.std.proofs.Common.{◌≡◌, ℕ, zero, suc, ◌+◌, Bool, true, false, ℤ, List, [], ◌∷◌, ◌++◌, map, length, Option, Some, None, refl, sym, ◌∙◌, subst, inl, inr}
-use Rattle.std.specs.Prelude.{◌==◌, ◌&&◌, ◌||◌, not, bytes_eq, nat_lt, nat_le, is_some, is_none, position, Result, Ok, Err, flat_map}
+use Rattle.std.proofs.Common.{◌≡◌, ℕ, zero, suc, ◌+◌, ◌*◌, Bool, true, false, ℤ, List, [], ◌∷◌, ◌++◌, map, length, Option, Some, None, refl, sym, ◌∙◌, subst, inl, inr}
+use Rattle.std.specs.Prelude.{◌==◌, ◌^◌, ◌&&◌, ◌||◌, not, bytes_eq, nat_lt, nat_le, is_some, is_none, position, Result, Ok, Err, flat_map}
 use Rattle.std.specs.List.{list_any, list_all}
 use Rattle.std.specs.Option.{option_map}
 use Rattle.std.proofs.lemmas.Bool.{and_parts}
 use Rattle.ckc_text.specs.declared.fault.SourceFault.{SourceFault}
 use Rattle.ckc_text.specs.declared.place.Span.{Span}
-use Rattle.ckc_text.specs.declared.code.Code.TheVariants.{E08, E10, E13, E15, E27}
+use Rattle.ckc_text.specs.declared.code.Code.TheVariants.{E04, E08, E10, E13, E15, E27}
 use Rattle.ckc_tree.specs.declared.identifier.Identifier.{Identifier}
 use Rattle.ckc_tree.specs.declared.item.FunctionKind.{FunctionKind}
 use Rattle.ckc_tree.specs.declared.item.FunctionKind.TheVariants as function_kinds
@@ -16,7 +16,7 @@ use Rattle.ckc_tree.specs.Statements.{Initializer, Declarator, Statements}
 use Rattle.ckc_tree.specs.Items as i
 use Rattle.ckc_tree.specs.Items.{ResultForm, Parameters, Body, Item, Tree}
 use Rattle.ckc_tree.specs.Numbers.{Numbers, number_type, number_expression, number_initializer, number_declarator, number_statements, number_member, number_structure, number_global, number_result, number_parameters, number_body, number_function, number_item}
-use Rattle.built_forms.specs.Built.{optional, built_type, built_initializer, built_declarator, built_result, built_parameters, built_member, is_number_result, is_number_parameter, built_body, built_of_kind, built_function, built_item, is_built}
+use Rattle.built_forms.specs.Built.{optional, built_type, built_initializer, built_variable, built_result, built_parameters, built_member, is_number_result, is_number_parameter, built_body, built_of_kind, built_function, built_item, is_built}
 use Rattle.ckc_names_rules.specs.declared.given.Given.{Given}
 use Rattle.ckc_names_rules.specs.Given.{number_in, given_by}
 use Rattle.ckc_names_rules.specs.Mentions.{Mention, DeclareTag, DeclareFunction, type_mentions, bounds_mentions, optional_mentions, initializer_mentions, declarator_mentions, in_block, listed_mentions, parameters_mentions, statements_mentions, result_mentions, function_mentions, item_mentions, tree_mentions}
@@ -28,12 +28,13 @@ use Rattle.pointer_modes.specs.Types.{CType, Int, Char, Struct, Pointer, Structu
 use Rattle.ckc_core.specs.Programs.{Initial}
 use Rattle.ckc_core.specs.Core as core
 use Rattle.region_typing_rules.specs.Verdicts.{Verdict, Passes, Stops, Broken, Nameless, Unnamed, passing, meant, picked}
-use Rattle.region_typing_rules.specs.Scopes.{Scope, Signature, Variable as FileVariable, found_if, Object, object_named, function_named, struct_named}
+use Rattle.region_typing_rules.specs.Scopes.{Scope, Signature, Variable as Parameter, FileVariable, found_if, object_of, object_named, function_named, struct_named}
 use Rattle.region_typing_rules.specs.Types.{without_stars, base_type}
 use Rattle.region_typing_rules.specs.Expressions.{Places, is_tainted, typed}
 use Rattle.bounds_flow.specs.Flows.{at_entry}
 use Rattle.region_typing_rules.specs.Statements.{is_unchecked, statements}
-use Rattle.region_typing_rules.specs.Items.{Walk, is_struct, member_types, scalar_members, with_struct, member_names, structure, signed_constant, Walked, Missing, Written, Constants, initializer, is_zero, number_or_break, object_cells, with_variable, written_size, few_bytes, room_for, WalkedVariable, variables, room_for_first, with_objects, global, listed, parameter_types, result_type, agrees, all_scalar, scalar_result, with_function, variables_in, inside, function_body, is_defined, function_rules, signature_of, function, is_off, item, items, start, walked}
+use Rattle.ckc_tree.specs.declared.stmt.SignedConstant.{SignedConstant}
+use Rattle.region_typing_rules.specs.Items.{Walk, is_struct, member_types, scalar_members, with_struct, member_names, structure, signed_constant, Walked, Missing, Written, Constants, unsigned_number, small_constants, initializer, is_zero, number_or_break, cells_or_break, object_cells, with_variable, length_of, count_of, is_length, written_size, few_bytes, room_for, WalkedVariable, variables, room_for_first, with_objects, global, listed, parameter_types, result_type, agrees, all_scalar, scalar_result, with_function, variables_in, inside, function_body, is_defined, function_rules, signature_of, function, is_off, item, items, start, walked}
 use Rattle.region_typing_rules.specs.Cores.{checked}
 use Rattle.region_typing_rules.proofs.Signatures.{bytes_equal}
 use Rattle.region_typing_rules.proofs.NamedVerdicts.{IsNamed, AllNamed, Any, passing_named, then_named, needs_named, named_so}
@@ -49,8 +50,8 @@ object_more : (k : ℕ) (vs more : List FileVariable) (x : ℕ) → is_some (obj
 object_more k [] more x h = absurd (cc)
 object_more k (v ∷ vs) more x h = by (x == v.name) h (λ h'. object_more (suc k) vs more x h')
   where
-    by : (b : Bool) → is_some (found_if b (Some (Object k v.type)) (object_named (suc k) vs x)) ≡ true → (is_some (object_named (suc k) vs x) ≡ true → is_some (object_named (suc k) (vs ++ more) x) ≡ true)
-        → is_some (found_if b (Some (Object k v.type)) (object_named (suc k) (vs ++ more) x)) ≡ true
+    by : (b : Bool) → is_some (found_if b (Some (object_of k v.type v.length)) (object_named (suc k) vs x)) ≡ true → (is_some (object_named (suc k) vs x) ≡ true → is_some (object_named (suc k) (vs ++ more) x) ≡ true)
+        → is_some (found_if b (Some (object_of k v.type v.length)) (object_named (suc k) (vs ++ more) x)) ≡ true
     by true h' again = refl
     by false h' again = again h'
 
@@ -58,7 +59,7 @@ object_last : (k : ℕ) (vs : List FileVariable) (v : FileVariable) (x : ℕ) �
 object_last k [] v x h = rw h refl
 object_last k (w ∷ vs) v x h = by (x == w.name) (object_last (suc k) vs v x h)
   where
-    by : (b : Bool) → is_some (object_named (suc k) (vs ++ v ∷ []) x) ≡ true → is_some (found_if b (Some (Object k w.type)) (object_named (suc k) (vs ++ v ∷ []) x)) ≡ true
+    by : (b : Bool) → is_some (object_named (suc k) (vs ++ v ∷ []) x) ≡ true → is_some (found_if b (Some (object_of k w.type w.length)) (object_named (suc k) (vs ++ v ∷ []) x)) ≡ true
     by true again = refl
     by false again = again
 
@@ -78,8 +79,8 @@ function_last (g ∷ fs) f x h = by (x == g.name) refl (function_last fs f x h)
     by true e again = rw e refl
     by false e again = rw e again
 
-variable_agrees : (of : Numbers) (name : Identifier) (t : CType) (n : Scopes) (g : Scope) → AgreesFile of n g → AgreesFile of (standing_for name Variable n) (with_variable (of name.name) t g)
-variable_agrees of name t n g h = record {
+variable_agrees : (of : Numbers) (name : Identifier) (t : CType) (length : Option ℕ) (n : Scopes) (g : Scope) → AgreesFile of n g → AgreesFile of (standing_for name Variable n) (with_variable (of name.name) t length g)
+variable_agrees of name t length n g h = record {
   value = λ x v. by x (bytes_eq x name.name) refl v;
   function = λ x f. h.function x (entry_without is_function name.name Variable refl n.blocks x f);
   tag = h.tag;
@@ -87,9 +88,9 @@ variable_agrees of name t n g h = record {
 }
   where
     new : FileVariable
-    new = record { name = of name.name; type = t }
+    new = record { name = of name.name; type = t; length = length }
 
-    by : (x : List ℕ) (b : Bool) → bytes_eq x name.name ≡ b → is_value (visible (with_entry name.name Variable n.blocks) x) ≡ true → is_some (object_named 0 (with_variable (of name.name) t g).variables (of x)) ≡ true
+    by : (x : List ℕ) (b : Bool) → bytes_eq x name.name ≡ b → is_value (visible (with_entry name.name Variable n.blocks) x) ≡ true → is_some (object_named 0 (with_variable (of name.name) t length g).variables (of x)) ≡ true
     by x true e v = object_last 0 g.variables new (of x) (number_equal of x name.name e)
     by x false e v = object_more 0 g.variables (new ∷ []) (of x) (h.value x (subst (λ o. is_value o ≡ true) (entry_value name.name Variable n.blocks x e) v))
 
@@ -173,41 +174,56 @@ bytes_named taken span = needs_named Any (nat_le taken 32768) E08 span (Passes t
 room_named : (of : Numbers) (n : Scopes) (w : Walk) (base : TypeTree) (span : Span) (d : Declarator) → File of n w → HasTags n.tags base → AllNamed (room_for w (number_type of base) span (number_declarator of d))
 room_named of n w base span d agrees h =
     needs_named Any (nat_lt (length w.scope.variables) 4096) E08 span _
-    (then_named Any (written_size w.scope (number_type of base) d.stars) _ (size_named of n.tags w.scope agrees.tag base d.stars h) (λ size. bytes_named (w.taken + (rounded_up size + 16)) span))
+    (then_named Any (written_size w.scope (number_type of base) d.stars) _ (size_named of n.tags w.scope agrees.tag base d.stars h) (λ size. needs_named Any (is_length (length_of (number_declarator of d))) E08 span _
+    (bytes_named (w.taken + (rounded_up (count_of (length_of (number_declarator of d)) * size) + 16)) span)))
 
 first_room_named : (of : Numbers) (n : Scopes) (w : Walk) (g : i.Global) (ds : List Declarator) → File of n w → HasTags n.tags g.base → AllNamed (room_for_first w (number_global of g) (map (number_declarator of) ds))
 first_room_named of n w g [] agrees h = tt
 first_room_named of n w g (d ∷ ds) agrees h = room_named of n w g.base g.span d agrees h
 
+small_named : (cs : List SignedConstant) (next : Verdict Walked) → AllNamed next → AllNamed (small_constants cs next)
+small_named [] next h = h
+small_named (c ∷ cs) next h = needs_named Any (nat_lt (unsigned_number c.constant) (2 ^ 31)) E04 c.span _ (small_named cs next h)
+
 initializer_named : (of : Numbers) (at : Places) (n : Scopes) (g : Scope) → Agrees of n g → (o : Option Initializer) → optional built_initializer o ≡ true → AreFound n (optional_mentions initializer_mentions o) → AllNamed (initializer at g (option_map (number_initializer of) o))
 initializer_named of at n g agrees None built found = tt
 initializer_named of at n g agrees (Some (s.Value value)) built found = then_named Any (typed at g (number_expression of value)) _ (typed_named of at n g agrees value built found) (λ t. tt)
-initializer_named of at n g agrees (Some (s.Constants constants span)) built found = tt
+initializer_named of at n g agrees (Some (s.Constants constants span)) built found = small_named constants _ tt
 
 number_named : (o : Option ℤ) (span : Span) (cells : ℤ → List Initial) → AllNamed (number_or_break o span cells)
 number_named None span cells = tt
 number_named (Some z) span cells = tt
 
-cells_named : (given : Given) (structs : List Structure) (t : CType) (initial : Walked) (span : Span) → AllNamed (object_cells given structs t initial span)
-cells_named given structs t Missing span = tt
-cells_named given structs t Constants span = tt
-cells_named given structs Int (Written value x) span = number_named (signed_constant given value) span _
-cells_named given structs Char (Written value x) span = number_named (signed_constant given value) span _
-cells_named given structs (Struct number) (Written value x) span = tt
-cells_named given structs (Pointer mode kind target) (Written value x) span = needs_named Any (is_zero x) E13 span _ tt
+all_cells_named : (o : Option (List Initial)) (span : Span) → AllNamed (cells_or_break o span)
+all_cells_named None span = tt
+all_cells_named (Some cells) span = tt
+
+cells_named : (given : Given) (structs : List Structure) (t : CType) (length : Option ℕ) (initial : Walked) (span : Span) → AllNamed (object_cells given structs t length initial span)
+cells_named given structs t None Missing span = tt
+cells_named given structs t None (Constants cs) span = tt
+cells_named given structs Int None (Written value x) span = number_named (signed_constant given value) span _
+cells_named given structs Char None (Written value x) span = number_named (signed_constant given value) span _
+cells_named given structs (Struct number) None (Written value x) span = tt
+cells_named given structs (Pointer mode kind target) None (Written value x) span = needs_named Any (is_zero x) E13 span _ tt
+cells_named given structs t (Some length) Missing span = tt
+cells_named given structs t (Some length) (Written value x) span = tt
+cells_named given structs Int (Some length) (Constants cs) span = all_cells_named _ span
+cells_named given structs Char (Some length) (Constants cs) span = all_cells_named _ span
+cells_named given structs (Struct number) (Some length) (Constants cs) span = tt
+cells_named given structs (Pointer mode kind target) (Some length) (Constants cs) span = tt
 
 objects_named : (w : Walk) (span : Span) (vs : List WalkedVariable) → IsNamed (λ (v : Walk). v.scope ≡ w.scope) (with_objects w span vs)
 objects_named w span [] = refl
 objects_named w span (v ∷ vs) =
-    then_named (λ (x : Walk). x.scope ≡ w.scope) (object_cells w.scope.given w.scope.structs v.type v.initial span) _ (cells_named w.scope.given w.scope.structs v.type v.initial span)
+    then_named (λ (x : Walk). x.scope ≡ w.scope) (object_cells w.scope.given w.scope.structs v.type v.length v.initial span) _ (cells_named w.scope.given w.scope.structs v.type v.length v.initial span)
     (λ cells. needs_named (λ (x : Walk). x.scope ≡ w.scope) (nat_lt 0 (length cells)) E10 span _ (objects_named (record w { objects = w.objects ++ cells ∷ [] }) span vs))
 
-variables_named : (of : Numbers) (at : Places) (ds : List Declarator) (n m : Scopes) (w : Walk) (base : TypeTree) (type : CType) (span : Span) (done : List WalkedVariable) → File of n w → HasTags n.tags base → list_all built_declarator ds ≡ true
+variables_named : (of : Numbers) (at : Places) (ds : List Declarator) (n m : Scopes) (w : Walk) (base : TypeTree) (type : CType) (span : Span) (done : List WalkedVariable) → File of n w → HasTags n.tags base → list_all built_variable ds ≡ true
     → all_mentioned (flat_map declarator_mentions ds) n ≡ Ok m → IsNamed (λ (r : Walk × List WalkedVariable). File of m r.0) (variables at w (number_type of base) type span (map (number_declarator of) ds) done)
 variables_named of at [] n m w base type span done agrees tags built h = subst (λ k. File of k w) (sym (quiet_all [] tt n m h).1) agrees
 variables_named of at (d ∷ ds) n m w base type span done agrees tags built h =
     let Q : Walk × List WalkedVariable → Type 0 = λ r. File of m r.0 in
-    let parts = and_parts (built_declarator d) (list_all built_declarator ds) built in
+    let parts = and_parts (built_variable d) (list_all built_variable ds) built in
     let form = (and_parts _ _ (and_parts _ _ parts.0).1).1 in
     let split = mentioned_append (declarator_mentions d) (flat_map declarator_mentions ds) n m h in
     let inner = standing_for d.name Variable n in
@@ -217,15 +233,15 @@ variables_named of at (d ∷ ds) n m w base type span done agrees tags built h =
     let last = quiet_all initial (optional_quiet initializer_mentions initializer_quiet d.initializer) inner split.0 behind.1 in
     then_named Q (room_for w (number_type of base) span (number_declarator of d)) _ (room_named of n w base span d agrees tags)
     (λ taken. then_named Q (without_stars (number_type of base) d.stars type) _ (stars_named (number_type of base) d.stars type)
-    (λ t. (let now = variable_agrees of d.name t n w.scope agrees in
-    let inside = with_variable (of d.name.name) t w.scope in
+    (λ t. (let now = variable_agrees of d.name t (length_of d) n w.scope agrees in
+    let inside = with_variable (of d.name.name) t (length_of d) w.scope in
     then_named Q (initializer at inside (option_map (number_initializer of) d.initializer)) _ (initializer_named of at inner inside (file_agrees of inner _ now) d.initializer form last.0)
     (λ x. variables_named of at ds split.0 m (record w { scope = inside; taken = taken }) base type span _
     (subst (λ k. AgreesFile of k inside) (sym last.1) now) (subst (λ k. HasTags k.tags base) (sym last.1) tags) parts.1 split.2))))
 
 global_named : (of : Numbers) (at : Places) (n m : Scopes) (w : Walk) (g : i.Global) → File of n w → built_item (i.GlobalItem g) ≡ true → all_mentioned (item_mentions (i.GlobalItem g)) n ≡ Ok m → IsNamed (File of m) (global at w (number_global of g))
 global_named of at n m w g agrees built h =
-    let forms = and_parts (built_type g.base) (list_all built_declarator g.declarators) (and_parts (not g.tainted) _ built).1 in
+    let forms = and_parts (built_type g.base) (list_all built_variable g.declarators) (and_parts (not g.tainted) _ built).1 in
     let front = quiet_front (type_mentions g.base) (flat_map declarator_mentions g.declarators) (type_quiet g.base) n m h in
     let tags = found_tags n g.base front.0 in
     let base = number_type of g.base in
@@ -286,7 +302,7 @@ parameters_keep i.Nothing = nothing_keeps
 parameters_keep i.VoidAlone = nothing_keeps
 parameters_keep (i.Listed members) = listed_keeps members
 
-body_named : (of : Numbers) (at : Places) (w : Walk) (f : Signature) (ps : List FileVariable) (o : Option Body) (k l : Scopes) → ((body : Statements) → Agrees of k (inside f ps body w.scope)) → optional built_body o ≡ true → all_mentioned (optional_mentions of_body o) k ≡ Ok l
+body_named : (of : Numbers) (at : Places) (w : Walk) (f : Signature) (ps : List Parameter) (o : Option Body) (k l : Scopes) → ((body : Statements) → Agrees of k (inside f ps body w.scope)) → optional built_body o ≡ true → all_mentioned (optional_mentions of_body o) k ≡ Ok l
     → IsNamed (λ (v : Walk). v.scope ≡ w.scope) (function_body at w f ps (option_map (number_body of) o))
 body_named of at w f ps None k l agrees built h = refl
 body_named of at w f ps (Some body) k l agrees built h =

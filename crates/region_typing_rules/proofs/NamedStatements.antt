@@ -25,7 +25,7 @@ use Rattle.bounds_flow.specs.Settling.{Finding, Meets, WasLost, Falls}
 use Rattle.region_typing_rules.specs.Readings.{told}
 use Rattle.region_typing_rules.specs.Knowing.{assigned_by, first_found, settled_as, settling, knowing, when, cut, broken, continued, at_loop}
 use Rattle.region_typing_rules.specs.Statements.{step_of, one, assignment, assigning, with_local, initialised, first_value, declarator, declarators, declaration, behind_block, behind_branch, behind_both, behind_loop, before_step, in_loop, is_unchecked, condition, optional_condition, optional_step, first_part, return, statement, statements}
-use Rattle.region_typing_rules.proofs.NamedVerdicts.{IsNamed, AllNamed, Any, passing_named, then_named, needs_named, scalar_named, converted_named, updated_named, stored_named, returned_named, nothing_named}
+use Rattle.region_typing_rules.proofs.NamedVerdicts.{IsNamed, AllNamed, Any, passing_named, then_named, needs_named, scalar_named, met_named, converted_named, updated_named, stored_named, returned_named, nothing_named}
 use Rattle.region_typing_rules.proofs.NamedMentions.{AreFound, mentioned_append, quiet_front, quiet_all, found_append, type_quiet, expression_quiet, bounds_quiet, optional_quiet, initializer_quiet, assignment_quiet, declared_front, opened, block_mentioned, block_front, for_mentions, for_keeps, statement_keeps, statements_keep}
 use Rattle.region_typing_rules.proofs.NamedScopes.{Agrees, opened_agrees, loop_agrees, flow_agrees, flow_later, from_flow, Later, later_same, later_further, later_block, later_loop, later_local, behind_agrees, local_agrees, found_tags, base_named, stars_named}
 use Rattle.region_typing_rules.proofs.NamedExpressions.{typed_named, call_named}
@@ -67,7 +67,7 @@ module _ (of : Numbers) (at : Places) where
       let parts = and_parts (built_expression target) (built_expression value) built in
       let both = found_append n (expression_mentions target) (expression_mentions value) found in
       then_named Any (typed at g (number_expression of target)) _ (typed_named of at n g agrees target parts.0 both.0)
-      (λ a. then_named Any (typed at g (number_expression of value)) _ (typed_named of at n g agrees value parts.1 both.1) (λ b. stored_named at operator a b span))
+      (λ a. then_named Any (typed at g (number_expression of value)) _ (typed_named of at n g agrees value parts.1 both.1) (λ b. stored_named at g.flow operator a b span))
   assignment_named n g agrees (s.Step operator side target span) built found =
       then_named Any (typed at g (number_expression of target)) _ (typed_named of at n g agrees target built found) (λ a. updated_named at (step_of operator) a one span)
 
@@ -91,14 +91,14 @@ module _ (of : Numbers) (at : Places) where
 
   return_named : (n : Scopes) (g : Scope) → Agrees of n g → (o : Option Expression) (span : Span) → optional built_expression o ≡ true → AreFound n (optional_mentions expression_mentions o) → AllNamed (return at g (option_map (number_expression of) o) span)
   return_named n g agrees None span built found = nothing_named g.result span
-  return_named n g agrees (Some x) span built found = then_named Any (typed at g (number_expression of x)) _ (typed_named of at n g agrees x built found) (λ t. returned_named g.result t span)
+  return_named n g agrees (Some x) span built found = then_named Any (typed at g (number_expression of x)) _ (typed_named of at n g agrees x built found) (λ t. returned_named g.flow g.result t span)
 
   -- ---- declarations
 
   initialised_named : (n : Scopes) (g : Scope) → Agrees of n g → (o : Option Initializer) (type : CType) (local : ℕ) (span : Span) → optional built_initializer o ≡ true → AreFound n (optional_mentions initializer_mentions o)
       → AllNamed (initialised at g (option_map (number_initializer of) o) type local span)
   initialised_named n g agrees None type local span built found = tt
-  initialised_named n g agrees (Some (s.Value value)) type local span built found = then_named Any (typed at g (number_expression of value)) _ (typed_named of at n g agrees value built found) (λ t. converted_named t type span _ (λ v. tt))
+  initialised_named n g agrees (Some (s.Value value)) type local span built found = then_named Any (typed at g (number_expression of value)) _ (typed_named of at n g agrees value built found) (λ t. converted_named t type span _ (λ v. met_named g.flow t type span _ tt))
   initialised_named n g agrees (Some (s.Constants constants list)) type local span built found = tt
 
   declarator_named : (n m : Scopes) (g : Scope) (base : TypeTree) (type : CType) (span : Span) (d : Declarator) → Agrees of n g → built_declarator d ≡ true → all_mentioned (declarator_mentions d) n ≡ Ok m

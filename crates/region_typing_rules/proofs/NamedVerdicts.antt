@@ -1,15 +1,17 @@
 -- Verdicts that aren't that a name stands for nothing: rules that speak of no name give no other ones.
 use Rattle.std.proofs.Common.{◌≡◌, ℕ, Bool, true, false, List, [], ◌∷◌, length, Option, Some, None, refl}
-use Rattle.std.specs.Prelude.{◌==◌, ◌&&◌, ◌||◌, not}
+use Rattle.std.specs.Prelude.{◌==◌, ◌&&◌, ◌||◌, not, is_some}
 use Rattle.ckc_text.specs.declared.place.Span.{Span}
 use Rattle.ckc_text.specs.declared.code.Code.{Code}
-use Rattle.ckc_text.specs.declared.code.Code.TheVariants.{E13, E14, E19, E24}
+use Rattle.ckc_text.specs.declared.code.Code.TheVariants.{E13, E14, E17, E18, E19, E24}
 use Rattle.ckc_tree.specs.declared.expr.UnaryOperator.{UnaryOperator}
 use Rattle.ckc_tree.specs.declared.expr.UnaryOperator.TheVariants as unary
 use Rattle.ckc_tree.specs.declared.expr.BinaryOperator.{BinaryOperator}
 use Rattle.ckc_tree.specs.declared.expr.BinaryOperator.TheVariants as binary
 use Rattle.ckc_tree.specs.declared.stmt.StoreOperator.{StoreOperator}
 use Rattle.ckc_tree.specs.declared.stmt.StoreOperator.TheVariants as stores
+use Rattle.pointer_modes.specs.declared.ctype.Kind.TheVariants as kinds
+use Rattle.bounds_flow.specs.Flows.{Knowledge}
 use Rattle.pointer_modes.specs.Types.{CType, Int, Char, Struct, Pointer, members_of}
 use Rattle.ckc_core.specs.declared.program.Site.{Site}
 use Rattle.act_words.specs.declared.operator.Operator.{Operator}
@@ -18,11 +20,14 @@ use Rattle.act_words.specs.declared.operator.BitwiseOperator.TheVariants as bits
 use Rattle.act_words.specs.declared.operator.Operator.TheVariants as operators
 use Rattle.act_words.specs.declared.operator.Comparison.{Comparison}
 use Rattle.act_words.specs.declared.operator.Comparison.TheVariants as comparisons
+use Rattle.ckc_core.specs.declared.program.Direction.{Direction}
+use Rattle.ckc_core.specs.declared.program.Direction.TheVariants as directions
 use Rattle.ckc_core.specs.Core as core
+use Rattle.ckc_core.specs.Meaning.{bounds_of}
 use Rattle.region_typing_rules.specs.Verdicts.{Verdict, Passes, Stops, Broken, Nameless, passing, needs}
 use Rattle.region_typing_rules.specs.Scopes.{Scope, Signature, members_named}
 use Rattle.region_typing_rules.specs.Types.{is_number, is_pointer, are_comparable, converts}
-use Rattle.region_typing_rules.specs.Expressions.{Places, Lvalue, OfLocal, OfCell, Typed, Value, AStruct, Called, Gives, GivesNothing, number, member_from, member_at, dotted, struct_place, pointed_by, arrowed, pointed_at, dereferenced, address_at, address, number_of, scalar_of, unary_typed, is_pointer_value, two_numbers, two_scalars, summands, equated_values, equated, ordered_values, ordered, arithmetic, binary_typed, indexed, in_type, converted, arguments_as, is_import, is_checked_argument, without_checked, crossing, declared_call, writes, with_result}
+use Rattle.region_typing_rules.specs.Expressions.{Places, Lvalue, OfLocal, OfCell, Standing, ForNothing, ForArray, For, Typed, Value, AStruct, Called, Gives, GivesNothing, plain, number, sum_node, at_place, member_from, member_at, dotted, struct_place, first_element, with_elements, pointed_by, arrowed, pointed_at, dereferenced, address_at, address, number_of, scalar_of, unary_typed, is_single_value, lacks_bounds, without_ptr, two_numbers, two_scalars, summands, operator_along, summed, sum_typed, equated_values, equated, ordered_values, ordered, arithmetic, binary_typed, element_at, indexed, in_type, asked_of, meets, bounds_met, converted, arguments_as, arguments_met, is_import, is_checked_argument, without_checked, crossing, declared_call, writes, with_result}
 use Rattle.region_typing_rules.specs.Statements.{assigned, updated, stored, returned, returned_nothing}
 
 -- no name stands for nothing, and this is so of the value where no rule is broken
@@ -69,14 +74,23 @@ pub dotted_named : (s : Scope) (t : Typed) (name : ℕ) (site : Site) (span : Sp
 dotted_named s (Value type zero value place) name site span = tt
 dotted_named s (AStruct number place) name site span = member_named s number (struct_place place site) name site span
 
+elements_named : {A : Type 0} (value : core.Expression) (span : Span) (next : Verdict A) → AllNamed next → AllNamed (with_elements value span next)
+elements_named value span next h = needs_named Any (is_some (bounds_of value)) E18 span next h
+
 pointed_by_named : (s : Scope) (t : CType) (value : core.Expression) (name : ℕ) (site : Site) (span : Span) → AllNamed (pointed_by s t value name site span)
 pointed_by_named s Int value name site span = tt
 pointed_by_named s Char value name site span = tt
 pointed_by_named s (Struct number) value name site span = tt
-pointed_by_named s (Pointer mode kind Int) value name site span = tt
-pointed_by_named s (Pointer mode kind Char) value name site span = tt
-pointed_by_named s (Pointer mode kind (Struct number)) value name site span = member_named s number (core.Through value core.First 0 site) name site span
-pointed_by_named s (Pointer mode kind (Pointer mode' kind' target)) value name site span = tt
+pointed_by_named s (Pointer mode kinds.One Int) value name site span = tt
+pointed_by_named s (Pointer mode kinds.One Char) value name site span = tt
+pointed_by_named s (Pointer mode kinds.One (Struct number)) value name site span = member_named s number (core.Through value core.First 0 site) name site span
+pointed_by_named s (Pointer mode kinds.One (Pointer mode' kind' target)) value name site span = tt
+pointed_by_named s (Pointer mode kinds.Array Int) value name site span = tt
+pointed_by_named s (Pointer mode kinds.Array Char) value name site span = tt
+pointed_by_named s (Pointer mode kinds.Array (Struct number)) value name site span =
+    then_named Any (member_at s number (first_element value site) name site span) _ (member_named s number (first_element value site) name site span) (λ t. elements_named value span (Passes t) tt)
+pointed_by_named s (Pointer mode kinds.Array (Pointer mode' kind' target)) value name site span = tt
+pointed_by_named s (Pointer mode kinds.Nt target) value name site span = tt
 
 pub arrowed_named : (s : Scope) (t : Typed) (name : ℕ) (site : Site) (span : Span) → AllNamed (arrowed s t name site span)
 arrowed_named s (Value type zero value place) name site span = pointed_by_named s type value name site span
@@ -86,20 +100,23 @@ pointed_at_named : (t : CType) (value : core.Expression) (site : Site) (span : S
 pointed_at_named Int value site span = tt
 pointed_at_named Char value site span = tt
 pointed_at_named (Struct number) value site span = tt
-pointed_at_named (Pointer mode kind target) value site span = tt
+pointed_at_named (Pointer mode kinds.One target) value site span = tt
+pointed_at_named (Pointer mode kinds.Array target) value site span = elements_named value span (Passes (at_place target (first_element value site))) tt
+pointed_at_named (Pointer mode kinds.Nt target) value site span = tt
 
 dereferenced_named : (t : Typed) (site : Site) (span : Span) → AllNamed (dereferenced t site span)
 dereferenced_named (Value type zero value place) site span = pointed_at_named type value site span
 dereferenced_named (AStruct number place) site span = tt
 
-address_at_named : (type : CType) (o : Option Lvalue) (site : Site) (span : Span) → AllNamed (address_at type o site span)
-address_at_named type None site span = tt
-address_at_named type (Some (OfLocal local)) site span = tt
-address_at_named type (Some (OfCell place)) site span = tt
+address_at_named : (type : CType) (place : Standing) (site : Site) (span : Span) → AllNamed (address_at type place site span)
+address_at_named type ForNothing site span = tt
+address_at_named type ForArray site span = tt
+address_at_named type (For (OfLocal local)) site span = tt
+address_at_named type (For (OfCell place)) site span = tt
 
 address_named : (t : Typed) (site : Site) (span : Span) → AllNamed (address t site span)
 address_named (Value type zero value place) site span = address_at_named type place site span
-address_named (AStruct number place) site span = address_at_named (Struct number) (Some place) site span
+address_named (AStruct number place) site span = address_at_named (Struct number) (For place) site span
 
 number_named : {A : Type 0} (t : Typed) (span : Span) (next : core.Expression → Verdict A) → ((v : core.Expression) → AllNamed (next v)) → AllNamed (number_of t span next)
 number_named (Value type zero value place) span next h = needs_named Any (is_number type) E13 span (next value) (h value)
@@ -122,8 +139,23 @@ numbers_named a b span next h = number_named a span _ (λ v. number_named b span
 scalars_named : {A : Type 0} (a b : Typed) (span : Span) (next : core.Expression → core.Expression → Verdict A) → ((v w : core.Expression) → AllNamed (next v w)) → AllNamed (two_scalars a b span next)
 scalars_named a b span next h = scalar_named a span _ (λ v. scalar_named b span _ (λ w. h v w))
 
+apart_named : {A : Type 0} (a b : Typed) (span : Span) (next : Verdict A) → AllNamed next → AllNamed (without_ptr a b span next)
+apart_named a b span next h =
+    needs_named Any (not (is_single_value a || is_single_value b)) E19 span _ (needs_named Any (not (lacks_bounds a || lacks_bounds b)) E18 span next h)
+
 summands_named : {A : Type 0} (a b : Typed) (span : Span) (next : core.Expression → core.Expression → Verdict A) → ((v w : core.Expression) → AllNamed (next v w)) → AllNamed (summands a b span next)
-summands_named a b span next h = needs_named Any (not (is_pointer_value a || is_pointer_value b)) E19 span _ (numbers_named a b span next h)
+summands_named a b span next h = apart_named a b span _ (numbers_named a b span next h)
+
+summed_named : (s : Scope) (direction : Direction) (a b : Typed) (site : Site) (span : Span) → AllNamed (summed s direction a b site span)
+summed_named s direction (Value (Pointer mode kind target) zero pointer place) b site span =
+    number_named b span (λ w. plain (Pointer mode kind target) (core.Sum pointer direction w site (sum_node s.locals direction pointer w site))) (λ w. tt)
+summed_named s direction (Value Int zero value place) b site span = numbers_named (Value Int zero value place) b span (λ v w. number (core.Arithmetic (operator_along direction) v w site)) (λ v w. tt)
+summed_named s direction (Value Char zero value place) b site span = numbers_named (Value Char zero value place) b span (λ v w. number (core.Arithmetic (operator_along direction) v w site)) (λ v w. tt)
+summed_named s direction (Value (Struct k) zero value place) b site span = tt
+summed_named s direction (AStruct k place) b site span = tt
+
+sum_named : (s : Scope) (direction : Direction) (a b : Typed) (site : Site) (span : Span) → AllNamed (sum_typed s direction a b site span)
+sum_named s direction a b site span = apart_named a b span _ (summed_named s direction a b site span)
 
 equated_values_named : (t : CType) (z : Bool) (v : core.Expression) (u : CType) (y : Bool) (w : core.Expression) (span : Span) → AllNamed (equated_values t z v u y w span)
 equated_values_named t z v u y w span = by (is_number t && is_number u) (are_comparable t u) (is_pointer t && y) (is_pointer u && z) refl refl refl refl
@@ -153,30 +185,42 @@ ordered_named comparison (Value t z v p) (Value u y w q) span = ordered_values_n
 ordered_named comparison (Value t z v p) (AStruct n q) span = tt
 ordered_named comparison (AStruct n p) b span = tt
 
-pub binary_named : (operator : BinaryOperator) (a b : Typed) (site : Site) (span : Span) → AllNamed (binary_typed operator a b site span)
-binary_named binary.Or a b site span = scalars_named a b span _ (λ v w. tt)
-binary_named binary.And a b site span = scalars_named a b span _ (λ v w. tt)
-binary_named binary.BitOr a b site span = numbers_named a b span (arithmetic (operators.Bitwise bits.Or) site) (λ v w. tt)
-binary_named binary.BitXor a b site span = numbers_named a b span (arithmetic (operators.Bitwise bits.Xor) site) (λ v w. tt)
-binary_named binary.BitAnd a b site span = numbers_named a b span (arithmetic (operators.Bitwise bits.And) site) (λ v w. tt)
-binary_named binary.Equal a b site span = then_named Any (equated a b span) number (equated_named a b span) (λ v. tt)
-binary_named binary.NotEqual a b site span = then_named Any (equated a b span) _ (equated_named a b span) (λ v. tt)
-binary_named binary.Less a b site span = ordered_named comparisons.Less a b span
-binary_named binary.LessEqual a b site span = ordered_named comparisons.LessEqual a b span
-binary_named binary.Greater a b site span = ordered_named comparisons.Greater a b span
-binary_named binary.GreaterEqual a b site span = ordered_named comparisons.GreaterEqual a b span
-binary_named binary.ShiftLeft a b site span = numbers_named a b span (arithmetic (operators.Arithmetic arithmetics.ShiftLeft) site) (λ v w. tt)
-binary_named binary.ShiftRight a b site span = numbers_named a b span (arithmetic (operators.Arithmetic arithmetics.ShiftRight) site) (λ v w. tt)
-binary_named binary.Add a b site span = summands_named a b span (arithmetic (operators.Arithmetic arithmetics.Add) site) (λ v w. tt)
-binary_named binary.Subtract a b site span = summands_named a b span (arithmetic (operators.Arithmetic arithmetics.Subtract) site) (λ v w. tt)
-binary_named binary.Multiply a b site span = numbers_named a b span (arithmetic (operators.Arithmetic arithmetics.Multiply) site) (λ v w. tt)
-binary_named binary.Divide a b site span = numbers_named a b span (arithmetic (operators.Arithmetic arithmetics.Divide) site) (λ v w. tt)
-binary_named binary.Remainder a b site span = numbers_named a b span (arithmetic (operators.Arithmetic arithmetics.Remainder) site) (λ v w. tt)
+pub binary_named : (s : Scope) (operator : BinaryOperator) (a b : Typed) (site : Site) (span : Span) → AllNamed (binary_typed s operator a b site span)
+binary_named s binary.Or a b site span = scalars_named a b span _ (λ v w. tt)
+binary_named s binary.And a b site span = scalars_named a b span _ (λ v w. tt)
+binary_named s binary.BitOr a b site span = numbers_named a b span (arithmetic (operators.Bitwise bits.Or) site) (λ v w. tt)
+binary_named s binary.BitXor a b site span = numbers_named a b span (arithmetic (operators.Bitwise bits.Xor) site) (λ v w. tt)
+binary_named s binary.BitAnd a b site span = numbers_named a b span (arithmetic (operators.Bitwise bits.And) site) (λ v w. tt)
+binary_named s binary.Equal a b site span = then_named Any (equated a b span) number (equated_named a b span) (λ v. tt)
+binary_named s binary.NotEqual a b site span = then_named Any (equated a b span) _ (equated_named a b span) (λ v. tt)
+binary_named s binary.Less a b site span = ordered_named comparisons.Less a b span
+binary_named s binary.LessEqual a b site span = ordered_named comparisons.LessEqual a b span
+binary_named s binary.Greater a b site span = ordered_named comparisons.Greater a b span
+binary_named s binary.GreaterEqual a b site span = ordered_named comparisons.GreaterEqual a b span
+binary_named s binary.ShiftLeft a b site span = numbers_named a b span (arithmetic (operators.Arithmetic arithmetics.ShiftLeft) site) (λ v w. tt)
+binary_named s binary.ShiftRight a b site span = numbers_named a b span (arithmetic (operators.Arithmetic arithmetics.ShiftRight) site) (λ v w. tt)
+binary_named s binary.Add a b site span = sum_named s directions.Forward a b site span
+binary_named s binary.Subtract a b site span = sum_named s directions.Backward a b site span
+binary_named s binary.Multiply a b site span = numbers_named a b span (arithmetic (operators.Arithmetic arithmetics.Multiply) site) (λ v w. tt)
+binary_named s binary.Divide a b site span = numbers_named a b span (arithmetic (operators.Arithmetic arithmetics.Divide) site) (λ v w. tt)
+binary_named s binary.Remainder a b site span = numbers_named a b span (arithmetic (operators.Arithmetic arithmetics.Remainder) site) (λ v w. tt)
 
-pub indexed_named : (a b : Typed) (span : Span) → AllNamed (indexed a b span)
-indexed_named (Value t z v p) (Value u y w q) span = needs_named Any (is_pointer t && is_number u) E13 span _ tt
-indexed_named (Value t z v p) (AStruct n q) span = tt
-indexed_named (AStruct n p) b span = tt
+element_named : (t : CType) (pointer number : core.Expression) (site : Site) (span : Span) → AllNamed (element_at t pointer number site span)
+element_named Int pointer number site span = tt
+element_named Char pointer number site span = tt
+element_named (Struct k) pointer number site span = tt
+element_named (Pointer mode kinds.One target) pointer number site span = tt
+element_named (Pointer mode kinds.Array target) pointer number site span = elements_named pointer span _ tt
+element_named (Pointer mode kinds.Nt target) pointer number site span = tt
+
+pub indexed_named : (a b : Typed) (site : Site) (span : Span) → AllNamed (indexed a b site span)
+indexed_named (Value t z v p) (Value u y w q) site span = needs_named Any (is_pointer t && is_number u) E13 span _ (element_named t v w site span)
+indexed_named (Value t z v p) (AStruct n q) site span = tt
+indexed_named (AStruct n p) b site span = tt
+
+pub met_named : {A : Type 0} (f : Knowledge) (t : Typed) (to : CType) (span : Span) (next : Verdict A) → AllNamed next → AllNamed (bounds_met f t to span next)
+met_named f (Value type zero value place) to span next h = needs_named Any (zero || meets f value (asked_of type to)) E17 span next h
+met_named f (AStruct number place) to span next h = h
 
 pub converted_named : {A : Type 0} (t : Typed) (to : CType) (span : Span) (next : core.Expression → Verdict A) → ((v : core.Expression) → AllNamed (next v)) → AllNamed (converted t to span next)
 converted_named (Value type zero value place) to span next h = needs_named Any (converts type zero to) E13 span _ (h (in_type to (zero && is_number type) value))
@@ -197,9 +241,14 @@ crossing_named : {A : Type 0} (tainted : Bool) (ts : List (Typed × Span)) (next
 crossing_named true ts next h = unchecked_named ts next h
 crossing_named false ts next h = h
 
+all_met_named : {A : Type 0} (f : Knowledge) (ts : List (Typed × Span)) (types : List CType) (next : Verdict A) → AllNamed next → AllNamed (arguments_met f ts types next)
+all_met_named f [] types next h = h
+all_met_named f (t ∷ ts) [] next h = h
+all_met_named f (t ∷ ts) (type ∷ types) next h = met_named f t.0 type t.1 _ (all_met_named f ts types next h)
+
 pub declared_named : (s : Scope) (f : Signature) (ts : List (Typed × Span)) (site : Site) (span : Span) → AllNamed (declared_call s f ts site span)
 declared_named s f ts site span =
-    needs_named Any (length f.parameters == length ts) E14 span _ (crossing_named (is_import f) ts _ (then_named Any (arguments_as ts f.parameters) _ (arguments_named ts f.parameters) (λ values. tt)))
+    needs_named Any (length f.parameters == length ts) E14 span _ (crossing_named (is_import f) ts _ (then_named Any (arguments_as ts f.parameters) _ (arguments_named ts f.parameters) (λ values. all_met_named s.flow ts f.parameters _ tt)))
 
 pub writes_named : (of : core.Expression → core.Statement) (ts : List (Typed × Span)) (span : Span) → AllNamed (writes of ts span)
 writes_named of ts span = needs_named Any (length ts == 1) E14 span _ (then_named Any (arguments_as ts (Int ∷ [])) _ (arguments_named ts (Int ∷ [])) (λ values. tt))
@@ -211,21 +260,22 @@ result_named (GivesNothing call) span = tt
 -- ---- statements
 
 assigned_named : (t : Typed) (span : Span) (next : CType → Lvalue → Verdict core.Statement) → ((type : CType) (place : Lvalue) → AllNamed (next type place)) → AllNamed (assigned t span next)
-assigned_named (Value type zero value None) span next h = tt
-assigned_named (Value type zero value (Some place)) span next h = h type place
+assigned_named (Value type zero value ForNothing) span next h = tt
+assigned_named (Value type zero value ForArray) span next h = tt
+assigned_named (Value type zero value (For place)) span next h = h type place
 assigned_named (AStruct number place) span next h = tt
 
 pub updated_named : (at : Places) (operator : Operator) (target right : Typed) (span : Span) → AllNamed (updated at operator target right span)
 updated_named at operator target right span = assigned_named target span _ (λ type place. summands_named target right span _ (λ old value. tt))
 
-pub stored_named : (at : Places) (operator : StoreOperator) (target right : Typed) (span : Span) → AllNamed (stored at operator target right span)
-stored_named at stores.Set target right span = assigned_named target span _ (λ type place. converted_named right type span _ (λ value. tt))
-stored_named at stores.Add target right span = updated_named at (operators.Arithmetic arithmetics.Add) target right span
-stored_named at stores.Subtract target right span = updated_named at (operators.Arithmetic arithmetics.Subtract) target right span
+pub stored_named : (at : Places) (f : Knowledge) (operator : StoreOperator) (target right : Typed) (span : Span) → AllNamed (stored at f operator target right span)
+stored_named at f stores.Set target right span = assigned_named target span _ (λ type place. converted_named right type span _ (λ value. met_named f right type span _ tt))
+stored_named at f stores.Add target right span = updated_named at (operators.Arithmetic arithmetics.Add) target right span
+stored_named at f stores.Subtract target right span = updated_named at (operators.Arithmetic arithmetics.Subtract) target right span
 
-pub returned_named : (result : Option CType) (t : Typed) (span : Span) → AllNamed (returned result t span)
-returned_named None t span = tt
-returned_named (Some type) t span = converted_named t type span _ (λ v. tt)
+pub returned_named : (f : Knowledge) (result : Option CType) (t : Typed) (span : Span) → AllNamed (returned f result t span)
+returned_named f None t span = tt
+returned_named f (Some type) t span = converted_named t type span _ (λ v. met_named f t type span _ tt)
 
 pub nothing_named : (result : Option CType) (span : Span) → AllNamed (returned_nothing result span)
 nothing_named None span = tt

@@ -1,6 +1,7 @@
 -- The audited run of a program that has types ends, and so does the run: calls and turns by their number of ticks, and the start.
-use Rattle.std.proofs.Common.{◌≡◌, ℕ, zero, suc, ◌+◌, ◌≤◌, true, false, ℤ, List, [], ◌∷◌, map, take, replicate, Option, Some, None, refl, sym, ap, subst, arith}
-use Rattle.std.specs.Prelude.{IsTrue, All, slice_get}
+use Rattle.std.proofs.Common.{◌≡◌, ℕ, zero, suc, ◌+◌, ◌<◌, ◌≤◌, Bool, true, false, ℤ, List, [], ◌∷◌, map, take, replicate, Option, Some, None, refl, sym, ap, subst, arith}
+use Rattle.std.specs.Prelude.{IsTrue, All, nat_le, slice_get}
+use Rattle.std.proofs.lemmas.Bool.Decides.{nat_tests}
 use Rattle.std.specs.List.{AllByRecursion}
 use Rattle.std.proofs.lemmas.List.Elements.{recursion_from_All}
 use Rattle.flat_bytes.specs.Blocks.{first_offset}
@@ -14,110 +15,138 @@ use Rattle.act_words.specs.World.{new_world}
 use Rattle.act_words.specs.Touches.{Crossed, until_return}
 use Rattle.pointer_modes.specs.Types.{CType, Int, Structure}
 use Rattle.ckc_core.specs.Core as core
-use Rattle.ckc_core.specs.States.{Value, Number, Null, At, Shape, State, initial_value, object_block}
+use Rattle.ckc_core.specs.States.{Value, Number, Null, At, Grows, Shape, State, initial_value, object_block, shapes}
 use Rattle.ckc_core.specs.Programs.{Initial, parted}
 use Rattle.ckc_core.specs.Audits.{Agrees}
 use Rattle.ckc_core.specs.Steps.{Result, crossed, Flow, Next, Broke, Continued, Returned, parameters_of, fits_result, answer_if, answer, default_result, locals_for, back, exit, initial}
-use Rattle.ckc_core.specs.Meaning.{Setting, knot, body_if, body_of, effects, effect, meaning, audited_meaning}
-use Rattle.region_typing_rules.specs.Typed as typed
-use Rattle.region_typing_rules.specs.Typed.{Frame, IsScalarResult, IsFunction, IsInitial, IsTyped}
+use Rattle.ckc_core.specs.Meaning.{Setting, knot, body_if, body_of, effects, meaning, audited_meaning}
+use Rattle.region_typing_rules.specs.Typed.{Frame, IsScalarResult, IsInitial}
 use Rattle.region_typing_rules.specs.NeverStuck.{NeverUnsound, NeverStuck, AlwaysEnds}
 use Rattle.ckc_core.proofs.Numbers.{IsNumber}
 use Rattle.ckc_core.proofs.Elements.{of_element}
 use Rattle.ckc_core.proofs.Audits.{changes_nothing}
 use Rattle.region_typing_rules.proofs.Values.{grows_here, value_grown, value_typed, zero_typed, HaveLocals, values_fit, locals_typed, locals_grown, HoldsValues}
 use Rattle.region_typing_rules.proofs.Worlds.{Crosses, until_crosses}
-use Rattle.region_typing_rules.proofs.Soundness.{shaped, OfType, OfTypes, IsReply, IsAnswer, IsFlow, IsKept, Goes, goes_on, IsKnot, statement_goes, statements_go}
+use Rattle.region_typing_rules.proofs.Soundness.{shaped, OfType, OfTypes, IsReply, IsAnswer, EndsAs, IsKept, IsKnot, Goes, Runs, runs_then}
+use Rattle.region_typing_rules.proofs.Safe.{IsSafe, IsSafeProgram, KnotsUpTo, setting_of}
+use Rattle.region_typing_rules.proofs.Keeping.{Grown}
+use Rattle.region_typing_rules.proofs.Moving.{IsMovedTo, all_of_them, effects_move, knots_move}
+use Rattle.region_typing_rules.proofs.Terms.{so_further, so_on}
+use Rattle.region_typing_rules.specs.KnownIsSo.{WhereGiven}
 
 module _ (g : Frame) (budget : ℕ) where
-  default_typed : (b : List Shape) (result : Option CType) → IsScalarResult result → IsAnswer g result b (default_result result)
-  default_typed b None h = tt
-  default_typed b (Some t) h = zero_typed g.structs b t h
+  default_typed : (s : State) (result : Option CType) → IsScalarResult result → IsAnswer g result (default_result result) s
+  default_typed s None h = tt
+  default_typed s (Some t) h = zero_typed g.structs (shaped s) t h
 
-  answer_fits : (b : List Shape) (result : Option CType) (v : Option Value) → IsAnswer g result b v → fits_result result v ≡ true
-  answer_fits b None None h = refl
-  answer_fits b None (Some v) h = absurd h
-  answer_fits b (Some t) None h = absurd h
-  answer_fits b (Some t) (Some v) h = value_typed g.structs b t v h
+  answer_fits : (s : State) (result : Option CType) (v : Option Value) → IsAnswer g result v s → fits_result result v ≡ true
+  answer_fits s None None h = refl
+  answer_fits s None (Some v) h = absurd h
+  answer_fits s (Some t) None h = absurd h
+  answer_fits s (Some t) (Some v) h = value_typed g.structs (shaped s) t v h
 
   -- how a body ends is what its function answers
-  answer_goes : (n low : ℕ) (types : List CType) (result : Option CType) → IsScalarResult result → (flow : Flow) (s : State) → IsFlow g result false (shaped s) flow → IsKept g budget n low types s → Goes g budget n low types (shaped s) (IsAnswer g result) (answer result flow s)
-  answer_goes n low types result scalar Next s ok kept = (default_typed (shaped s) result scalar, grows_here (shaped s), kept)
-  answer_goes n low types result scalar Broke s ok kept = absurd (cc)
-  answer_goes n low types result scalar Continued s ok kept = absurd (cc)
-  answer_goes n low types result scalar (Returned v) s ok kept =
-      subst (λ yes. Goes g budget n low types (shaped s) (IsAnswer g result) (answer_if yes v s)) (sym (answer_fits (shaped s) result v ok)) (ok, grows_here (shaped s), kept)
+  answer_runs : (n low : ℕ) (types : List CType) (result : Option CType) → IsScalarResult result → (flow : Flow) (s : State) → EndsAs g result false flow s → IsKept g budget n low types s → Runs g budget n low types (IsAnswer g result) (answer result flow s)
+  answer_runs n low types result scalar Next s ok kept = (default_typed s result scalar, kept)
+  answer_runs n low types result scalar Broke s ok kept = absurd (cc)
+  answer_runs n low types result scalar Continued s ok kept = absurd (cc)
+  answer_runs n low types result scalar (Returned v) s ok kept =
+      subst (λ yes. Runs g budget n low types (IsAnswer g result) (answer_if yes v s)) (sym (answer_fits s result v ok)) (ok, kept)
 
-  -- back in the function that called
-  back_goes : (n m low : ℕ) (types inner : List CType) (P : List Shape → Option Value → Type 0) (s : State) (o : Result (Option Value)) → budget ≤ low + n → HaveLocals g.structs (shaped s) types s.locals → Goes g budget m low inner (shaped s) P o
-      → Goes g budget n low types (shaped s) P (and_then o (back s))
-  back_goes n m low types inner P s (Gives v t) enough locals h =
-      (h.0, h.1, record { grown = h.2.grown; cells = h.2.cells; locals = locals_grown g.structs (shaped s) (shaped t) h.1 types s.locals locals; world = h.2.world; enough = enough })
-  back_goes n m low types inner P s (Ends ending t) enough locals h = tt
-  back_goes n m low types inner P s (Stuck site t) enough locals h = h
-  back_goes n m low types inner P s (Unsound site t) enough locals h = h
-  back_goes n m low types inner P s Short enough locals h = h
+  -- back in the function that called, where blocks were only added
+  back_goes : (n m low : ℕ) (types inner : List CType) (result : Option CType) (s u : State) (o : Result (Option Value)) → budget ≤ low + n → HaveLocals g.structs (shaped s) types s.locals → u.blocks ≡ s.blocks → Runs g budget m low inner (IsAnswer g result) o → Grown u o
+      → Goes g budget n low types s (IsAnswer g result) (and_then o (back s))
+  back_goes n m low types inner result s u (Gives v t) enough locals same h grown =
+      let more : Grows (shaped s) (shaped t) = subst (λ b. Grows (shapes b) (shaped t)) same grown in
+      (answer_back result v t h.0, (more, refl), record { grown = h.1.grown; cells = h.1.cells; locals = locals_grown g.structs (shaped s) (shaped t) more types s.locals locals; world = h.1.world; enough = enough })
+    where
+      answer_back : (result : Option CType) (v : Option Value) (t : State) → IsAnswer g result v t → IsAnswer g result v (record t { locals = s.locals; depth = s.depth })
+      answer_back None None t h = tt
+      answer_back None (Some v) t h = h
+      answer_back (Some c) None t h = h
+      answer_back (Some c) (Some v) t h = h
+  back_goes n m low types inner result s u (Ends ending t) enough locals same h grown = tt
+  back_goes n m low types inner result s u (Stuck site t) enough locals same h grown = h
+  back_goes n m low types inner result s u (Unsound site t) enough locals same h grown = h
+  back_goes n m low types inner result s u Short enough locals same h grown = h
 
   -- what the sandbox's turn comes to
-  crossed_goes : (n low : ℕ) (types : List CType) (s : State) (x : Crossed) → Crosses budget low x → IsKept g budget n low types s → Goes g budget n low types (shaped s) IsReply (crossed x s)
-  crossed_goes n low types s (Crossed.Returned word w) h kept = (h.0, grows_here (shaped s), record { grown = kept.grown; cells = kept.cells; locals = kept.locals; world = h.1; enough = kept.enough })
+  crossed_goes : (n low : ℕ) (types : List CType) (s : State) (x : Crossed) → Crosses budget low x → IsKept g budget n low types s → Goes g budget n low types s IsReply (crossed x s)
+  crossed_goes n low types s (Crossed.Returned word w) h kept = (h.0, (grows_here (shaped s), refl), record { grown = kept.grown; cells = kept.cells; locals = kept.locals; world = h.1; enough = kept.enough })
   crossed_goes n low types s (Crossed.Called fun words w) h kept = tt
   crossed_goes n low types s (Crossed.Over ending w) h kept = tt
 
-  -- the same in a knot of more ticks
-  raised : {A : Type 0} (n m low : ℕ) (types : List CType) (b : List Shape) (P : List Shape → A → Type 0) (o : Result A) → budget ≤ low + n → Goes g budget m low types b P o → Goes g budget n low types b P o
-  raised n m low types b P (Gives v s) enough h = (h.0, h.1, record { grown = h.2.grown; cells = h.2.cells; locals = h.2.locals; world = h.2.world; enough = enough })
-  raised n m low types b P (Ends ending s) enough h = tt
-  raised n m low types b P (Stuck site s) enough h = h
-  raised n m low types b P (Unsound site s) enough h = h
-  raised n m low types b P Short enough h = h
-
-  module _ (sandbox trusted : ℕ) (functions : AllByRecursion (IsFunction g) g.program.functions) where
+  module _ (sandbox trusted : ℕ) (functions : AllByRecursion (IsSafe g) g.program.functions) where
     abbrev setting : Setting
-    setting = record { program = g.program; budget = budget; sandbox = sandbox; trusted = trusted }
+    setting = setting_of g budget sandbox trusted
 
-    -- the body of a function, with a knot that is enough for it
-    body_goes : (n m : ℕ) → IsKnot g budget m (knot true setting m) → (low : ℕ) (types : List CType) (function : ℕ) (f : core.Function) (vs : List Value) (s : State) → slice_get g.program.functions function ≡ Some f → OfTypes g (parameters_of f) (shaped s) vs → budget ≤ low + m → IsKept g budget n low types s
-        → Goes g budget n low types (shaped s) (IsAnswer g f.result) (body_of true setting (knot true setting m) (slice_get g.program.functions function) vs s)
-    body_goes n m is low types function f vs s found h enough kept =
-        let it = of_element (IsFunction g) g.program.functions function f functions found in
+    -- the body of a function, with knots that are enough for it
+    body_goes : (n m : ℕ) → KnotsUpTo g budget sandbox trusted m → (low : ℕ) (types : List CType) (function : ℕ) (f : core.Function) (vs : List Value) (s : State) → slice_get g.program.functions function ≡ Some f → OfTypes g (parameters_of f) vs s → budget ≤ low + m → IsKept g budget n low types s
+        → Goes g budget n low types s (IsAnswer g f.result) (body_of true setting (knot true setting m) (slice_get g.program.functions function) vs s)
+    body_goes n m knots low types function f vs s found h enough kept =
+        let it = of_element (IsSafe g) g.program.functions function f functions found in
         let inside : State = record s { locals = locals_for f.locals vs; depth = s.depth + 1 } in
-        let inside_kept : IsKept g budget m low f.locals inside = record { grown = kept.grown; cells = kept.cells; locals = locals_typed g.structs (shaped s) f.locals f.parameters vs it.locals h; world = kept.world; enough = enough } in
-        subst (λ o. Goes g budget n low types (shaped s) (IsAnswer g f.result) (body_of true setting (knot true setting m) o vs s)) (sym found)
-        (subst (λ yes. Goes g budget n low types (shaped s) (IsAnswer g f.result) (body_if true yes setting (knot true setting m) f vs s)) (sym (values_fit g.structs (shaped s) (parameters_of f) vs h))
-        (back_goes n m low types f.locals (IsAnswer g f.result) s _ kept.enough kept.locals
-        (goes_on g budget m low f.locals (shaped s) (IsFlow g f.result false) (IsAnswer g f.result) (effects true setting (knot true setting m) f.body inside) _
-        (statements_go g budget m sandbox trusted (knot true setting m) is f.locals f.result it.body low inside inside_kept)
-        (λ flow t _ ok t_kept. answer_goes m low f.locals f.result it.result flow t ok t_kept))))
+        let inside_kept : IsKept g budget m low f.locals inside = record { grown = kept.grown; cells = kept.cells; locals = locals_typed g.structs (shaped s) f.locals f.parameters vs it.typed.locals h; world = kept.world; enough = enough } in
+        let run = effects true setting (knot true setting m) f.body inside in
+        subst (λ o. Goes g budget n low types s (IsAnswer g f.result) (body_of true setting (knot true setting m) o vs s)) (sym found)
+        (subst (λ yes. Goes g budget n low types s (IsAnswer g f.result) (body_if true yes setting (knot true setting m) f vs s)) (sym (values_fit g.structs (shaped s) (parameters_of f) vs h))
+        (back_goes n m low types f.locals f.result s inside (and_then run (answer f.result)) kept.enough kept.locals refl
+        (runs_then g budget m low f.locals (EndsAs g f.result false) (IsAnswer g f.result) run (answer f.result) (it.runs budget sandbox trusted m knots low inside inside_kept)
+        (λ flow t ok t_kept. answer_runs m low f.locals f.result it.typed.result flow t ok t_kept))
+        (so_on (λ flow t. Grows (shaped inside) (shaped t)) (λ v t. Grows (shaped inside) (shaped t)) run (answer f.result) (body_grows m f.body inside) (λ flow t grown. answer_grows f.result inside flow t grown))))
+      where
+        body_grows : (m : ℕ) (xs : core.Statements) (s : State) → WhereGiven (λ (flow : Flow) (t : State). Grows (shaped s) (shaped t)) (effects true setting (knot true setting m) xs s)
+        body_grows m xs s =
+            so_further (λ (flow : Flow) (t : State). IsMovedTo (λ y. true) s t) (λ (flow : Flow) (t : State). Grows (shaped s) (shaped t)) (effects true setting (knot true setting m) xs s)
+            (effects_move true setting (knot true setting m) (knots_move true setting m) (λ y. true) xs s (all_of_them true setting xs)) (λ flow t moved. moved.grown)
 
-    knots : (n : ℕ) → IsKnot g budget n (knot true setting n)
-    knots zero = record {
-      call = λ low types function f vs s found h few kept. let w = kept.world in absurd (omega (arith, w.2, w.3));
-      turn = λ low types result loop e t x y s h hx hy few kept. let w = kept.world in absurd (omega (arith, w.2, w.3));
-      sandbox = λ low types s few kept. let w = kept.world in absurd (omega (arith, w.2, w.3));
+        answer_grows : (result : Option CType) (r : State) (flow : Flow) (t : State) → Grows (shaped r) (shaped t) → WhereGiven (λ (v : Option Value) (u : State). Grows (shaped r) (shaped u)) (answer result flow t)
+        answer_grows result r Next t grown = grown
+        answer_grows result r Broke t grown = tt
+        answer_grows result r Continued t grown = tt
+        answer_grows result r (Returned v) t grown = by (fits_result result v)
+          where
+            by : (test : Bool) → WhereGiven (λ (v : Option Value) (u : State). Grows (shaped r) (shaped u)) (answer_if test v t)
+            by true = grown
+            by false = tt
+
+    -- no call comes where no tick is left
+    first_knot : IsKnot g budget zero (knot true setting zero)
+    first_knot = record {
+      call = λ low types function f vs s found h few kept. let w = kept.world in absurd (omega (arith, few, w.2, w.3));
+      sandbox = λ low types s few kept. let w = kept.world in absurd (omega (arith, few, w.2, w.3));
+      keeps = (knots_move true setting zero).calls;
     }
-    knots (suc n) = record {
-      call = λ low types function f vs s found h few kept. body_goes (suc n) n (knots n) low types function f vs s found h (omega arith) kept;
-      turn = λ low types result loop e t x y s h hx hy few kept.
-          raised (suc n) n low types (shaped s) (IsFlow g result loop) (effect true setting (knot true setting n) (core.Loop e x y) s) kept.enough
-          (statement_goes g budget n sandbox trusted (knot true setting n) (knots n) types result (typed.repeat h hx hy) low s (record { grown = kept.grown; cells = kept.cells; locals = kept.locals; world = kept.world; enough = omega arith }));
-      sandbox = λ low types s few kept. crossed_goes (suc n) low types s (until_return s.world.acts s.world) (until_crosses budget low s.world.acts kept.world.0 s.world kept.world) kept;
+
+    next_knot : (m : ℕ) → KnotsUpTo g budget sandbox trusted m → IsKnot g budget (suc m) (knot true setting (suc m))
+    next_knot m below = record {
+      call = λ low types function f vs s found h few kept. body_goes (suc m) m below low types function f vs s found h (omega (arith, few)) kept;
+      sandbox = λ low types s few kept. crossed_goes (suc m) low types s (until_return s.world.acts s.world) (until_crosses budget low s.world.acts kept.world.0 s.world kept.world) kept;
+      keeps = (knots_move true setting (suc m)).calls;
     }
+
+    knots : (n : ℕ) → KnotsUpTo g budget sandbox trusted n
+    knots zero m le = let same : zero ≡ m = omega (arith, le) in subst (λ m. IsKnot g budget m (knot true setting m)) same first_knot
+    knots (suc n) m le = by (nat_le m n) refl (λ less. knots n m less) (next_knot n (λ k less. knots n k less))
+      where
+        by : (test : Bool) → nat_le m n ≡ test → (m ≤ n → IsKnot g budget m (knot true setting m)) → IsKnot g budget (suc n) (knot true setting (suc n)) → IsKnot g budget m (knot true setting m)
+        by true e lower last = lower (grind (arith, nat_tests))
+        by false e lower last = let more : n < m = grind (arith, nat_tests) in let same : suc n ≡ m = omega (arith, le, more) in subst (λ m. IsKnot g budget m (knot true setting m)) same last
 
   -- a run that goes on to its exit ends
-  run_ends : (n low : ℕ) (types : List CType) (b : List Shape) (result : Option CType) (o : Result (Option Value)) → result ≡ Some Int → Goes g budget n low types b (IsAnswer g result) o → (ending : Ending) × (s : State) × (and_then o exit ≡ Ends ending s)
-  run_ends n low types b None o e h = absurd (cc)
-  run_ends n low types b (Some t) (Gives None s) e h = absurd h.0
-  run_ends n low types b (Some t) (Gives (Some v) s) e h = let int : t ≡ Int = cc in number_ends v s (subst (λ x. OfType g x (shaped s) v) int h.0)
+  run_ends : (n low : ℕ) (types : List CType) (r : State) (result : Option CType) (o : Result (Option Value)) → result ≡ Some Int → Goes g budget n low types r (IsAnswer g result) o → (ending : Ending) × (s : State) × (and_then o exit ≡ Ends ending s)
+  run_ends n low types r None o e h = absurd (cc)
+  run_ends n low types r (Some t) (Gives None s) e h = absurd h.0
+  run_ends n low types r (Some t) (Gives (Some v) s) e h = let int : t ≡ Int = cc in number_ends v s (subst (λ x. OfType g x v s) int h.0)
     where
-      number_ends : (v : Value) (s : State) → OfType g Int (shaped s) v → (ending : Ending) × (u : State) × (exit (Some v) s ≡ Ends ending u)
+      number_ends : (v : Value) (s : State) → OfType g Int v s → (ending : Ending) × (u : State) × (exit (Some v) s ≡ Ends ending u)
       number_ends (Number z) s typed = (Exit z, s, refl)
       number_ends Null s typed = absurd typed
       number_ends (At block byte) s typed = absurd typed
-  run_ends n low types b (Some t) (Ends ending s) e h = (ending, s, refl)
-  run_ends n low types b (Some t) (Stuck site s) e h = absurd h
-  run_ends n low types b (Some t) (Unsound site s) e h = absurd h
-  run_ends n low types b (Some t) Short e h = absurd h
+  run_ends n low types r (Some t) (Ends ending s) e h = (ending, s, refl)
+  run_ends n low types r (Some t) (Stuck site s) e h = absurd h
+  run_ends n low types r (Some t) (Unsound site s) e h = absurd h
+  run_ends n low types r (Some t) Short e h = absurd h
 
 -- the variables before the run, among blocks of any shapes
 module _ (structs : List Structure) (b : List Shape) where
@@ -133,8 +162,9 @@ module _ (structs : List Structure) (b : List Shape) where
 abbrev AuditEnds : core.Core → Settings → List ℤ → List Act → Type 0
 AuditEnds program settings inputs acts = (ending : Ending) × (s : State) × (audited_meaning program settings inputs acts ≡ Ends ending s)
 
-audit_ends : (program : core.Core) → IsTyped (parted program) → (settings : Settings) (inputs : List ℤ) (acts : List Act) → All (λ z. IsTrue (is_word_number z)) inputs → All IsAct acts → AuditEnds program settings inputs acts
-audit_ends program types settings inputs acts words all =
+audit_ends : (program : core.Core) → IsSafeProgram (parted program) → (settings : Settings) (inputs : List ℤ) (acts : List Act) → All (λ z. IsTrue (is_word_number z)) inputs → All IsAct acts → AuditEnds program settings inputs acts
+audit_ends program is settings inputs acts words all =
+    let types = is.typed in
     let g : Frame = record { program = parted program; structs = types.structs } in
     let n = settings.budget in
     let f = types.main in
@@ -147,18 +177,18 @@ audit_ends program types settings inputs acts words all =
       enough = omega arith;
     } in
     let none : parameters_of f.0 ≡ [] = ap (λ k. take k f.0.locals) f.2 in
-    run_ends g n n 0 [] (shaped start) f.0.result _ f.3
-    (body_goes g n settings.sandbox settings.trusted types.functions n n (knots g n settings.sandbox settings.trusted types.functions n) 0 [] program.main f.0 [] start f.1 (subst (λ ts. OfTypes g ts (shaped start) []) (sym none) tt) (omega arith) kept)
+    run_ends g n n 0 [] start f.0.result _ f.3
+    (body_goes g n settings.sandbox settings.trusted is.functions n n (knots g n settings.sandbox settings.trusted is.functions n) 0 [] program.main f.0 [] start f.1 (subst (λ ts. OfTypes g ts [] start) (sym none) tt) (omega arith) kept)
 
-pub never_unsound : (program : core.Core) → IsTyped (parted program) → NeverUnsound program
-never_unsound program types settings inputs acts words all site s unsound = let ends = audit_ends program types settings inputs acts words all in absurd (cc)
+pub never_unsound : (program : core.Core) → IsSafeProgram (parted program) → NeverUnsound program
+never_unsound program is settings inputs acts words all site s unsound = let ends = audit_ends program is settings inputs acts words all in absurd (cc)
 
-pub never_stuck : (program : core.Core) → IsTyped (parted program) → NeverStuck program
-never_stuck program types settings inputs acts words all site s stuck = let ends = audit_ends program types settings inputs acts words all in absurd (cc)
+pub never_stuck : (program : core.Core) → IsSafeProgram (parted program) → NeverStuck program
+never_stuck program is settings inputs acts words all site s stuck = let ends = audit_ends program is settings inputs acts words all in absurd (cc)
 
 -- so the run without the audit ends too, and as this one
-pub always_ends : (program : core.Core) → IsTyped (parted program) → AlwaysEnds program
-always_ends program types settings inputs acts words all =
-    let ends = audit_ends program types settings inputs acts words all in
+pub always_ends : (program : core.Core) → IsSafeProgram (parted program) → AlwaysEnds program
+always_ends program is settings inputs acts words all =
+    let ends = audit_ends program is settings inputs acts words all in
     let same : Agrees (Ends ends.0 ends.1) (meaning program settings inputs acts) = subst (λ o. Agrees o (meaning program settings inputs acts)) ends.2 (changes_nothing program settings inputs acts) in
     (ends.0, ends.1, same, ends.2)

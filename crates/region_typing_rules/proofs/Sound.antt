@@ -1,5 +1,4 @@
 -- What is known behind a statement is so.
-use Rattle.std.proofs.Common.{◌≡◌, ℕ, ◌≤◌, Bool, true, false, List, [], length, replicate, Option, None, refl, sym, ◌∙◌, subst, arith}
 use Rattle.std.specs.Prelude.{◌||◌, not, slice_index_or}
 use Rattle.std.proofs.lemmas.List.{length-replicate}
 use Rattle.ckc_text.specs.declared.code.Code.TheVariants.{E15, E30}
@@ -11,90 +10,127 @@ use Rattle.ckc_core.specs.Outcome.{Gives}
 use Rattle.ckc_core.specs.Core as core
 use Rattle.ckc_core.specs.States.{State}
 use Rattle.ckc_core.specs.Steps.{Result, Flow, Next, Broke, Continued, Returned, truth, on_next}
-use Rattle.ckc_core.specs.Meaning.{Knot, Setting, effect, effects, knot, value}
 use Rattle.region_typing_rules.specs.Verdicts.{Verdict, Passes, Stops}
 use Rattle.region_typing_rules.specs.Scopes.{Scope}
-use Rattle.region_typing_rules.specs.Expressions.{Places, Called, Gives as GivesValue, GivesNothing, call_typed}
 use Rattle.region_typing_rules.specs.Readings.{told}
 use Rattle.region_typing_rules.specs.Knowing.{hidden_by, when, cut, broken, continued, at_loop, marked, step_marked}
 use Rattle.region_typing_rules.specs.Statements.{Walked, both, behind_block, behind_branch, at_alternative, behind_both, behind_loop, before_step, in_loop, is_unchecked, condition, optional_condition, optional_step, first_part, alone, return, declaration, assigning, statement, statements}
-use Rattle.region_typing_rules.specs.KnownIsSo.{WhereGiven, FitsAlike, IsKnown, IsOnWay, IsSo, IsBetween, IsWalk, HasLocals, KnownIsSo, RowsAreSo, ConditionsAreSo, ChangesMarked, MarkedAlone}
-use Rattle.region_typing_rules.proofs.Verdicts.{Promises, passing_promises, needs_promises, both_promise, Extends}
-use Rattle.region_typing_rules.proofs.Kept.{passing_any}
 use Rattle.region_typing_rules.proofs.Keeping.{IsAfter}
 use Rattle.region_typing_rules.proofs.Moving.{IsMovedTo, moved_here, effect_moves, knots_move}
-use Rattle.region_typing_rules.proofs.Terms.{so_on, so_both, so_further}
-use Rattle.region_typing_rules.proofs.Alike.{has_after, fits_moved}
 use Rattle.region_typing_rules.proofs.Told.{told_fits}
 use Rattle.region_typing_rules.proofs.Between.{between_told}
-use Rattle.region_typing_rules.proofs.Assigns.{OnNext, IsPlain, behind_any, goes_on}
 use Rattle.region_typing_rules.proofs.Sources.{IsFreshCall, call_typed_fresh}
-use Rattle.region_typing_rules.proofs.Marking.{IsReturn, call_only, return_is, IsMarked, hidden_here, covers_before, step_within, marked_within, statement_marked, step_marked_so}
-use Rattle.region_typing_rules.proofs.Ways.{extends_length, has_before, fits_further, way_further, fits_first, on_way_here, on_way_before, walk_knowing, walk_when, walk_cut, walk_broken, walk_continued, walk_block, walk_meeting, walk_head, walk_in_loop, walk_step, walk_behind, so_block, so_meeting, known_block}
-use Rattle.region_typing_rules.proofs.Declaring.{GoesOn, assigning_goes, declaration_goes, first_goes, step_goes, has_behind, nothing_goes}
-use Rattle.region_typing_rules.proofs.Turns.{chosen_so, loop_on}
+use Rattle.region_typing_rules.proofs.Ways.{extends_length, fits_further, way_further, fits_first, on_way_here, on_way_before, walk_knowing, walk_when, walk_cut, walk_broken, walk_continued, walk_block, walk_meeting, walk_head, walk_in_loop, walk_step, walk_behind, so_block, so_meeting, known_block}
+use Rattle.std.proofs.Common.{◌≡◌, ℕ, ◌≤◌, Bool, true, false, List, [], length, replicate, Option, Some, None, refl, sym, ◌∙◌, subst, arith}
+use Rattle.std.specs.List.{AllByRecursion}
+use Rattle.ckc_text.specs.declared.place.Span.{Span}
+use Rattle.ckc_tree.specs.Expressions.{Expression}
+use Rattle.pointer_modes.specs.Types.{CType}
+use Rattle.ckc_core.specs.States.{Value}
+use Rattle.ckc_core.specs.Meaning.{Knot, Setting, effect, effects, knot, value as value_of}
+use Rattle.region_typing_rules.specs.Expressions.{Places, Typed, Called, Gives as GivesValue, GivesNothing, call_typed, typed as typed_at}
+use Rattle.region_typing_rules.specs.Statements.{returned, returned_nothing}
+use Rattle.region_typing_rules.specs.KnownIsSo.{FitsAlike, IsKnown, IsOnWay, IsBetween, IsWalk, ConditionsAreSo, ChangesMarked, MarkedAlone}
+use Rattle.region_typing_rules.specs.Typed as typed
+use Rattle.region_typing_rules.specs.Typed.{Frame, HasType, IsScalar, IsSimple, IsStatement}
+use Rattle.region_typing_rules.proofs.Verdicts.{Promises, passing_promises, needs_promises, both_promise, later_promises, promised_so, Extends}
+use Rattle.region_typing_rules.proofs.Knowledge.{KnowsFile, Knows}
+use Rattle.region_typing_rules.proofs.Growth.{Grows, GrowsTo, alternative_grows, behind_grows, file_known, first_grows, grows_further, head_grows, optional_grows, statement_grows, step_grows, when_grows}
+use Rattle.region_typing_rules.proofs.Expressions.{Fits, FitsCall, call_promises, converted_promises, met_promises, typed_promises}
+use Rattle.region_typing_rules.proofs.Statements.{AreIn, IsIn, IsScalarValue, alone_typed, condition_promises, in_loop_known, optional_promises, simple_any, statement_from, statements_from}
+use Rattle.region_typing_rules.proofs.Soundness.{EndsAs, IsAnswer, IsKept, IsNext, OfType, Runs, runs_both, runs_further, runs_on, runs_then, simple_runs, typed_goes}
+use Rattle.region_typing_rules.proofs.Terms.{so_further}
+use Rattle.region_typing_rules.proofs.Alike.{fits_moved}
+use Rattle.region_typing_rules.proofs.Assigns.{IsPlain}
+use Rattle.region_typing_rules.proofs.Marking.{IsMarked, call_only, covers_before, hidden_here, marked_within, statement_marked, step_marked_so, step_within}
+use Rattle.region_typing_rules.proofs.Declaring.{GoesOn, IsAt, Knots, assigning_goes, declaration_goes, first_goes, knows_here, nothing_goes, running, step_goes, ticking}
+use Rattle.region_typing_rules.proofs.Turns.{EndsIn, chosen_runs, loop_on, tested_goes}
 
--- what goes on ends so
-next_is_so : (structs : List Structure) (g : Scope) (flow : Flow) (s : State) → OnNext (IsKnown structs g) flow s → IsSo structs g flow s
-next_is_so structs g Next s h = h
-next_is_so structs g Broke s h = absurd h
-next_is_so structs g Continued s h = absurd h
-next_is_so structs g (Returned v) s h = tt
+module _ (frame : Frame) (types : List CType) (all_scalar : AllByRecursion IsScalar types) (vars budget sandbox trusted : ℕ) where
+  abbrev structs : List Structure
+  structs = frame.structs
 
-module _ (structs : List Structure) (audited : Bool) (setting : Setting) (vars : ℕ) where
   abbrev K : ℕ → Knot
-  K n = knot audited setting n
+  K n = ticking frame types all_scalar vars budget sandbox trusted n
 
-  -- what the walk promises of a statement, or of what its meaning is: ways out of a loop only become more, and what is known behind
-  -- it is so
-  pub record Promise (g h : Scope) (run : ℕ → State → Result Flow) : Type 0 where
+  abbrev setting : Setting
+  setting = running frame types all_scalar vars budget sandbox trusted
+
+  abbrev Calls : ℕ → Type 0
+  Calls n = Knots frame types all_scalar vars budget sandbox trusted n
+
+  abbrev Stands : ℕ → ℕ → Scope → State → Type 0
+  Stands n low g s = IsAt frame types all_scalar vars budget sandbox trusted n low g s
+
+  abbrev Reached : Scope → Type 0
+  Reached g = Extends g.locals types
+
+  abbrev Ending : Scope → Scope → Flow → State → Type 0
+  Ending g h = EndsIn frame types all_scalar vars budget sandbox trusted g h
+
+  -- what the walk promises of a statement, or of what its meaning is: ways out of a loop only become more, it has types, and a run of it
+  -- is never stuck, and ends where what is known is so
+  pub record Promise (g h : Scope) (IsTyped : Type 0) (run : ℕ → State → Result Flow) : Type 0 where
     pub walk : IsWalk vars h
     pub more : Extends g.locals h.locals
     pub breaks : (n : ℕ) (t : State) → IsOnWay structs n g.breaks t → IsOnWay structs n h.breaks t
     pub continues : (n : ℕ) (t : State) → IsOnWay structs n g.continues t → IsOnWay structs n h.continues t
-    pub runs : (n : ℕ) (s : State) → HasLocals h.locals s → IsKnown structs g s → WhereGiven (IsSo structs h) (run n s)
+    pub typed : Reached h → IsTyped
+    pub runs : Reached h → (n : ℕ) → Calls n → (low : ℕ) (s : State) → Stands n low g s → Runs frame budget n low types (Ending g h) (run n s)
 
   abbrev pub IsSound : Scope → Walked → Type 0
-  IsSound g w = Promise g w.1 (λ n s. effect audited setting (K n) w.0 s)
+  IsSound g w = Promise g w.1 (IsIn frame types all_scalar g w.0) (λ n s. effect true setting (K n) w.0 s)
 
   abbrev pub AreSound : Scope → core.Statements × Scope → Type 0
-  AreSound g w = Promise g w.1 (λ n s. effects audited setting (K n) w.0 s)
+  AreSound g w = Promise g w.1 (AreIn frame types all_scalar g w.0) (λ n s. effects true setting (K n) w.0 s)
 
-  goes_sound : (g : Scope) (w : Walked) → GoesOn structs audited setting vars g w → IsSound g w
+  abbrev Going : Scope → Walked → Type 0
+  Going g w = GoesOn frame types all_scalar vars budget sandbox trusted g w
+
+  goes_sound : (g : Scope) (w : Walked) → Going g w → IsSound g w
   goes_sound g w h = record {
     walk = h.walk;
     more = h.more;
     breaks = λ n t k. subst (λ o. IsOnWay structs n o t) (sym h.breaks) k;
     continues = λ n t k. subst (λ o. IsOnWay structs n o t) (sym h.continues) k;
-    runs = λ n s has k. so_further (OnNext (IsKnown structs w.1)) (IsSo structs w.1) (effect audited setting (K n) w.0 s) (h.runs n s has k) (next_is_so structs w.1);
+    typed = λ reaches. h.typed reaches g.result g.in_loop;
+    runs = λ reaches n calls low s at.
+        runs_further frame budget n low types (λ flow t. IsNext flow t × IsKnown structs w.1 t) (Ending g w.1) (effect true setting (K n) w.0 s) (h.runs reaches n calls low s at) (λ flow t k. subst (λ flow. Ending g w.1 flow t) (sym k.0) (tt, k.1));
   }
 
-  goes_promised : (g : Scope) (v : Verdict Walked) → Promises (GoesOn structs audited setting vars g) v → Promises (IsSound g) v
+  goes_promised : (g : Scope) (v : Verdict Walked) → Promises (Going g) v → Promises (IsSound g) v
   goes_promised g (Passes w) h = goes_sound g w h
   goes_promised g (Stops stop) h = tt
 
+  -- what ends as in a scope behind ends as in the one before
+  ends_before : (a b : Scope) → Grows a b → (flow : Flow) (t : State) → EndsAs frame b.result b.in_loop flow t → EndsAs frame a.result a.in_loop flow t
+  ends_before a b h flow t k = subst (λ r. EndsAs frame r a.in_loop flow t) (sym h.result) (subst (λ l. EndsAs frame b.result l flow t) (sym h.loop) k)
+
   -- ---- in a row
 
-  then_sound : (g : Scope) (x : Walked) (y : core.Statements × Scope) → IsSound g x → AreSound x.1 y → AreSound g (core.Then x.0 y.0, y.1)
-  then_sound g x y a b = record {
+  then_sound : (g : Scope) (x : Walked) (y : core.Statements × Scope) → Grows g x.1 → IsSound g x → AreSound x.1 y → AreSound g (core.Then x.0 y.0, y.1)
+  then_sound g x y grows a b = record {
     walk = b.walk;
     more = λ k t e. b.more k t (a.more k t e);
     breaks = λ n t h. b.breaks n t (a.breaks n t h);
     continues = λ n t h. b.continues n t (a.continues n t h);
-    runs = λ n s has h.
-        so_on (λ flow t. HasLocals y.1.locals t × IsSo structs x.1 flow t) (IsSo structs y.1) (effect audited setting (K n) x.0 s) (on_next (effects audited setting (K n) y.0))
-        (so_both (λ (flow : Flow) t. HasLocals y.1.locals t) (IsSo structs x.1) (effect audited setting (K n) x.0 s) (has_behind structs audited setting n y.1.locals x.0 s has) (a.runs n s (has_before x.1.locals y.1.locals s b.more has) h))
-        (by n);
+    typed = λ reaches. typed.then_more (a.typed (before reaches)) (statements_from frame types all_scalar g x.1 y.0 grows (b.typed reaches));
+    runs = λ reaches n calls low s at.
+        runs_then frame budget n low types (Ending g x.1) (Ending g y.1) (effect true setting (K n) x.0 s) (on_next (effects true setting (K n) y.0)) (a.runs (before reaches) n calls low s at) (by reaches n calls low);
   }
     where
+      before : Reached y.1 → Reached x.1
+      before reaches k t e = reaches k t (b.more k t e)
+
       le : length x.1.locals ≤ length y.1.locals
       le = extends_length x.1.locals y.1.locals b.more
 
-      by : (n : ℕ) (flow : Flow) (t : State) → HasLocals y.1.locals t × IsSo structs x.1 flow t → WhereGiven (IsSo structs y.1) (on_next (effects audited setting (K n) y.0) flow t)
-      by n Next t h = b.runs n t h.0 h.1
-      by n Broke t h = b.breaks (length y.1.locals) t (way_further structs (length x.1.locals) (length y.1.locals) x.1.breaks t le h.1)
-      by n Continued t h = b.continues (length y.1.locals) t (way_further structs (length x.1.locals) (length y.1.locals) x.1.continues t le h.1)
-      by n (Returned v) t h = tt
+      by : Reached y.1 → (n : ℕ) → Calls n → (low : ℕ) (flow : Flow) (t : State) → Ending g x.1 flow t → IsKept frame budget n low types t → Runs frame budget n low types (Ending g y.1) (on_next (effects true setting (K n) y.0) flow t)
+      by reaches n calls low Next t h kept =
+          runs_further frame budget n low types (Ending x.1 y.1) (Ending g y.1) (effects true setting (K n) y.0 t) (b.runs reaches n calls low t (record { kept = kept; known = h.1 })) (λ flow u k. (ends_before g x.1 grows flow u k.0, k.1))
+      by reaches n calls low Broke t h kept = ((h.0, b.breaks (length y.1.locals) t (way_further structs (length x.1.locals) (length y.1.locals) x.1.breaks t le h.1)), kept)
+      by reaches n calls low Continued t h kept = ((h.0, b.continues (length y.1.locals) t (way_further structs (length x.1.locals) (length y.1.locals) x.1.continues t le h.1)), kept)
+      by reaches n calls low (Returned v) t h kept = ((h.0, tt), kept)
 
   block_sound : (g : Scope) (w : core.Statements × Scope) → AreSound g w → IsSound g (core.Block w.0, behind_block g w.1)
   block_sound g w h = record {
@@ -102,85 +138,103 @@ module _ (structs : List Structure) (audited : Bool) (setting : Setting) (vars :
     more = h.more;
     breaks = h.breaks;
     continues = h.continues;
-    runs = λ n s has k. so_further (IsSo structs w.1) (IsSo structs (behind_block g w.1)) (effects audited setting (K n) w.0 s) (h.runs n s has k) (so_block structs vars g w.1 h.walk (extends_length g.locals w.1.locals h.more));
+    typed = λ reaches. typed.block (h.typed reaches);
+    runs = λ reaches n calls low s at.
+        runs_further frame budget n low types (Ending g w.1) (Ending g (behind_block g w.1)) (effects true setting (K n) w.0 s) (h.runs reaches n calls low s at)
+        (λ flow t k. (k.0, so_block structs vars g w.1 h.walk (extends_length g.locals w.1.locals h.more) flow t k.1));
   }
 
   -- ---- branches
 
-  few_of : (g : Scope) → IsWalk vars g → length g.locals ≤ g.flow.vars
-  few_of g w = let few = w.few in let size = w.between.size in omega (arith, few, size)
+  module _ (g : Scope) (w : IsWalk vars g) (c : core.Expression) where
+    abbrev Told : Value → State → Type 0
+    Told v t = FitsAlike structs (length g.locals) (told g.locals c (truth v) g.flow) t
 
-  -- what a condition tells is so
-  condition_so : (n : ℕ) (g : Scope) (c : core.Expression) (s : State) → IsWalk vars g → HasLocals g.locals s → IsKnown structs g s
-      → WhereGiven (λ v t. IsAfter s t × FitsAlike structs (length g.locals) (told g.locals c (truth v) g.flow) t) (value audited setting (K n) c s)
-  condition_so n g c s w has h = told_fits audited setting (K n) (knots_move audited setting n).calls structs g.locals c g.flow w.between.flow (few_of g w) s has h
+    abbrev no : Knowledge
+    no = told g.locals c false g.flow
 
-  branch_sound : (g : Scope) → IsWalk vars g → (c : core.Expression) (x : Walked) → IsSound (when c true g) x → IsSound g (core.If c x.0 core.Nothing, behind_branch g c x.1)
-  branch_sound g w c x h = record {
-    walk = walk_meeting vars no (behind_block g x.1) no_between (walk_block vars g x.1 h.walk);
-    more = h.more;
-    breaks = h.breaks;
-    continues = h.continues;
-    runs = λ n s has k.
-        so_on (λ v t. IsAfter s t × FitsAlike structs (length g.locals) (told g.locals c (truth v) g.flow) t) Q (value audited setting (K n) c s) _ (condition_so n g c s w (has_before g.locals x.1.locals s h.more has) k)
-        (λ v t q. chosen_so Q (truth v) _ (Gives Next t)
-        (λ e. so_further (IsSo structs x.1) Q (effect audited setting (K n) x.0 t) (h.runs n t (has_after x.1.locals s t q.0 has) (subst (λ b. FitsAlike structs (length g.locals) (told g.locals c b g.flow) t) e q.1))
-        (λ flow u r. so_meeting structs vars no (behind_block g x.1) no_between (walk_block vars g x.1 h.walk) flow u (so_block structs vars g x.1 h.walk le flow u r)))
-        (λ e. fits_first structs vars (length x.1.locals) t no (behind_block g x.1).flow no_between (walk_block vars g x.1 h.walk).between
-        (fits_further structs (length g.locals) (length x.1.locals) no t le (subst (λ b. FitsAlike structs (length g.locals) (told g.locals c b g.flow) t) e q.1))));
-  }
-    where
-      no : Knowledge
-      no = told g.locals c false g.flow
+    no_between : IsBetween vars (told g.locals c false g.flow)
+    no_between = between_told g.locals vars c false g.flow w.few w.between
 
-      no_between : IsBetween vars (told g.locals c false g.flow)
-      no_between = between_told g.locals vars c false g.flow w.few w.between
+    branch_sound : (x : Walked) → (Reached g → IsScalarValue frame types all_scalar g c) → IsSound (when c true g) x → IsSound g (core.If c x.0 core.Nothing, behind_branch g c x.1)
+    branch_sound x tested h = record {
+      walk = walk_meeting vars no (behind_block g x.1) no_between (walk_block vars g x.1 h.walk);
+      more = h.more;
+      breaks = h.breaks;
+      continues = h.continues;
+      typed = λ reaches. typed.choice (tested (before reaches)).typed (h.typed reaches) (typed.simple {here = g} typed.nothing);
+      runs = λ reaches n calls low s at.
+          runs_on frame budget n low types s Told Q (value_of true setting (K n) c s) _ (tested_goes frame types all_scalar vars budget sandbox trusted n low calls g w (before reaches) c (tested (before reaches)).type (tested (before reaches)).typed s at)
+          (λ v t after q kept. chosen_runs frame types all_scalar vars budget sandbox trusted n low Q (truth v) _ (Gives Next t)
+          (λ e. runs_further frame budget n low types (Ending (when c true g) x.1) Q (effect true setting (K n) x.0 t)
+          (h.runs reaches n calls low t (record { kept = kept; known = subst (λ b. FitsAlike structs (length g.locals) (told g.locals c b g.flow) t) e q }))
+          (λ flow u r. (r.0, so_meeting structs vars no (behind_block g x.1) no_between (walk_block vars g x.1 h.walk) flow u (so_block structs vars g x.1 h.walk le flow u r.1))))
+          (λ e. (
+            (
+              tt,
+              fits_first structs vars (length x.1.locals) t no (behind_block g x.1).flow no_between (walk_block vars g x.1 h.walk).between
+                  (fits_further structs (length g.locals) (length x.1.locals) no t le (subst (λ b. FitsAlike structs (length g.locals) (told g.locals c b g.flow) t) e q)),
+            ),
+            kept,
+          )));
+    }
+      where
+        before : Reached x.1 → Reached g
+        before reaches k t e = reaches k t (h.more k t e)
 
-      le : length g.locals ≤ length x.1.locals
-      le = extends_length g.locals x.1.locals h.more
+        le : length g.locals ≤ length x.1.locals
+        le = extends_length g.locals x.1.locals h.more
 
-      Q : Flow → State → Type 0
-      Q flow t = IsSo structs (behind_branch g c x.1) flow t
+        Q : Flow → State → Type 0
+        Q flow t = Ending g (behind_branch g c x.1) flow t
 
-  branches_sound : (g : Scope) → IsWalk vars g → (c : core.Expression) (x y : Walked) → IsSound (when c true g) x → IsSound (at_alternative g c x.1) y → IsSound g (core.If c x.0 y.0, behind_both g x.1 y.1)
-  branches_sound g w c x y h k = record {
-    walk = walk_meeting vars first.flow (behind_block first y.1) first_walk.between (walk_block vars first y.1 k.walk);
-    more = λ i t e. k.more i t (h.more i t e);
-    breaks = λ n t q. k.breaks n t (h.breaks n t q);
-    continues = λ n t q. k.continues n t (h.continues n t q);
-    runs = λ n s has known.
-        so_on (λ v t. IsAfter s t × FitsAlike structs (length g.locals) (told g.locals c (truth v) g.flow) t) Q (value audited setting (K n) c s) _
-        (condition_so n g c s w (has_before g.locals x.1.locals s h.more (has_before x.1.locals y.1.locals s k.more has)) known)
-        (λ v t q. chosen_so Q (truth v) _ _
-        (λ e. so_further (IsSo structs x.1) Q (effect audited setting (K n) x.0 t)
-        (h.runs n t (has_after x.1.locals s t q.0 (has_before x.1.locals y.1.locals s k.more has)) (subst (λ b. FitsAlike structs (length g.locals) (told g.locals c b g.flow) t) e q.1)) first_ends)
-        (λ e. so_further (IsSo structs y.1) Q (effect audited setting (K n) y.0 t)
-        (k.runs n t (has_after y.1.locals s t q.0 has) (fits_further structs (length g.locals) (length x.1.locals) _ t le (subst (λ b. FitsAlike structs (length g.locals) (told g.locals c b g.flow) t) e q.1)))
-        (λ flow u r. so_meeting structs vars first.flow (behind_block first y.1) first_walk.between (walk_block vars first y.1 k.walk) flow u (so_block structs vars first y.1 k.walk le' flow u r))));
-  }
-    where
-      first : Scope
-      first = behind_block g x.1
+    branches_sound : (x y : Walked) → Grows g (at_alternative g c x.1) → (Reached g → IsScalarValue frame types all_scalar g c) → IsSound (when c true g) x → IsSound (at_alternative g c x.1) y → IsSound g (core.If c x.0 y.0, behind_both g x.1 y.1)
+    branches_sound x y grows tested h k = record {
+      walk = walk_meeting vars first.flow (behind_block first y.1) first_walk.between (walk_block vars first y.1 k.walk);
+      more = λ i t e. k.more i t (h.more i t e);
+      breaks = λ n t q. k.breaks n t (h.breaks n t q);
+      continues = λ n t q. k.continues n t (h.continues n t q);
+      typed = λ reaches. typed.choice (tested (before (middle reaches))).typed (h.typed (middle reaches)) (statement_from frame types all_scalar g (at_alternative g c x.1) y.0 grows (k.typed reaches));
+      runs = λ reaches n calls low s at.
+          runs_on frame budget n low types s Told Q (value_of true setting (K n) c s) _ (tested_goes frame types all_scalar vars budget sandbox trusted n low calls g w (before (middle reaches)) c (tested (before (middle reaches))).type (tested (before (middle reaches))).typed s at)
+          (λ v t after q kept. chosen_runs frame types all_scalar vars budget sandbox trusted n low Q (truth v) _ _
+          (λ e. runs_further frame budget n low types (Ending (when c true g) x.1) Q (effect true setting (K n) x.0 t)
+          (h.runs (middle reaches) n calls low t (record { kept = kept; known = subst (λ b. FitsAlike structs (length g.locals) (told g.locals c b g.flow) t) e q })) first_ends)
+          (λ e. runs_further frame budget n low types (Ending (at_alternative g c x.1) y.1) Q (effect true setting (K n) y.0 t)
+          (k.runs reaches n calls low t (record { kept = kept; known = fits_further structs (length g.locals) (length x.1.locals) _ t le (subst (λ b. FitsAlike structs (length g.locals) (told g.locals c b g.flow) t) e q) }))
+          (λ flow u r. (ends_before g (at_alternative g c x.1) grows flow u r.0, so_meeting structs vars first.flow (behind_block first y.1) first_walk.between (walk_block vars first y.1 k.walk) flow u (so_block structs vars first y.1 k.walk le' flow u r.1)))));
+    }
+      where
+        middle : Reached y.1 → Reached x.1
+        middle reaches i t e = reaches i t (k.more i t e)
 
-      first_walk : IsWalk vars (behind_block g x.1)
-      first_walk = walk_block vars g x.1 h.walk
+        before : Reached x.1 → Reached g
+        before reaches i t e = reaches i t (h.more i t e)
 
-      le : length g.locals ≤ length x.1.locals
-      le = extends_length g.locals x.1.locals h.more
+        first : Scope
+        first = behind_block g x.1
 
-      le' : length x.1.locals ≤ length y.1.locals
-      le' = extends_length x.1.locals y.1.locals k.more
+        first_walk : IsWalk vars (behind_block g x.1)
+        first_walk = walk_block vars g x.1 h.walk
 
-      Q : Flow → State → Type 0
-      Q flow t = IsSo structs (behind_both g x.1 y.1) flow t
+        le : length g.locals ≤ length x.1.locals
+        le = extends_length g.locals x.1.locals h.more
 
-      first_ends : (flow : Flow) (u : State) → IsSo structs x.1 flow u → IsSo structs (behind_both g x.1 y.1) flow u
-      first_ends Next u r =
+        le' : length x.1.locals ≤ length y.1.locals
+        le' = extends_length x.1.locals y.1.locals k.more
+
+        Q : Flow → State → Type 0
+        Q flow t = Ending g (behind_both g x.1 y.1) flow t
+
+        first_ends : (flow : Flow) (u : State) → Ending (when c true g) x.1 flow u → Ending g (behind_both g x.1 y.1) flow u
+        first_ends Next u r = (
+          tt,
           fits_first structs vars (length y.1.locals) u first.flow (behind_block first y.1).flow first_walk.between (walk_block vars first y.1 k.walk).between
-          (fits_further structs (length x.1.locals) (length y.1.locals) first.flow u le' (known_block structs vars g x.1 h.walk le u r))
-      first_ends Broke u r = k.breaks (length y.1.locals) u (way_further structs (length x.1.locals) (length y.1.locals) x.1.breaks u le' r)
-      first_ends Continued u r = k.continues (length y.1.locals) u (way_further structs (length x.1.locals) (length y.1.locals) x.1.continues u le' r)
-      first_ends (Returned v) u r = tt
+              (fits_further structs (length x.1.locals) (length y.1.locals) first.flow u le' (known_block structs vars g x.1 h.walk le u r.1)),
+        )
+        first_ends Broke u r = (r.0, k.breaks (length y.1.locals) u (way_further structs (length x.1.locals) (length y.1.locals) x.1.breaks u le' r.1))
+        first_ends Continued u r = (r.0, k.continues (length y.1.locals) u (way_further structs (length x.1.locals) (length y.1.locals) x.1.continues u le' r.1))
+        first_ends (Returned v) u r = (r.0, tt)
 
   -- ---- loops
 
@@ -196,21 +250,29 @@ module _ (structs : List Structure) (audited : Bool) (setting : Setting) (vars :
     turn_walk : IsWalk vars (in_loop (when c true (at_loop body step g)))
     turn_walk = walk_in_loop vars (when c true (at_loop body step g)) (walk_when vars c true (at_loop body step g) (walk_head vars body step g w))
 
-    loop_sound : (x y : Walked) → IsSound turn x → GoesOn structs audited setting vars (before_step g x.1) y
+    loop_sound : (x y : Walked) → (Reached (at_loop body step g) → IsScalarValue frame types all_scalar (at_loop body step g) c) → IsSound turn x → Going (before_step g x.1) y
         → IsMarked (length g.locals) (hidden_by (length g.locals) body g.visible) (marked (length g.locals) g.visible body) x → IsMarked (length g.locals) g.visible (step_marked g.visible step) y
         → IsSound g (core.Loop c x.0 y.0, behind_loop g (at_loop body step g) c y.1)
-    loop_sound x y h k x_marks y_marks = record {
+    loop_sound x y tested h k x_marks y_marks = record {
       walk = walk_behind vars g (at_loop body step g) c y.1 w (walk_head vars body step g w) w.few k.walk;
       more = λ i t e. k.more i t (h.more i t e);
       breaks = λ n t q. q;
       continues = λ n t q. q;
-      runs = λ n s has known.
-          loop_on structs audited setting vars g w body step (marks_many g body step) c x.0 y.0 x.1 y.1 h.walk k.walk h.more k.more k.breaks
+      typed = λ reaches. typed.repeat (tested (before reaches)).typed (h.typed (middle reaches)) (k.typed reaches g.result false);
+      runs = λ reaches n calls low s at.
+          loop_on frame types all_scalar vars budget sandbox trusted g w body step (marks_many g body step) c (tested (before reaches)).type x.0 y.0 x.1 y.1 h.walk k.walk h.more k.more k.breaks
           (x_marks.only (λ y. slice_index_or marks y true) none (length-replicate (length g.locals) false) (covers_before (λ y. slice_index_or marks y true) behind marks (step_within g.visible step behind) (λ i e. e)))
           (y_marks.only (λ y. slice_index_or marks y true) behind ((marked_within (length g.locals) g.visible body none).many ∙ length-replicate (length g.locals) false) (λ i e. e))
-          h.runs k.runs n s s known (moved_here (λ y. slice_index_or marks y true) s) has;
+          reaches (tested (before reaches)).typed (λ m calls' low' t at'. h.runs (middle reaches) m calls' low' t at') (λ m calls' low' t at'. k.runs reaches m calls' low' t at')
+          n low s s calls at.known (moved_here (λ y. slice_index_or marks y true) s) at.kept;
     }
       where
+        middle : Reached y.1 → Reached x.1
+        middle reaches i t e = reaches i t (k.more i t e)
+
+        before : Reached y.1 → Reached (at_loop body step g)
+        before reaches i t e = reaches i t (k.more i t (h.more i t e))
+
         none : List Bool
         none = replicate (length g.locals) false
 
@@ -222,131 +284,184 @@ module _ (structs : List Structure) (audited : Bool) (setting : Setting) (vars :
 
   -- ---- calls, returns and jumps
 
-  alone_plain : (c : Called) → IsFreshCall c → IsPlain [] (alone c)
-  alone_plain (GivesValue type value) h = tt
-  alone_plain (GivesNothing call) h = h
+  alone_plain : (g : Scope) (c : Called) → IsFreshCall c → IsPlain [] (alone c)
+  alone_plain g (GivesValue type value) h = tt
+  alone_plain g (GivesNothing call) h = h
 
-  call_goes : (g : Scope) → IsWalk vars g → (c : Called) → IsFreshCall c → GoesOn structs audited setting vars g (alone c, g)
-  call_goes g w c h = record {
+  call_goes : (g : Scope) → IsWalk vars g → (c : Called) → IsFreshCall c → (Reached g → IsSimple frame types g (alone c)) → Going g (alone c, g)
+  call_goes g w c h simple = record {
     walk = w;
     breaks = refl;
     continues = refl;
     more = λ k t e. e;
-    runs = λ n s has k.
-        so_further (λ flow t. (flow ≡ Next) × IsMovedTo (λ y. false) s t) (OnNext (IsKnown structs g)) (effect audited setting (K n) (alone c) s)
-        (so_both (λ (flow : Flow) (t : State). flow ≡ Next) (λ (flow : Flow) (t : State). IsMovedTo (λ y. false) s t) (effect audited setting (K n) (alone c) s)
-        (goes_on audited setting (K n) (knots_move audited setting n) structs [] g.flow w.between.flow (omega arith) (alone c) (alone_plain c h) s)
-        (effect_moves audited setting (K n) (knots_move audited setting n) (λ y. false) (alone c) s (call_only (λ y. false) (alone c) (alone_plain c h))))
-        (λ flow t q. subst (λ flow. OnNext (IsKnown structs g) flow t) (sym q.0) (fits_moved structs (length g.locals) g.flow w.between.flow (λ y. false) s t q.1 (λ y tracked. refl) k));
+    typed = λ reaches. simple_any frame types all_scalar g (alone c) (simple reaches);
+    runs = λ reaches n calls low s at.
+        runs_further frame budget n low types (λ flow t. IsNext flow t × IsMovedTo (λ y. false) s t) (λ flow t. IsNext flow t × IsKnown structs g t) (effect true setting (K n) (alone c) s)
+        (runs_both frame budget n low types IsNext (λ (flow : Flow) (t : State). IsMovedTo (λ y. false) s t) (effect true setting (K n) (alone c) s)
+        (simple_runs frame budget n sandbox trusted (K n) (calls n (omega arith)) low types g w.between.flow reaches (simple reaches) s (at.known, at.kept))
+        (effect_moves true setting (K n) (knots_move true setting n) (λ y. false) (alone c) s (call_only (λ y. false) (alone c) (alone_plain g c h))))
+        (λ flow t q. (q.0, fits_moved structs (length g.locals) g.flow w.between.flow (λ y. false) s t q.1 (λ y tracked. refl) at.known));
   }
 
-  returns : (g : Scope) (n : ℕ) (x : core.Statement) → IsReturn x → (s : State) → WhereGiven (IsSo structs g) (effect audited setting (K n) x s)
-  returns g n core.Nothing h s = absurd h
-  returns g n (core.SetLocal local value) h s = absurd h
-  returns g n (core.Store type place value) h s = absurd h
-  returns g n (core.UpdateLocal char local operator value site) h s = absurd h
-  returns g n (core.Update type place operator value site) h s = absurd h
-  returns g n (core.Evaluate value) h s = absurd h
-  returns g n (core.CallAlone callee arguments) h s = absurd h
-  returns g n (core.Print value) h s = absurd h
-  returns g n (core.PutByte value) h s = absurd h
-  returns g n (core.Block statements) h s = absurd h
-  returns g n (core.If condition consequent alternative) h s = absurd h
-  returns g n (core.Loop condition body step) h s = absurd h
-  returns g n (core.Return e) h s = behind_any (IsSo structs g) (value audited setting (K n) e s) _ (λ v t. tt)
-  returns g n core.ReturnNothing h s = tt
-  returns g n core.Break h s = absurd h
-  returns g n core.Continue h s = absurd h
+  -- a statement that returns what its function does
+  pub data IsReturnFrom (g : Scope) : core.Statement → Type 0 where
+    gives : {e : core.Expression} {t : CType} → g.result ≡ Some t → HasType frame types g e t → IsReturnFrom g (core.Return e)
+    gives_nothing : g.result ≡ None → IsReturnFrom g core.ReturnNothing
 
-  return_sound : (g : Scope) → IsWalk vars g → (x : core.Statement) → IsReturn x → IsSound g (x, cut g)
-  return_sound g w x h = record { walk = walk_cut vars g w; more = λ k t e. e; breaks = λ n t q. q; continues = λ n t q. q; runs = λ n s has k. returns (cut g) n x h s }
+  abbrev IsReturnIn : Scope → core.Statement → Type 0
+  IsReturnIn g x = Reached g → IsReturnFrom g x
 
-  break_sound : (g : Scope) → IsWalk vars g → IsSound g (core.Break, broken g)
-  break_sound g w = record {
+  return_typed : (g : Scope) {x : core.Statement} → IsReturnFrom g x → IsIn frame types all_scalar g x
+  return_typed g (gives declared h) = typed.returned declared h
+  return_typed g (gives_nothing declared) = typed.returned_nothing declared
+
+  returns : (g : Scope) (w : IsWalk vars g) {x : core.Statement} → IsReturnFrom g x → Reached g → (n : ℕ) → Calls n → (low : ℕ) (s : State) → Stands n low g s → Runs frame budget n low types (Ending g (cut g)) (effect true setting (K n) x s)
+  returns g w (gives {e = e} {t = t} declared h) reaches n calls low s at =
+      runs_on frame budget n low types s (OfType frame t) (Ending g (cut g)) (value_of true setting (K n) e s) _ (typed_goes frame budget n sandbox trusted (K n) (calls n (omega arith)) low types g w.between.flow reaches h s (at.known, at.kept))
+      (λ v u _ typed kept. ((subst (λ r. IsAnswer frame r (Some v) u) (sym declared) typed, tt), kept))
+  returns g w (gives_nothing declared) reaches n calls low s at = ((subst (λ r. IsAnswer frame r None s) (sym declared) tt, tt), at.kept)
+
+  return_sound : (g : Scope) → IsWalk vars g → (x : core.Statement) → IsReturnIn g x → IsSound g (x, cut g)
+  return_sound g w x h = record {
+    walk = walk_cut vars g w;
+    more = λ k t e. e;
+    breaks = λ n t q. q;
+    continues = λ n t q. q;
+    typed = λ reaches. return_typed g (h reaches);
+    runs = λ reaches n calls low s at. returns g w (h reaches) reaches n calls low s at;
+  }
+
+  break_sound : (g : Scope) → IsWalk vars g → g.in_loop ≡ true → IsSound g (core.Break, broken g)
+  break_sound g w loops = record {
     walk = walk_broken vars g w;
     more = λ k t e. e;
     breaks = λ n t q. on_way_before structs vars n t g.flow g.breaks w.between w.breaks q;
     continues = λ n t q. q;
-    runs = λ n s has k. on_way_here structs vars (length g.locals) s g.flow g.breaks w.between w.breaks k;
+    typed = λ reaches. subst (λ l. IsStatement frame types g.result l core.Break) (sym loops) typed.broken;
+    runs = λ reaches n calls low s at. ((loops, on_way_here structs vars (length g.locals) s g.flow g.breaks w.between w.breaks at.known), at.kept);
   }
 
-  continue_sound : (g : Scope) → IsWalk vars g → IsSound g (core.Continue, continued g)
-  continue_sound g w = record {
+  continue_sound : (g : Scope) → IsWalk vars g → g.in_loop ≡ true → IsSound g (core.Continue, continued g)
+  continue_sound g w loops = record {
     walk = walk_continued vars g w;
     more = λ k t e. e;
     breaks = λ n t q. q;
     continues = λ n t q. on_way_before structs vars n t g.flow g.continues w.between w.continues q;
-    runs = λ n s has k. on_way_here structs vars (length g.locals) s g.flow g.continues w.between w.continues k;
+    typed = λ reaches. subst (λ l. IsStatement frame types g.result l core.Continue) (sym loops) typed.continued;
+    runs = λ reaches n calls low s at. ((loops, on_way_here structs vars (length g.locals) s g.flow g.continues w.between w.continues at.known), at.kept);
   }
 
   none_sound : (g : Scope) → IsWalk vars g → AreSound g (core.NoMore, g)
-  none_sound g w = record { walk = w; more = λ k t e. e; breaks = λ n t q. q; continues = λ n t q. q; runs = λ n s has k. k }
+  none_sound g w = record { walk = w; more = λ k t e. e; breaks = λ n t q. q; continues = λ n t q. q; typed = λ reaches. typed.no_more; runs = λ reaches n calls low s at. ((tt, at.known), at.kept) }
 
-  both_sound : (g : Scope) (x y : Walked) → IsSound g x → IsSound x.1 y → IsSound g (both x.0 y.0, behind_block g y.1)
-  both_sound g x y a b = block_sound g (core.Then x.0 (core.Then y.0 core.NoMore), y.1) (then_sound g x (core.Then y.0 core.NoMore, y.1) a (then_sound x.1 y (core.NoMore, y.1) b (none_sound y.1 b.walk)))
+  both_sound : (g : Scope) (x y : Walked) → Grows g x.1 → Grows x.1 y.1 → IsSound g x → IsSound x.1 y → IsSound g (both x.0 y.0, behind_block g y.1)
+  both_sound g x y gx gy a b = block_sound g (core.Then x.0 (core.Then y.0 core.NoMore), y.1) (then_sound g x (core.Then y.0 core.NoMore, y.1) gx a (then_sound x.1 y (core.NoMore, y.1) gy b (none_sound y.1 b.walk)))
 
   -- ---- the walk
 
+  -- a condition, where the locals are reached
+  condition_typed : (at : Places) (g : Scope) → IsWalk vars g → KnowsFile frame g → (x : Expression) → Promises (λ (e : core.Expression). Reached g → IsScalarValue frame types all_scalar g e) (condition at g x)
+  condition_typed at g w file x = later_promises (Reached g) (IsScalarValue frame types all_scalar g) (condition at g x) (λ reaches. condition_promises frame types all_scalar at g (knows_here frame types all_scalar vars budget sandbox trusted g w file reaches) x)
+
+  optional_typed : (at : Places) (g : Scope) → IsWalk vars g → KnowsFile frame g → (o : Option Expression) → Promises (λ (e : core.Expression). Reached g → IsScalarValue frame types all_scalar g e) (optional_condition at g o)
+  optional_typed at g w file o = later_promises (Reached g) (IsScalarValue frame types all_scalar g) (optional_condition at g o) (λ reaches. optional_promises frame types all_scalar at g (knows_here frame types all_scalar vars budget sandbox trusted g w file reaches) o)
+
+  headed : (g : Scope) → KnowsFile frame g → (body : Statement) (step : Option Assignment) → KnowsFile frame (at_loop body step g)
+  headed g file body step = file_known frame g (at_loop body step g) (head_grows body step g) file
+
+  turned_known : (g : Scope) → KnowsFile frame g → (body : Statement) (step : Option Assignment) (c : core.Expression) → KnowsFile frame (in_loop (when c true (at_loop body step g)))
+  turned_known g file body step c = in_loop_known frame (when c true (at_loop body step g)) (file_known frame (at_loop body step g) (when c true (at_loop body step g)) (when_grows c true (at_loop body step g)) (headed g file body step))
+
+  -- a return, where the locals are reached
+  returned_in : (g : Scope) (t : Typed) (o : Option CType) (span : Span) → g.result ≡ o → Reached g → Knows frame types g → Fits frame types g t → Promises (IsReturnFrom g) (returned g.flow o t span)
+  returned_in g t None span e reaches knows h = tt
+  returned_in g t (Some type) span e reaches knows h =
+      converted_promises frame types g knows (IsReturnFrom g) t type span _ h (λ v typed. met_promises frame types g (IsReturnFrom g) t type span (Passes (core.Return v)) (λ met. gives e (typed met)))
+
+  nothing_in : (g : Scope) (o : Option CType) (span : Span) → g.result ≡ o → Promises (IsReturnFrom g) (returned_nothing o span)
+  nothing_in g None span e = gives_nothing e
+  nothing_in g (Some type) span e = tt
+
+  return_in : (at : Places) (g : Scope) → IsWalk vars g → KnowsFile frame g → (o : Option Expression) (span : Span) → Promises (IsReturnIn g) (return at g o span)
+  return_in at g w file None span = later_promises (Reached g) (IsReturnFrom g) (return at g None span) (λ reaches. nothing_in g g.result span refl)
+  return_in at g w file (Some x) span =
+      later_promises (Reached g) (IsReturnFrom g) (return at g (Some x) span)
+      (λ reaches. let knows = knows_here frame types all_scalar vars budget sandbox trusted g w file reaches in
+      passing_promises (Fits frame types g) (IsReturnFrom g) (typed_at at g x) _ (typed_promises frame types g knows at x) (λ t h. returned_in g t g.result span refl reaches knows h))
+
   mutual
-    pub statement_sound : (at : Places) (g : Scope) (x : Statement) → IsWalk vars g → Promises (IsSound g) (statement at g x)
-    statement_sound at g (s.Block mark inner span) w =
-        passing_promises (AreSound g) (IsSound g) (statements at g inner) _ (statements_sound at g inner w) (λ v h. needs_promises (IsSound g) (not (is_unchecked mark || g.is_off)) E15 span _ (λ on. block_sound g v h))
-    statement_sound at g (s.Bundle assignments span) w = tt
-    statement_sound at g (s.Declare d span) w = goes_promised g (declaration at g d) (declaration_goes structs audited setting vars at g w d)
-    statement_sound at g (s.Assign a span) w = goes_promised g (assigning at g a) (assigning_goes structs audited setting vars at g w a)
-    statement_sound at g (s.CallAlone call span) w = passing_promises IsFreshCall (IsSound g) (call_typed at g call) _ (call_typed_fresh at g call) (λ c h. goes_sound g (alone c, g) (call_goes g w c h))
-    statement_sound at g (s.Empty span) w = goes_sound g (core.Nothing, g) (nothing_goes structs audited setting vars g w)
-    statement_sound at g (s.If test consequent span) w =
-        passing_any (IsSound g) (condition at g test) _
-        (λ c. passing_promises (IsSound (when c true g)) (IsSound g) (statement at (when c true g) consequent) _ (statement_sound at (when c true g) consequent (walk_when vars c true g w)) (λ x h. branch_sound g w c x h))
-    statement_sound at g (s.IfElse test consequent alternative span) w =
-        passing_any (IsSound g) (condition at g test) _
-        (λ c. passing_promises (IsSound (when c true g)) (IsSound g) (statement at (when c true g) consequent) _ (statement_sound at (when c true g) consequent (walk_when vars c true g w))
-        (λ x h. passing_promises (IsSound (at_alternative g c x.1)) (IsSound g) (statement at (at_alternative g c x.1) alternative) _
-        (statement_sound at (at_alternative g c x.1) alternative (walk_knowing vars (told g.locals c false g.flow) (behind_block g x.1) (between_told g.locals vars c false g.flow w.few w.between) (walk_block vars g x.1 h.walk)))
-        (λ y k. branches_sound g w c x y h k)))
-    statement_sound at g (s.While test body span) w =
-        passing_any (IsSound g) (condition at (at_loop body None g) test) _
-        (λ c. let turned = in_loop (when c true (at_loop body None g)) in
+    pub statement_sound : (at : Places) (g : Scope) (x : Statement) → IsWalk vars g → KnowsFile frame g → Promises (IsSound g) (statement at g x)
+    statement_sound at g (s.Block mark inner span) w file =
+        passing_promises (AreSound g) (IsSound g) (statements at g inner) _ (statements_sound at g inner w file) (λ v h. needs_promises (IsSound g) (not (is_unchecked mark || g.is_off)) E15 span _ (λ on. block_sound g v h))
+    statement_sound at g (s.Bundle assignments span) w file = tt
+    statement_sound at g (s.Declare d span) w file = goes_promised g (declaration at g d) (declaration_goes frame types all_scalar vars budget sandbox trusted at g w file d)
+    statement_sound at g (s.Assign a span) w file = goes_promised g (assigning at g a) (assigning_goes frame types all_scalar vars budget sandbox trusted at g w file a)
+    statement_sound at g (s.CallAlone call span) w file =
+        passing_promises (λ (c : Called). IsFreshCall c × (Reached g → IsSimple frame types g (alone c))) (IsSound g) (call_typed at g call) _
+        (both_promise IsFreshCall (λ (c : Called). Reached g → IsSimple frame types g (alone c)) (call_typed at g call) (call_typed_fresh at g call)
+        (later_promises (Reached g) (λ (c : Called). IsSimple frame types g (alone c)) (call_typed at g call)
+        (λ reaches. promised_so (FitsCall frame types g) (λ (c : Called). IsSimple frame types g (alone c)) (call_typed at g call) (call_promises frame types g (knows_here frame types all_scalar vars budget sandbox trusted g w file reaches) at call)
+        (λ c h. alone_typed frame types all_scalar g c h))))
+        (λ c h. goes_sound g (alone c, g) (call_goes g w c h.0 h.1))
+    statement_sound at g (s.Empty span) w file = goes_sound g (core.Nothing, g) (nothing_goes frame types all_scalar vars budget sandbox trusted g w)
+    statement_sound at g (s.If test consequent span) w file =
+        passing_promises (λ (e : core.Expression). Reached g → IsScalarValue frame types all_scalar g e) (IsSound g) (condition at g test) _ (condition_typed at g w file test)
+        (λ c tested. passing_promises (IsSound (when c true g)) (IsSound g) (statement at (when c true g) consequent) _
+        (statement_sound at (when c true g) consequent (walk_when vars c true g w) (file_known frame g (when c true g) (when_grows c true g) file)) (λ x h. branch_sound g w c x tested h))
+    statement_sound at g (s.IfElse test consequent alternative span) w file =
+        passing_promises (λ (e : core.Expression). Reached g → IsScalarValue frame types all_scalar g e) (IsSound g) (condition at g test) _ (condition_typed at g w file test)
+        (λ c tested. passing_promises (λ (x : Walked). GrowsTo (when c true g) x × IsSound (when c true g) x) (IsSound g) (statement at (when c true g) consequent) _
+        (both_promise (GrowsTo (when c true g)) (IsSound (when c true g)) (statement at (when c true g) consequent) (statement_grows at (when c true g) consequent)
+        (statement_sound at (when c true g) consequent (walk_when vars c true g w) (file_known frame g (when c true g) (when_grows c true g) file)))
+        (λ x h. let grows = alternative_grows g c x.1 h.0 in
+        passing_promises (IsSound (at_alternative g c x.1)) (IsSound g) (statement at (at_alternative g c x.1) alternative) _
+        (statement_sound at (at_alternative g c x.1) alternative (walk_knowing vars (told g.locals c false g.flow) (behind_block g x.1) (between_told g.locals vars c false g.flow w.few w.between) (walk_block vars g x.1 h.1.walk))
+        (file_known frame g (at_alternative g c x.1) grows file))
+        (λ y k. branches_sound g w c x y grows tested h.1 k)))
+    statement_sound at g (s.While test body span) w file =
+        passing_promises (λ (e : core.Expression). Reached (at_loop body None g) → IsScalarValue frame types all_scalar (at_loop body None g) e) (IsSound g) (condition at (at_loop body None g) test) _
+        (condition_typed at (at_loop body None g) (walk_head vars body None g w) (headed g file body None) test)
+        (λ c tested. let turned = in_loop (when c true (at_loop body None g)) in
         passing_promises (λ (x : Walked). IsSound turned x × IsMarked (length g.locals) (hidden_by (length g.locals) body g.visible) (marked (length g.locals) g.visible body) x) (IsSound g) (statement at turned body) _
         (both_promise (IsSound turned) (IsMarked (length g.locals) (hidden_by (length g.locals) body g.visible) (marked (length g.locals) g.visible body)) (statement at turned body)
-        (statement_sound at turned body (turn_walk g w body None c)) (statement_marked at turned body (length g.locals) g.visible (hidden_here (length g.locals) g.visible) (omega arith)))
-        (λ x h. loop_sound g w body None c x (core.Nothing, before_step g x.1) h.0 (nothing_goes structs audited setting vars (before_step g x.1) (walk_step vars g x.1 h.0.walk)) h.1
+        (statement_sound at turned body (turn_walk g w body None c) (turned_known g file body None c)) (statement_marked at turned body (length g.locals) g.visible (hidden_here (length g.locals) g.visible) (omega arith)))
+        (λ x h. loop_sound g w body None c x (core.Nothing, before_step g x.1) tested h.0 (nothing_goes frame types all_scalar vars budget sandbox trusted (before_step g x.1) (walk_step vars g x.1 h.0.walk)) h.1
         (step_marked_so at (before_step g x.1) None (length g.locals) g.visible (hidden_here (length g.locals) g.visible) (extends_length g.locals x.1.locals h.0.more))))
-    statement_sound at g (s.For initial test step body span) w =
-        passing_promises (GoesOn structs audited setting vars g) (IsSound g) (first_part at g initial) _ (first_goes structs audited setting vars at g w initial)
-        (λ first i. passing_any (IsSound g) (optional_condition at (at_loop body step first.1) test) _
-        (λ c. let turned = in_loop (when c true (at_loop body step first.1)) in
-        passing_promises (λ (x : Walked). IsSound turned x × IsMarked (length first.1.locals) (hidden_by (length first.1.locals) body first.1.visible) (marked (length first.1.locals) first.1.visible body) x) (IsSound g) (statement at turned body) _
+    statement_sound at g (s.For initial test step body span) w file =
+        passing_promises (λ (first : Walked). GrowsTo g first × Going g first) (IsSound g) (first_part at g initial) _
+        (both_promise (GrowsTo g) (Going g) (first_part at g initial) (first_grows at g initial) (first_goes frame types all_scalar vars budget sandbox trusted at g w file initial))
+        (λ first i. let known = file_known frame g first.1 i.0 file in
+        passing_promises (λ (e : core.Expression). Reached (at_loop body step first.1) → IsScalarValue frame types all_scalar (at_loop body step first.1) e) (IsSound g) (optional_condition at (at_loop body step first.1) test) _
+        (optional_typed at (at_loop body step first.1) (walk_head vars body step first.1 i.1.walk) (headed first.1 known body step) test)
+        (λ c tested. let turned = in_loop (when c true (at_loop body step first.1)) in
+        passing_promises (λ (x : Walked). GrowsTo turned x × (IsSound turned x × IsMarked (length first.1.locals) (hidden_by (length first.1.locals) body first.1.visible) (marked (length first.1.locals) first.1.visible body) x)) (IsSound g) (statement at turned body) _
+        (both_promise (GrowsTo turned) (λ (x : Walked). IsSound turned x × IsMarked (length first.1.locals) (hidden_by (length first.1.locals) body first.1.visible) (marked (length first.1.locals) first.1.visible body) x) (statement at turned body) (statement_grows at turned body)
         (both_promise (IsSound turned) (IsMarked (length first.1.locals) (hidden_by (length first.1.locals) body first.1.visible) (marked (length first.1.locals) first.1.visible body)) (statement at turned body)
-        (statement_sound at turned body (turn_walk first.1 i.walk body step c)) (statement_marked at turned body (length first.1.locals) first.1.visible (hidden_here (length first.1.locals) first.1.visible) (omega arith)))
-        (λ x h. passing_promises (λ (y : Walked). GoesOn structs audited setting vars (before_step first.1 x.1) y × IsMarked (length first.1.locals) first.1.visible (step_marked first.1.visible step) y) (IsSound g) (optional_step at (before_step first.1 x.1) step) _
-        (both_promise (GoesOn structs audited setting vars (before_step first.1 x.1)) (IsMarked (length first.1.locals) first.1.visible (step_marked first.1.visible step)) (optional_step at (before_step first.1 x.1) step)
-        (step_goes structs audited setting vars at (before_step first.1 x.1) (walk_step vars first.1 x.1 h.0.walk) step)
-        (step_marked_so at (before_step first.1 x.1) step (length first.1.locals) first.1.visible (hidden_here (length first.1.locals) first.1.visible) (extends_length first.1.locals x.1.locals h.0.more)))
-        (λ y k. both_sound g first (core.Loop c x.0 y.0, behind_loop first.1 (at_loop body step first.1) c y.1) (goes_sound g first i) (loop_sound first.1 i.walk body step c x y h.0 k.0 h.1 k.1)))))
-    statement_sound at g (s.Return value span) w = passing_promises IsReturn (IsSound g) (return at g value span) _ (return_is at g value span) (λ x h. return_sound g w x h)
-    statement_sound at g (s.Break span) w = needs_promises (IsSound g) g.in_loop E30 span _ (λ ok. break_sound g w)
-    statement_sound at g (s.Continue span) w = needs_promises (IsSound g) g.in_loop E30 span _ (λ ok. continue_sound g w)
+        (statement_sound at turned body (turn_walk first.1 i.1.walk body step c) (turned_known first.1 known body step c)) (statement_marked at turned body (length first.1.locals) first.1.visible (hidden_here (length first.1.locals) first.1.visible) (omega arith))))
+        (λ x h. let last = before_step first.1 x.1 in
+        passing_promises (λ (y : Walked). GrowsTo last y × (Going last y × IsMarked (length first.1.locals) first.1.visible (step_marked first.1.visible step) y)) (IsSound g) (optional_step at last step) _
+        (both_promise (GrowsTo last) (λ (y : Walked). Going last y × IsMarked (length first.1.locals) first.1.visible (step_marked first.1.visible step) y) (optional_step at last step) (optional_grows at last step)
+        (both_promise (Going last) (IsMarked (length first.1.locals) first.1.visible (step_marked first.1.visible step)) (optional_step at last step)
+        (step_goes frame types all_scalar vars budget sandbox trusted at last (walk_step vars first.1 x.1 h.1.0.walk) (file_known frame first.1 last (step_grows first.1 body step c x.1 h.0) known) step)
+        (step_marked_so at last step (length first.1.locals) first.1.visible (hidden_here (length first.1.locals) first.1.visible) (extends_length first.1.locals x.1.locals h.1.0.more))))
+        (λ y k. both_sound g first (core.Loop c x.0 y.0, behind_loop first.1 (at_loop body step first.1) c y.1) i.0
+        (behind_grows first.1 body step c y.1 (grows_further first.1 last y.1 (step_grows first.1 body step c x.1 h.0) k.0))
+        (goes_sound g first i.1) (loop_sound first.1 i.1.walk body step c x y tested h.1.0 k.1.0 h.1.1 k.1.1)))))
+    statement_sound at g (s.Return value span) w file = passing_promises (IsReturnIn g) (IsSound g) (return at g value span) _ (return_in at g w file value span) (λ x h. return_sound g w x h)
+    statement_sound at g (s.Break span) w file = needs_promises (IsSound g) g.in_loop E30 span _ (λ loops. break_sound g w loops)
+    statement_sound at g (s.Continue span) w file = needs_promises (IsSound g) g.in_loop E30 span _ (λ loops. continue_sound g w loops)
 
-    pub statements_sound : (at : Places) (g : Scope) (xs : Statements) → IsWalk vars g → Promises (AreSound g) (statements at g xs)
-    statements_sound at g s.NoMore w = none_sound g w
-    statements_sound at g (s.Then first others) w =
-        passing_promises (IsSound g) (AreSound g) (statement at g first) _ (statement_sound at g first w)
-        (λ x h. passing_promises (AreSound x.1) (AreSound g) (statements at x.1 others) _ (statements_sound at x.1 others h.walk) (λ y k. then_sound g x y h k))
-
-pub known_is_so : KnownIsSo
-known_is_so at vars g x w e walk structs audited setting ticks s has h =
-    (subst (Promises (IsSound structs audited setting vars g)) e (statement_sound structs audited setting vars at g x walk)).runs ticks s has h
-
-pub rows_are_so : RowsAreSo
-rows_are_so at vars g xs w e walk structs audited setting ticks s has h =
-    (subst (Promises (AreSound structs audited setting vars g)) e (statements_sound structs audited setting vars at g xs walk)).runs ticks s has h
+    pub statements_sound : (at : Places) (g : Scope) (xs : Statements) → IsWalk vars g → KnowsFile frame g → Promises (AreSound g) (statements at g xs)
+    statements_sound at g s.NoMore w file = none_sound g w
+    statements_sound at g (s.Then first others) w file =
+        passing_promises (λ (x : Walked). GrowsTo g x × IsSound g x) (AreSound g) (statement at g first) _
+        (both_promise (GrowsTo g) (IsSound g) (statement at g first) (statement_grows at g first) (statement_sound at g first w file))
+        (λ x h. passing_promises (AreSound x.1) (AreSound g) (statements at x.1 others) _ (statements_sound at x.1 others h.1.walk (file_known frame g x.1 h.0 file)) (λ y k. then_sound g x y h.0 h.1 k))
 
 pub conditions_are_so : ConditionsAreSo
 conditions_are_so vars g c walk structs audited setting ticks s has h =
-    so_further (λ v t. IsAfter s t × FitsAlike structs (length g.locals) (told g.locals c (truth v) g.flow) t) (λ v t. IsKnown structs (when c (truth v) g) t) (value audited setting (knot audited setting ticks) c s)
-    (condition_so structs audited setting vars ticks g c s walk has h) (λ v t k. k.1)
+    so_further (λ v t. IsAfter s t × FitsAlike structs (length g.locals) (told g.locals c (truth v) g.flow) t) (λ v t. IsKnown structs (when c (truth v) g) t) (value_of audited setting (knot audited setting ticks) c s)
+    (told_fits audited setting (knot audited setting ticks) (knots_move audited setting ticks).calls structs g.locals c g.flow walk.between.flow (let few = walk.few in let size = walk.between.size in omega (arith, few, size)) s has h) (λ v t k. k.1)
 
 pub marked_alone : MarkedAlone
 marked_alone at g x w e audited setting ticks s =

@@ -1,19 +1,23 @@
--- What has types is never stuck and never unsound: an induction over the audited meaning, with what each state keeps.
-use Rattle.std.proofs.Common.{◌≡◌, neg_ℤ, ℕ, zero, suc, ◌+◌, ◌%◌, ◌<◌, ◌≤◌, ◌^◌, Bool, true, false, ℤ, List, [], ◌∷◌, map, replicate, length, Option, Some, None, refl, sym, ap, ◌∙◌, subst, arith}
+-- What has types is never stuck and never unsound: expressions and simple statements, where what is known in their scope is so, and what each
+-- state keeps.
+use Rattle.std.proofs.Common.{◌≡◌, neg_ℤ, ◌+ℤ◌, ◌*ℤ◌, ℕ, zero, suc, ◌+◌, ◌*◌, ◌%◌, ◌<◌, ◌≤◌, ◌^◌, Bool, true, false, ℤ, List, [], ◌∷◌, map, replicate, length, cond, Option, Some, None, refl, sym, ap, ◌∙◌, subst, arith}
 use Rattle.std.specs.Prelude.{◌==◌, ◌&&◌, not, nat_lt, slice_get, option_map, pos}
 use Rattle.std.specs.List.{AllByRecursion}
 use Rattle.std.specs.Int.{w32}
-use Rattle.std.proofs.lemmas.Int.{to_z_pos}
+use Rattle.std.proofs.lemmas.Int.{ints, to_z_pos}
 use Rattle.std.proofs.lemmas.Bool.Decides.{nat_tests}
 use Rattle.std.proofs.lemmas.Option.{slice_get_within}
 use Rattle.std.proofs.lemmas.Bool.{and_from}
 use Rattle.std.proofs.lemmas.List.{length-replicate}
-use Rattle.ckc_core.specs.Outcome.{Gives, Ends, Stuck, Unsound, Short, and_then}
+use Rattle.ckc_core.specs.Outcome.{Gives, and_then}
 use Rattle.act_words.specs.Checks.{Checked, Holds, Fails, is_word_number}
 use Rattle.act_words.specs.Numbers.{word}
 use Rattle.act_words.specs.Arithmetic as arithmetic
 use Rattle.act_words.specs.Operators.{holds}
 use Rattle.act_words.specs.Acts.{Passed}
+use Rattle.act_words.specs.World.{World}
+use Rattle.ckc_text.specs.declared.code.Code.TheVariants.{C2}
+use Rattle.pointer_modes.specs.Layout.{size_of}
 use Rattle.act_words.specs.Touches.{Asked, Got, Ended, spend_tick, enter_call, next_input, touch}
 use Rattle.ckc_core.specs.declared.program.Site.{Site}
 use Rattle.act_words.specs.declared.operator.Operator.{Operator}
@@ -23,69 +27,175 @@ use Rattle.pointer_modes.specs.declared.ctype.Mode.{Mode}
 use Rattle.pointer_modes.specs.declared.ctype.Mode.TheVariants as modes
 use Rattle.pointer_modes.specs.declared.ctype.Kind.{Kind}
 use Rattle.pointer_modes.specs.declared.ctype.Kind.TheVariants as kinds
-use Rattle.pointer_modes.specs.Types.{CType, Int, Char, Struct, Pointer}
+use Rattle.pointer_modes.specs.Types.{CType, Int, Char, Struct, Pointer, Structure}
 use Rattle.ckc_core.specs.Core as core
-use Rattle.ckc_core.specs.States.{Value, Number, Null, At, Local, Shape, Grows, State, in_world, shape, shapes, stored, same_type, has_type, object_block}
+use Rattle.ckc_core.specs.States.{Value, Number, Null, At, Cell, Local, cell_at, Shape, Grows, State, in_world, shape, shapes, stored, same_type, has_type, object_block}
 use Rattle.ckc_core.specs.declared.program.PointerBounds.{PointerBounds}
 use Rattle.ckc_core.specs.Programs.{Import, Initial}
-use Rattle.ckc_core.specs.Bounds.{Pointed, with_ends}
-use Rattle.ckc_core.specs.Steps.{Result, Flow, Next, Broke, Continued, Returned, given, checked, value_if, value_in, place_if, place_at, variable_if, variable_at, load_at, pointer_to, truth, number_of_test, same_place, test_given, result_of, arithmetic_of, compared, negated, complemented, low_byte_of, asked, words_of, reply_as, back, passed, cross, cross_if, call_tainted, takes, parameters_of, enter_if, call_trusted, result_given, choose, leaves_zero, store_if, store_over, store_at, set_if, set_over, set_local, kept_if, is_char, printed, put, on_next, behind_turn, no_result, called}
-use Rattle.ckc_core.specs.Meaning.{Knot, Setting, audit, bounds_of, site_of, Target, element, without_ends, value, values, place, target_of, effect, effects}
+use Rattle.ckc_core.specs.declared.program.Direction.{Direction}
+use Rattle.ckc_core.specs.declared.program.Direction.TheVariants as directions
+use Rattle.ckc_core.specs.Bounds.{Ends as EndsOf, Pointed, ends_at, with_ends}
+use Rattle.ckc_core.specs.Pointers.{number_given, checked_if, distance, lies_below, lies_up_to, cell_behind, pointer_at, pointer_if}
+use Rattle.ckc_core.specs.Steps.{Result, Flow, Next, Broke, Continued, Returned, given, checked, value_if, value_in, place_if, place_at, variable_if, variable_at, load_at, pointer_to, truth, number_of_test, same_place, test_given, result_of, arithmetic_of, compared, negated, complemented, low_byte_of, asked, words_of, reply_as, back, passed, cross, cross_if, call_tainted, takes, parameters_of, enter_if, call_trusted, result_given, choose, leaves_zero, store_if, store_over, store_at, set_if, set_over, set_local, kept_if, is_char, printed, put, no_result, called}
+use Rattle.ckc_core.specs.Meaning.{Knot, Setting, audit, bounds_of, site_of, Target, element, element_within, summed, without_ends, value, values, place, target_of, sound_if, effect}
 use Rattle.region_typing_rules.specs.Types.{is_number}
+use Rattle.region_typing_rules.specs.Scopes.{Scope}
+use Rattle.region_typing_rules.specs.Expressions.{bounds_at}
+use Rattle.bounds_exprs.specs.Terms.{is_within, term_limit}
+use Rattle.bounds_flow_meaning.specs.Laws.{IsMoved}
+use Rattle.bounds_flow_meaning.specs.Holding.{target_size}
+use Rattle.region_typing_rules.specs.Verdicts.{picked}
+use Rattle.region_typing_rules.specs.Readings.{Behind, behind_by, behind_local, constant, constant_of, further, is_pointer_type, term, toward}
+use Rattle.region_typing_rules.specs.KnownIsSo.{WhereGiven, IsKnown}
 use Rattle.region_typing_rules.specs.Typed as typed
-use Rattle.region_typing_rules.specs.Typed.{Frame, HasBounds, HasRow, IsPlace, HasValue, IsNumberResult, IsCallee, HasType, HaveTypes, HasPlace, IsStatement, AreStatements, IsScalar}
+use Rattle.bounds_exprs.specs.declared.term.Term.{Term}
+use Rattle.bounds_flow.specs.Conditions.{IsFlow}
+use Rattle.bounds_flow_meaning.specs.Holding.{IsValid, types_of}
+use Rattle.bounds_flow_meaning.specs.Rows.{HasRow, IsPlace, slots}
+use Rattle.bounds_flow_meaning.proofs.Rows.{place_grown, still_there}
+use Rattle.bounds_flow_meaning.proofs.Validity.{grown_valid, times_plus}
+use Rattle.region_typing_rules.specs.Typed.{Frame, HasBounds, HasValue, IsNumberResult, IsCallee, AreRows, AreSumBounds, HasElements, HasType, HaveTypes, HasPlace, IsSimple, IsScalar}
 use Rattle.ckc_core.proofs.Numbers.{IsNumber, IfHolds, result_fits, overflow_fits, signed_fits, complement_fits, low_byte_small}
 use Rattle.region_typing_rules.proofs.Worlds.{IsWorld, Answers, Anything, IsWord, tick_answers, enter_answers, touch_answers, next_answers}
-use Rattle.region_typing_rules.proofs.Values.{same_refl, mapped_there, grows_here, grows_on, at_cell, zero_left, shapes_stored, member_place, place_grown, scalar_cell, some_cell, value_grown, value_typed, value_widened, value_number, HaveValues, values_count, values_fit, HaveLocals, local_there, locals_set, HoldsValues, cell_typed, stored_typed, values_grown, locals_grown}
+use Rattle.region_typing_rules.proofs.Values.{same_refl, mapped_there, grows_here, grows_on, at_cell, zero_left, shapes_stored, member_place, scalar_cell, some_cell, value_grown, value_typed, value_widened, value_number, HaveValues, values_count, values_fit, HaveLocals, local_there, locals_set, HoldsValues, cell_typed, stored_typed, values_grown, locals_grown}
 use Rattle.region_typing_rules.proofs.Validity.{same_pointer, sound}
+use Rattle.region_typing_rules.proofs.Verdicts.{Extends}
+use Rattle.region_typing_rules.proofs.Sure.{Sure, sure_on, sure_further, sure_both, sure_given}
+use Rattle.region_typing_rules.proofs.Keeping.{IsAfter, after_here, after_on, CallsKeep}
+use Rattle.region_typing_rules.proofs.Terms.{so_always, so_further, so_on, audited_so, IsOfTerm, term_so}
+use Rattle.region_typing_rules.proofs.Alike.{fits_after, types_alike}
+use Rattle.region_typing_rules.proofs.Assigns.{IsBehind, stays}
+use Rattle.region_typing_rules.proofs.Elements.{AreOf, pointing, passes_at, ends_there, size_there, within, up_to, as_many, IsSum, sum_valid, sum_size, array_valid, one_valid, single_typed}
+
+-- locals of these types are there
+pub has_locals : (structs : List Structure) (b : List Shape) (ts types : List CType) (ls : List Local) → Extends ts types → HaveLocals structs b types ls → (x : ℕ) (c : CType) → slice_get ts x ≡ Some c → slice_get (types_of ls) x ≡ Some c
+has_locals structs b ts types ls reaches h x c e =
+    let l = local_there structs b types ls x c h (reaches x c e) in
+    mapped_there (λ (l : Local). l.type) ls x l.0 l.1 ∙ ap Some l.2
+
+-- and hold values of their types
+pub types_held : (structs : List Structure) (b : List Shape) (ts : List CType) (ls : List Local) → HaveLocals structs b ts ls → (x : ℕ) (l : Local) → slice_get ls x ≡ Some l → has_type l.type l.value ≡ true
+types_held structs b [] [] h x l e = absurd (cc)
+types_held structs b [] (k ∷ ls) h x l e = absurd h
+types_held structs b (t ∷ ts) [] h x l e = absurd h
+types_held structs b (t ∷ ts) (k ∷ ls) h zero l e = let same : k ≡ l = cc in subst (λ (l : Local). has_type l.type l.value ≡ true) same (ap (λ c. has_type c k.value) h.0 ∙ value_typed structs b t k.value h.1)
+types_held structs b (t ∷ ts) (k ∷ ls) h (suc x) l e = types_held structs b ts ls h.2 x l e
+
+-- ---- what a local pointer plus a constant is read off
+
+record IsFurther (direction : Direction) (o : Option ℤ) (from : Option Behind) (b : Behind) : Type 0 where
+  before : Behind
+  constant : ℤ
+  there : from ≡ Some before
+  is : o ≡ Some constant
+  local : b.local ≡ before.local
+  elements : b.elements ≡ before.elements +ℤ toward direction constant
+
+further_parts : (direction : Direction) (o : Option ℤ) (there : Option Behind) (b : Behind) → further direction o there ≡ Some b → IsFurther direction o there b
+further_parts direction None there b h = absurd (cc)
+further_parts direction (Some c) None b h = absurd (cc)
+further_parts direction (Some c) (Some before) b h = by (is_within term_limit (before.elements +ℤ toward direction c)) h
+  where
+    by : (test : Bool) → behind_by before.local (cond test (Some (record { var = None; plus = before.elements +ℤ toward direction c })) None) ≡ Some b → IsFurther direction (Some c) (Some before) b
+    by true q =
+        let same : record { local = before.local; elements = before.elements +ℤ toward direction c } ≡ b = cc in
+        record { before = before; constant = c; there = refl; is = refl; local = sym (ap (λ (b : Behind). b.local) same); elements = sym (ap (λ (b : Behind). b.elements) same) }
+    by false q = absurd (cc)
+
+local_parts : (ts : List CType) (i : ℕ) (b : Behind) (test : Bool) → picked test (Some (record { local = i; elements = pos 0 })) None ≡ Some b → (b.local ≡ i) × (b.elements ≡ pos 0)
+local_parts ts i b true h = let same : record { local = i; elements = pos 0 } ≡ b = cc in (sym (ap (λ (b : Behind). b.local) same), sym (ap (λ (b : Behind). b.elements) same))
+local_parts ts i b false h = absurd (cc)
+
+-- the local has the type of the pointer, whatever its kind
+module _ (g : Frame) (types : List CType) (here : Scope) (reaches : Extends here.locals types) where
+  based_local : (i : ℕ) (b : Behind) (t : CType) → slice_get types i ≡ Some t → behind_local here.locals (core.Local i None) ≡ Some b → (m : Mode) (d : Kind) (target : CType) → t ≡ Pointer m d target → (d' : Kind) × (slice_get types b.local ≡ Some (Pointer m d' target))
+  based_local i b t e is m d target same = (d, subst (λ k. slice_get types k ≡ Some (Pointer m d target)) (sym (local_parts here.locals i b (is_pointer_type (slice_get here.locals i)) is).0) (e ∙ ap Some same))
+
+  of_kind : (k : Kind) (m' m : Mode) (d' d : Kind) (t target : CType) → Pointer m' d' t ≡ Pointer m d target → Pointer m' k t ≡ Pointer m k target
+  of_kind k m' m d' d t target q = let a : m' ≡ m = cc in let b : t ≡ target = cc in ap (λ m. Pointer m k t) a ∙ ap (Pointer m k) b
+
+  base_of : {e : core.Expression} {t : CType} → HasType g types here e t → (b : Behind) → behind_local here.locals e ≡ Some b → (m : Mode) (d : Kind) (target : CType) → t ≡ Pointer m d target → (d' : Kind) × (slice_get types b.local ≡ Some (Pointer m d' target))
+  base_of (typed.word fits) b is m d target same = absurd (cc)
+  base_of (typed.byte fits) b is m d target same = absurd (cc)
+  base_of typed.null b is m d target same = absurd (cc)
+  base_of (typed.local {k = i} {t = t} e bounds) b is m d target same = based_local i b t e is m d target same
+  base_of (typed.bounded {k = i} {mode = m'} {t = t} e size limited force) b is m d target same = based_local i b (Pointer m' kinds.Array t) e is m d target same
+  base_of (typed.widened h) b is m d target same = absurd (cc)
+  base_of (typed.single {mode = m'} {t = t} h elements leads) b is m d target same = base_of h b is m kinds.Array target (of_kind kinds.Array m' m kinds.One d t target same)
+  base_of (typed.row {mode = m'} {t = t} h bounds) b is m d target same = base_of h b is m kinds.One target (of_kind kinds.One m' m kinds.Array d t target same)
+  base_of (typed.ended_row {mode = m'} {t = t} h none) b is m d target same = base_of h b is m kinds.Nt target (of_kind kinds.Nt m' m kinds.Array d t target same)
+  base_of (typed.load scalar h bounds) b is m d target same = absurd (cc)
+  base_of (typed.address_of h bounds) b is m d target same = absurd (cc)
+  base_of (typed.array found some few rows bounds size) b is m d target same = absurd (cc)
+  base_of (typed.sum {e = e} {i = i} {mode = m'} {t = t} {direction = direction} h elements hi bounds) b is m d target same =
+      let f = further_parts direction (constant here.locals i) (behind_local here.locals e) b is in
+      let base = base_of h f.before f.there m d target same in
+      (base.0, subst (λ k. slice_get types k ≡ Some (Pointer m base.0 target)) (sym f.local) base.1)
+  base_of (typed.negate h) b is m d target same = absurd (cc)
+  base_of (typed.complement h) b is m d target same = absurd (cc)
+  base_of (typed.inverse h) b is m d target same = absurd (cc)
+  base_of (typed.arithmetic ha hb) b is m d target same = absurd (cc)
+  base_of (typed.compare ha hb) b is m d target same = absurd (cc)
+  base_of (typed.same ha hb) b is m d target same = absurd (cc)
+  base_of (typed.both ha hb) b is m d target same = absurd (cc)
+  base_of (typed.either ha hb) b is m d target same = absurd (cc)
+  base_of (typed.low_byte h) b is m d target same = absurd (cc)
+  base_of (typed.call known h bounds) b is m d target same = absurd (cc)
+  base_of typed.next_input b is m d target same = absurd (cc)
 
 -- the shapes of the blocks of a state
 abbrev pub shaped : State → List Shape
 shaped s = shapes s.blocks
 
--- ---- what a step gives, in blocks of these shapes
+-- ---- what a step gives, in a state
 
 -- a value of a type
-abbrev pub OfType : Frame → CType → List Shape → Value → Type 0
-OfType g t b v = HasValue g.structs b t v
+abbrev pub OfType : Frame → CType → Value → State → Type 0
+OfType g t v s = HasValue g.structs (shaped s) t v
+
+-- a pointer with bounds is valid with them
+abbrev pub IsBounded : Frame → CType → Option PointerBounds → Value → State → Type 0
+IsBounded g Int b v s = Unit {0}
+IsBounded g Char b v s = Unit {0}
+IsBounded g (Struct number) b v s = Unit {0}
+IsBounded g (Pointer mode kinds.One target) b v s = Unit {0}
+IsBounded g (Pointer mode kinds.Nt target) b v s = Unit {0}
+IsBounded g (Pointer mode kinds.Array target) None v s = Unit {0}
+IsBounded g (Pointer mode kinds.Array target) (Some p) v s = IsValid g.structs (Some p.bounds) (record { type = Pointer mode kinds.Array target; value = v }) s
+
+-- a value of a type, as an expression gives it
+abbrev pub OfNode : Frame → core.Expression → CType → Value → State → Type 0
+OfNode g e t v s = OfType g t v s × IsBounded g t (bounds_of e) v s
 
 -- values of types in their order
-abbrev pub OfTypes : Frame → List CType → List Shape → List Value → Type 0
-OfTypes g ts b vs = HaveValues g.structs b ts vs
+abbrev pub OfTypes : Frame → List CType → List Value → State → Type 0
+OfTypes g ts vs s = HaveValues g.structs (shaped s) ts vs
 
 -- a place at which a value of the type stands
-abbrev pub IsPlaced : Frame → CType → List Shape → ℕ × ℕ → Type 0
-IsPlaced g t b at = IsPlace g.structs b t at.0 at.1
-
--- a pointer of a type
-abbrev pub IsPointed : Frame → CType → List Shape → Pointed → Type 0
-IsPointed g t b q = OfType g t b q.value
-
--- a pointer of a type, with the number of an element
-abbrev pub IsTarget : Frame → CType → List Shape → Target → Type 0
-IsTarget g t b q = IsPointed g t b q.pointer
-
--- the object that a pointer leads to
-abbrev pub at_first : Pointed → Target
-at_first p = record { pointer = p; number = pos 0 }
+abbrev pub IsPlaced : Frame → CType → ℕ × ℕ → State → Type 0
+IsPlaced g t at s = IsPlace g.structs (shaped s) t at.0 at.1
 
 -- the word of a reply
-abbrev pub IsReply : List Shape → ℕ → Type 0
-IsReply b reply = IsWord reply
+abbrev pub IsReply : ℕ → State → Type 0
+IsReply reply s = IsWord reply
 
 -- a result as it was declared
-abbrev pub IsAnswer : Frame → Option CType → List Shape → Option Value → Type 0
-IsAnswer g None b None = Unit {0}
-IsAnswer g None b (Some v) = ⊥
-IsAnswer g (Some t) b None = ⊥
-IsAnswer g (Some t) b (Some v) = HasValue g.structs b t v
+abbrev pub IsAnswer : Frame → Option CType → Option Value → State → Type 0
+IsAnswer g None None s = Unit {0}
+IsAnswer g None (Some v) s = ⊥
+IsAnswer g (Some t) None s = ⊥
+IsAnswer g (Some t) (Some v) s = OfType g t v s
 
 -- how a statement may end
-abbrev pub IsFlow : Frame → Option CType → Bool → List Shape → Flow → Type 0
-IsFlow g result loop b Next = Unit {0}
-IsFlow g result loop b Broke = loop ≡ true
-IsFlow g result loop b Continued = loop ≡ true
-IsFlow g result loop b (Returned v) = IsAnswer g result b v
+abbrev pub EndsAs : Frame → Option CType → Bool → Flow → State → Type 0
+EndsAs g result loop Next s = Unit {0}
+EndsAs g result loop Broke s = loop ≡ true
+EndsAs g result loop Continued s = loop ≡ true
+EndsAs g result loop (Returned v) s = IsAnswer g result v s
+
+-- it goes on to the next one
+abbrev pub IsNext : Flow → State → Type 0
+IsNext flow s = flow ≡ Next
 
 module _ (g : Frame) (budget n : ℕ) where
   -- what a state keeps where the locals have these types, and so many ticks were spent at least: its blocks are those of the
@@ -98,133 +208,153 @@ module _ (g : Frame) (budget n : ℕ) where
     pub world : IsWorld budget low s.world
     pub enough : budget ≤ low + n
 
-  -- a step from blocks of these shapes: it gives what it should, where blocks were only added, or ends
-  abbrev pub Goes : {A : Type 0} → ℕ → List CType → List Shape → (List Shape → A → Type 0) → Result A → Type 0
-  Goes low types b P (Gives v s) = P (shaped s) v × Grows b (shaped s) × IsKept low types s
-  Goes low types b P (Ends ending s) = Unit {0}
-  Goes low types b P (Stuck site s) = ⊥
-  Goes low types b P (Unsound site s) = ⊥
-  Goes low types b P Short = ⊥
+  -- a step of an expression from a state: it gives what it should among the same locals, where blocks were only added, or ends
+  abbrev pub Goes : {A : Type 0} → ℕ → List CType → State → (A → State → Type 0) → Result A → Type 0
+  Goes low types r P o = Sure (λ v s. P v s × IsAfter r s × IsKept low types s) o
 
-  from_grown : {A : Type 0} (low : ℕ) (types : List CType) (a b : List Shape) (P : List Shape → A → Type 0) (o : Result A) → Grows a b → Goes low types b P o → Goes low types a P o
-  from_grown low types a b P (Gives v s) grown h = (h.0, grows_on a b (shaped s) grown h.1, h.2)
-  from_grown low types a b P (Ends ending s) grown h = tt
-  from_grown low types a b P (Stuck site s) grown h = h
-  from_grown low types a b P (Unsound site s) grown h = h
-  from_grown low types a b P Short grown h = h
+  -- a step of a statement
+  abbrev pub Runs : {A : Type 0} → ℕ → List CType → (A → State → Type 0) → Result A → Type 0
+  Runs low types P o = Sure (λ v s. P v s × IsKept low types s) o
 
-  pub goes_on : {A B : Type 0} (low : ℕ) (types : List CType) (b : List Shape) (P : List Shape → A → Type 0) (Q : List Shape → B → Type 0) (o : Result A) (next : A → State → Result B) → Goes low types b P o
-      → ((v : A) (s : State) → Grows b (shaped s) → P (shaped s) v → IsKept low types s → Goes low types (shaped s) Q (next v s)) → Goes low types b Q (and_then o next)
-  goes_on low types b P Q (Gives v s) next h more = from_grown low types b (shaped s) Q (next v s) h.1 (more v s h.1 h.0 h.2)
-  goes_on low types b P Q (Ends ending s) next h more = tt
-  goes_on low types b P Q (Stuck site s) next h more = h
-  goes_on low types b P Q (Unsound site s) next h more = h
-  goes_on low types b P Q Short next h more = h
+  later_goes : {A : Type 0} (low : ℕ) (types : List CType) (r s : State) (P : A → State → Type 0) (o : Result A) → IsAfter r s → Goes low types s P o → Goes low types r P o
+  later_goes low types r s P o after h = sure_further (λ v t. P v t × IsAfter s t × IsKept low types t) (λ v t. P v t × IsAfter r t × IsKept low types t) o h (λ v t k. (k.0, after_on r s t after k.1, k.2))
+
+  pub goes_on : {A B : Type 0} (low : ℕ) (types : List CType) (r : State) (P : A → State → Type 0) (Q : B → State → Type 0) (o : Result A) (next : A → State → Result B) → Goes low types r P o
+      → ((v : A) (s : State) → IsAfter r s → P v s → IsKept low types s → Goes low types s Q (next v s)) → Goes low types r Q (and_then o next)
+  goes_on low types r P Q o next h more =
+      sure_on (λ v s. P v s × IsAfter r s × IsKept low types s) (λ v s. Q v s × IsAfter r s × IsKept low types s) o next h (λ v s k. later_goes low types r s Q (next v s) k.1 (more v s k.1 k.0 k.2))
+
+  pub goes_further : {A : Type 0} (low : ℕ) (types : List CType) (r : State) (P Q : A → State → Type 0) (o : Result A) → Goes low types r P o → ((v : A) (s : State) → P v s → Q v s) → Goes low types r Q o
+  goes_further low types r P Q o h more = sure_further (λ v s. P v s × IsAfter r s × IsKept low types s) (λ v s. Q v s × IsAfter r s × IsKept low types s) o h (λ v s k. (more v s k.0, k.1, k.2))
+
+  pub runs_of : {A : Type 0} (low : ℕ) (types : List CType) (r : State) (P : A → State → Type 0) (o : Result A) → Goes low types r P o → Runs low types P o
+  runs_of low types r P o h = sure_further (λ v s. P v s × IsAfter r s × IsKept low types s) (λ v s. P v s × IsKept low types s) o h (λ v s k. (k.0, k.2))
+
+  -- a statement behind an expression, and behind another statement
+  pub runs_on : {A B : Type 0} (low : ℕ) (types : List CType) (r : State) (P : A → State → Type 0) (Q : B → State → Type 0) (o : Result A) (next : A → State → Result B) → Goes low types r P o
+      → ((v : A) (s : State) → IsAfter r s → P v s → IsKept low types s → Runs low types Q (next v s)) → Runs low types Q (and_then o next)
+  runs_on low types r P Q o next h more = sure_on (λ v s. P v s × IsAfter r s × IsKept low types s) (λ v s. Q v s × IsKept low types s) o next h (λ v s k. more v s k.1 k.0 k.2)
+
+  pub runs_then : {A B : Type 0} (low : ℕ) (types : List CType) (P : A → State → Type 0) (Q : B → State → Type 0) (o : Result A) (next : A → State → Result B) → Runs low types P o
+      → ((v : A) (s : State) → P v s → IsKept low types s → Runs low types Q (next v s)) → Runs low types Q (and_then o next)
+  runs_then low types P Q o next h more = sure_on (λ v s. P v s × IsKept low types s) (λ v s. Q v s × IsKept low types s) o next h (λ v s k. more v s k.0 k.1)
+
+  pub runs_further : {A : Type 0} (low : ℕ) (types : List CType) (P Q : A → State → Type 0) (o : Result A) → Runs low types P o → ((v : A) (s : State) → P v s → Q v s) → Runs low types Q o
+  runs_further low types P Q o h more = sure_further (λ v s. P v s × IsKept low types s) (λ v s. Q v s × IsKept low types s) o h (λ v s k. (more v s k.0, k.1))
+
+  -- with what was found of it elsewhere
+  pub runs_both : {A : Type 0} (low : ℕ) (types : List CType) (P Q : A → State → Type 0) (o : Result A) → Runs low types P o → WhereGiven Q o → Runs low types (λ v s. P v s × Q v s) o
+  runs_both low types P Q o h k =
+      sure_further (λ v s. (P v s × IsKept low types s) × Q v s) (λ v s. (P v s × Q v s) × IsKept low types s) o (sure_both (λ v s. P v s × IsKept low types s) Q o h k) (λ v s x. ((x.0.0, x.1), x.0.1))
+
+  -- in another world so many ticks were spent
+  pub kept_in : (low lower : ℕ) (types : List CType) (s : State) (w : World) → IsWorld budget lower w → budget ≤ lower + n → IsKept low types s → IsKept lower types (in_world w s)
+  kept_in low lower types s w world enough kept = record { grown = kept.grown; cells = kept.cells; locals = kept.locals; world = world; enough = enough }
 
   -- what asks the world goes on with the same blocks and locals, and may have spent a tick
-  pub asked_goes : {A B : Type 0} (low lower : ℕ) (types : List CType) (P : A → Type 0) (Q : List Shape → B → Type 0) (o : Asked A) (s : State) (next : A → State → Result B) → Answers budget lower P o → budget ≤ lower + n → IsKept low types s
-      → ((v : A) (t : State) → Grows (shaped s) (shaped t) → P v → IsKept lower types t → Goes lower types (shaped t) Q (next v t)) → Goes lower types (shaped s) Q (asked o s next)
+  pub asked_goes : {A B : Type 0} (low lower : ℕ) (types : List CType) (P : A → Type 0) (Q : B → State → Type 0) (o : Asked A) (s : State) (next : A → State → Result B) → Answers budget lower P o → budget ≤ lower + n → IsKept low types s
+      → ((v : A) (t : State) → IsAfter s t → P v → IsKept lower types t → Goes lower types t Q (next v t)) → Goes lower types s Q (asked o s next)
   asked_goes low lower types P Q (Got v w) s next h enough kept more =
-      more v (in_world w s) (grows_here (shaped s)) h.0 (record { grown = kept.grown; cells = kept.cells; locals = kept.locals; world = h.1; enough = enough })
+      later_goes lower types s (in_world w s) Q (next v (in_world w s)) (after_here s) (more v (in_world w s) (after_here s) h.0 (kept_in low lower types s w h.1 enough kept))
   asked_goes low lower types P Q (Ended ending w) s next h enough kept more = tt
 
-  -- behind a tick more ticks were spent at least
-  pub lowered : {A : Type 0} (low : ℕ) (types : List CType) (b : List Shape) (P : List Shape → A → Type 0) (o : Result A) → budget ≤ low + n → Goes (suc low) types b P o → Goes low types b P o
-  lowered low types b P (Gives v s) enough h =
-      let w = h.2.world in
-      (h.0, h.1, record { grown = h.2.grown; cells = h.2.cells; locals = h.2.locals; world = (w.0, w.1, omega (arith, w.2), w.3); enough = enough })
-  lowered low types b P (Ends ending s) enough h = tt
-  lowered low types b P (Stuck site s) enough h = h
-  lowered low types b P (Unsound site s) enough h = h
-  lowered low types b P Short enough h = h
+  pub asked_runs : {A B : Type 0} (low lower : ℕ) (types : List CType) (P : A → Type 0) (Q : B → State → Type 0) (o : Asked A) (s : State) (next : A → State → Result B) → Answers budget lower P o → budget ≤ lower + n → IsKept low types s
+      → ((v : A) (t : State) → IsAfter s t → P v → IsKept lower types t → Runs lower types Q (next v t)) → Runs lower types Q (asked o s next)
+  asked_runs low lower types P Q (Got v w) s next h enough kept more = more v (in_world w s) (after_here s) h.0 (kept_in low lower types s w h.1 enough kept)
+  asked_runs low lower types P Q (Ended ending w) s next h enough kept more = tt
 
-  -- calls and turns that come behind a tick
+  -- behind a tick more ticks were spent at least
+  kept_lowered : (low : ℕ) (types : List CType) (s : State) → budget ≤ low + n → IsKept (suc low) types s → IsKept low types s
+  kept_lowered low types s enough kept = let w = kept.world in record { grown = kept.grown; cells = kept.cells; locals = kept.locals; world = (w.0, w.1, omega (arith, w.2), w.3); enough = enough }
+
+  pub lowered : {A : Type 0} (low : ℕ) (types : List CType) (r : State) (P : A → State → Type 0) (o : Result A) → budget ≤ low + n → Goes (suc low) types r P o → Goes low types r P o
+  lowered low types r P o enough h = sure_further (λ v s. P v s × IsAfter r s × IsKept (suc low) types s) (λ v s. P v s × IsAfter r s × IsKept low types s) o h (λ v s k. (k.0, k.1, kept_lowered low types s enough k.2))
+
+  pub lowered_runs : {A : Type 0} (low : ℕ) (types : List CType) (P : A → State → Type 0) (o : Result A) → budget ≤ low + n → Runs (suc low) types P o → Runs low types P o
+  lowered_runs low types P o enough h = sure_further (λ v s. P v s × IsKept (suc low) types s) (λ v s. P v s × IsKept low types s) o h (λ v s k. (k.0, kept_lowered low types s enough k.1))
+
+  -- calls that come behind a tick
   pub record IsKnot (k : Knot) : Type 0 where
-    pub call : (low : ℕ) (types : List CType) (function : ℕ) (f : core.Function) (vs : List Value) (s : State) → slice_get g.program.functions function ≡ Some f → OfTypes g (parameters_of f) (shaped s) vs → suc budget ≤ low + n → IsKept low types s
-        → Goes low types (shaped s) (IsAnswer g f.result) (k.call function vs s)
-    pub turn : (low : ℕ) (types : List CType) (result : Option CType) (loop : Bool) (e : core.Expression) (t : CType) (x y : core.Statement) (s : State) → HasType g types e t → IsStatement g types result true x → IsStatement g types result false y → suc budget ≤ low + n → IsKept low types s
-        → Goes low types (shaped s) (IsFlow g result loop) (k.turn e x y s)
-    pub sandbox : (low : ℕ) (types : List CType) (s : State) → suc budget ≤ low + n → IsKept low types s → Goes low types (shaped s) IsReply (k.sandbox s)
+    pub call : (low : ℕ) (types : List CType) (function : ℕ) (f : core.Function) (vs : List Value) (s : State) → slice_get g.program.functions function ≡ Some f → OfTypes g (parameters_of f) vs s → suc budget ≤ low + n → IsKept low types s
+        → Goes low types s (IsAnswer g f.result) (k.call function vs s)
+    pub sandbox : (low : ℕ) (types : List CType) (s : State) → suc budget ≤ low + n → IsKept low types s → Goes low types s IsReply (k.sandbox s)
+    pub keeps : CallsKeep k
 
   -- ---- values
 
   module _ (low : ℕ) (types : List CType) where
-    given_goes : (s : State) (k : ℕ) (t : CType) → IsKept low types s → slice_get types k ≡ Some t → Goes low types (shaped s) (OfType g t) (given (slice_get s.locals k) s)
+    given_goes : (s : State) (k : ℕ) (t : CType) → IsKept low types s → slice_get types k ≡ Some t → Goes low types s (OfType g t) (given (slice_get s.locals k) s)
     given_goes s k t kept e =
         let l = local_there g.structs (shaped s) types s.locals k t kept.locals e in
-        subst (λ o. Goes low types (shaped s) (OfType g t) (given o s)) (sym l.1) (l.3, grows_here (shaped s), kept)
+        subst (λ o. Goes low types s (OfType g t) (given o s)) (sym l.1) (l.3, after_here s, kept)
 
-    number_goes : (s : State) (z : ℤ) (fits : Bool) → is_word_number z ≡ fits → fits ≡ true → IsKept low types s → Goes low types (shaped s) (OfType g Int) (value_if fits None (Number z) s)
-    number_goes s z true e h kept = (e, grows_here (shaped s), kept)
+    number_goes : (s : State) (z : ℤ) (fits : Bool) → is_word_number z ≡ fits → fits ≡ true → IsKept low types s → Goes low types s (OfType g Int) (value_if fits None (Number z) s)
+    number_goes s z true e h kept = (e, after_here s, kept)
     number_goes s z false e h kept = absurd (cc)
 
-    byte_number_goes : (s : State) (z : ℤ) (fits : Bool) → fits ≡ true → has_type Char (Number z) ≡ true → IsKept low types s → Goes low types (shaped s) (OfType g Char) (value_if fits None (Number z) s)
-    byte_number_goes s z true e h kept = (h, grows_here (shaped s), kept)
+    byte_number_goes : (s : State) (z : ℤ) (fits : Bool) → fits ≡ true → has_type Char (Number z) ≡ true → IsKept low types s → Goes low types s (OfType g Char) (value_if fits None (Number z) s)
+    byte_number_goes s z true e h kept = (h, after_here s, kept)
     byte_number_goes s z false e h kept = absurd (cc)
 
-    checked_goes : (s : State) (o : Checked ℤ) → IfHolds IsNumber o → IsKept low types s → Goes low types (shaped s) (OfType g Int) (checked o s)
-    checked_goes s (Holds z) h kept = (h, grows_here (shaped s), kept)
+    checked_goes : (s : State) (o : Checked ℤ) → IfHolds IsNumber o → IsKept low types s → Goes low types s (OfType g Int) (checked o s)
+    checked_goes s (Holds z) h kept = (h, after_here s, kept)
     checked_goes s (Fails ending) h kept = tt
 
-    pub widened_goes : (b : List Shape) (o : Result Value) → Goes low types b (OfType g Char) o → Goes low types b (OfType g Int) o
-    widened_goes b (Gives v s) h = (value_widened g.structs (shaped s) v h.0, h.1, h.2)
-    widened_goes b (Ends ending s) h = tt
-    widened_goes b (Stuck site s) h = h
-    widened_goes b (Unsound site s) h = h
-    widened_goes b Short h = h
+    widened_goes : (r : State) (o : Result Value) → Goes low types r (OfType g Char) o → Goes low types r (OfType g Int) o
+    widened_goes r o h = goes_further low types r (OfType g Char) (OfType g Int) o h (λ v s typed. value_widened g.structs (shaped s) v typed)
 
-    test_goes : (s : State) (test : Bool) → IsKept low types s → Goes low types (shaped s) (OfType g Int) (Gives (number_of_test test) s)
-    test_goes s true kept = (refl, grows_here (shaped s), kept)
-    test_goes s false kept = (refl, grows_here (shaped s), kept)
+    test_goes : (s : State) (test : Bool) → IsKept low types s → Goes low types s (OfType g Int) (Gives (number_of_test test) s)
+    test_goes s true kept = (refl, after_here s, kept)
+    test_goes s false kept = (refl, after_here s, kept)
 
-    pub arithmetic_goes : (s : State) (operator : Operator) (site : Site) (v w : Value) → OfType g Int (shaped s) v → OfType g Int (shaped s) w → IsKept low types s → Goes low types (shaped s) (OfType g Int) (arithmetic_of operator site v w s)
+    pub arithmetic_goes : (s : State) (operator : Operator) (site : Site) (v w : Value) → OfType g Int v s → OfType g Int w s → IsKept low types s → Goes low types s (OfType g Int) (arithmetic_of operator site v w s)
     arithmetic_goes s operator site (Number a) (Number b) hv hw kept = checked_goes s (result_of operator site a b) (result_fits operator site a b hv hw) kept
     arithmetic_goes s operator site (Number a) Null hv hw kept = absurd hw
     arithmetic_goes s operator site (Number a) (At block byte) hv hw kept = absurd hw
     arithmetic_goes s operator site Null w hv hw kept = absurd hv
     arithmetic_goes s operator site (At block byte) w hv hw kept = absurd hv
 
-    compared_goes : (s : State) (comparison : Comparison) (v w : Value) → OfType g Int (shaped s) v → OfType g Int (shaped s) w → IsKept low types s → Goes low types (shaped s) (OfType g Int) (compared comparison v w s)
+    compared_goes : (s : State) (comparison : Comparison) (v w : Value) → OfType g Int v s → OfType g Int w s → IsKept low types s → Goes low types s (OfType g Int) (compared comparison v w s)
     compared_goes s comparison (Number a) (Number b) hv hw kept = test_goes s (holds comparison a b) kept
     compared_goes s comparison (Number a) Null hv hw kept = absurd hw
     compared_goes s comparison (Number a) (At block byte) hv hw kept = absurd hw
     compared_goes s comparison Null w hv hw kept = absurd hv
     compared_goes s comparison (At block byte) w hv hw kept = absurd hv
 
-    negated_goes : (s : State) (site : Site) (v : Value) → OfType g Int (shaped s) v → IsKept low types s → Goes low types (shaped s) (OfType g Int) (negated site v s)
+    negated_goes : (s : State) (site : Site) (v : Value) → OfType g Int v s → IsKept low types s → Goes low types s (OfType g Int) (negated site v s)
     negated_goes s site (Number a) h kept = checked_goes s (arithmetic.negation site.place a) (overflow_fits site.place (neg_ℤ a)) kept
     negated_goes s site Null h kept = absurd h
     negated_goes s site (At block byte) h kept = absurd h
 
-    complemented_goes : (s : State) (v : Value) → OfType g Int (shaped s) v → IsKept low types s → Goes low types (shaped s) (OfType g Int) (complemented v s)
-    complemented_goes s (Number a) h kept = (signed_fits (arithmetic.complement (word a)) (complement_fits (word a)), grows_here (shaped s), kept)
+    complemented_goes : (s : State) (v : Value) → OfType g Int v s → IsKept low types s → Goes low types s (OfType g Int) (complemented v s)
+    complemented_goes s (Number a) h kept = (signed_fits (arithmetic.complement (word a)) (complement_fits (word a)), after_here s, kept)
     complemented_goes s Null h kept = absurd h
     complemented_goes s (At block byte) h kept = absurd h
 
-    pub byte_goes : (s : State) (v : Value) → OfType g Int (shaped s) v → IsKept low types s → Goes low types (shaped s) (OfType g Char) (low_byte_of v s)
-    byte_goes s (Number a) h kept = let small = low_byte_small a in let test : nat_lt (word a % 256) 256 ≡ true = grind (arith, nat_tests) in (test, grows_here (shaped s), kept)
+    pub byte_goes : (s : State) (v : Value) → OfType g Int v s → IsKept low types s → Goes low types s (OfType g Char) (low_byte_of v s)
+    byte_goes s (Number a) h kept = let small = low_byte_small a in let test : nat_lt (word a % 256) 256 ≡ true = grind (arith, nat_tests) in (test, after_here s, kept)
     byte_goes s Null h kept = absurd h
     byte_goes s (At block byte) h kept = absurd h
 
-    same_goes : (s : State) (m m' : Mode) (k k' : Kind) (t t' : CType) (v w : Value) → OfType g (Pointer m k t) (shaped s) v → OfType g (Pointer m' k' t') (shaped s) w → IsKept low types s → Goes low types (shaped s) (OfType g Int) (test_given (same_place v w) s)
+    same_goes : (s : State) (m m' : Mode) (k k' : Kind) (t t' : CType) (v w : Value) → OfType g (Pointer m k t) v s → OfType g (Pointer m' k' t') w s → IsKept low types s → Goes low types s (OfType g Int) (test_given (same_place v w) s)
     same_goes s m m' k k' t t' (Number a) w hv hw kept = absurd hv
     same_goes s m m' k k' t t' Null (Number b) hv hw kept = absurd hw
-    same_goes s m m' k k' t t' Null Null hv hw kept = (refl, grows_here (shaped s), kept)
-    same_goes s m m' k k' t t' Null (At block byte) hv hw kept = (refl, grows_here (shaped s), kept)
+    same_goes s m m' k k' t t' Null Null hv hw kept = (refl, after_here s, kept)
+    same_goes s m m' k k' t t' Null (At block byte) hv hw kept = (refl, after_here s, kept)
     same_goes s m m' k k' t t' (At block byte) (Number b) hv hw kept = absurd hw
-    same_goes s m m' k k' t t' (At block byte) Null hv hw kept = (refl, grows_here (shaped s), kept)
+    same_goes s m m' k k' t t' (At block byte) Null hv hw kept = (refl, after_here s, kept)
     same_goes s m m' k k' t t' (At block byte) (At block' byte') hv hw kept = test_goes s (block == block' && byte == byte') kept
 
     -- ---- places
 
     -- at a place a cell begins
-    placed_goes : (s : State) (site : Option Site) (t : CType) (block byte : ℕ) → IsPlace g.structs (shaped s) t block byte → IsKept low types s → Goes low types (shaped s) (IsPlaced g t) (place_at site block byte s)
+    placed_goes : (s : State) (site : Option Site) (t : CType) (block byte : ℕ) → IsPlace g.structs (shaped s) t block byte → IsKept low types s → Goes low types s (IsPlaced g t) (place_at site block byte s)
     placed_goes s site t block byte place kept =
         let c = some_cell g.structs s.blocks t block byte place in
-        subst (λ o. Goes low types (shaped s) (IsPlaced g t) (place_if o site block byte s)) (sym c.1) (place, grows_here (shaped s), kept)
+        subst (λ o. Goes low types s (IsPlaced g t) (place_if o site block byte s)) (sym c.1) (place, after_here s, kept)
 
     pub direct_goes : (s : State) (t : CType) (object offset : ℕ) (is : List Initial) → slice_get g.program.objects object ≡ Some is → HasRow g.structs (shape (object_block is)) offset t → IsKept low types s
-        → Goes low types (shaped s) (IsPlaced g t) (place_at None object offset s)
+        → Goes low types s (IsPlaced g t) (place_at None object offset s)
     direct_goes s t object offset is found row kept =
         let blocks = map object_block g.program.objects in
         let start : IsPlace g.structs (shapes blocks) t object offset = record {
@@ -234,60 +364,168 @@ module _ (g : Frame) (budget n : ℕ) where
         } in
         placed_goes s None t object offset (place_grown g.structs (shapes blocks) (shaped s) kept.grown t object offset start) kept
 
-    variable_goes_if : (test : Bool) → test ≡ true → (s : State) (t : CType) (object offset : ℕ) → Goes low types (shaped s) (IsPlaced g t) (place_at None object offset s) → Goes low types (shaped s) (IsPlaced g t) (variable_if test object offset s)
+    variable_goes_if : (test : Bool) → test ≡ true → (s : State) (t : CType) (object offset : ℕ) → Goes low types s (IsPlaced g t) (place_at None object offset s) → Goes low types s (IsPlaced g t) (variable_if test object offset s)
     variable_goes_if true e s t object offset h = h
     variable_goes_if false e s t object offset h = absurd (cc)
 
     -- a place in a variable of the program
     pub variable_goes : (s : State) (t : CType) (object offset : ℕ) (is : List Initial) → slice_get g.program.objects object ≡ Some is → HasRow g.structs (shape (object_block is)) offset t → IsKept low types s
-        → Goes low types (shaped s) (IsPlaced g t) (variable_if (nat_lt object (length g.program.objects)) object offset s)
+        → Goes low types s (IsPlaced g t) (variable_if (nat_lt object (length g.program.objects)) object offset s)
     variable_goes s t object offset is found row kept =
         let within = slice_get_within g.program.objects object is found in
         let test : nat_lt object (length g.program.objects) ≡ true = grind (arith, nat_tests) in
         variable_goes_if (nat_lt object (length g.program.objects)) test s t object offset (direct_goes s t object offset is found row kept)
 
-    pub pointed_goes : (s : State) (m : Mode) (k : Kind) (t : CType) (site : Site) (v : Value) → OfType g (Pointer m k t) (shaped s) v → IsKept low types s → Goes low types (shaped s) (IsPlaced g t) (element 0 site v s)
-    pointed_goes s m k t site (Number z) h kept = absurd h
-    pointed_goes s m k t site Null h kept = tt
-    pointed_goes s m k t site (At block byte) h kept =
+    -- and it is that place
+    variable_same : (test : Bool) (object offset : ℕ) (s : State) → WhereGiven (λ (at : ℕ × ℕ) (u : State). at ≡ (object, offset)) (variable_if test object offset s)
+    variable_same false object offset s = tt
+    variable_same true object offset s = by (cell_at s.blocks object offset)
+      where
+        by : (o : Option Cell) → WhereGiven (λ (at : ℕ × ℕ) (u : State). at ≡ (object, offset)) (place_if o None object offset s)
+        by None = tt
+        by (Some c) = refl
+
+    -- the first element of an array
+    first_goes : (s : State) (t : CType) (object n : ℕ) (is : List Initial) → slice_get g.program.objects object ≡ Some is → 0 < n → AreRows g.structs (shape (object_block is)) t n → IsKept low types s
+        → Goes low types s (λ (at : ℕ × ℕ) (u : State). at ≡ (object, 0)) (variable_if (nat_lt object (length g.program.objects)) object 0 s)
+    first_goes s t object n is found some rows kept =
+        let at_start : 0 * size_of g.structs t ≡ 0 = omega arith in
+        let row = subst (λ byte. HasRow g.structs (shape (object_block is)) byte t) at_start (rows 0 some) in
+        let o = variable_if (nat_lt object (length g.program.objects)) object 0 s in
+        sure_further (λ at u. (IsPlaced g t at u × IsAfter s u × IsKept low types u) × (at ≡ (object, 0))) (λ (at : ℕ × ℕ) (u : State). (at ≡ (object, 0)) × IsAfter s u × IsKept low types u) o
+        (sure_both (λ at u. IsPlaced g t at u × IsAfter s u × IsKept low types u) (λ (at : ℕ × ℕ) (u : State). at ≡ (object, 0)) o (variable_goes s t object 0 is found row kept) (variable_same (nat_lt object (length g.program.objects)) object 0 s))
+        (λ at u x. (x.1, x.0.1, x.0.2))
+
+    -- the block of a variable
+    object_there : (s : State) (object : ℕ) (is : List Initial) → slice_get g.program.objects object ≡ Some is → IsKept low types s → slice_get (shaped s) object ≡ Some (shape (object_block is))
+    object_there s object is found kept =
+        let blocks = map object_block g.program.objects in
+        ap (λ x. slice_get x object) kept.grown.1 ∙ still_there (shapes blocks) kept.grown.0 object (shape (object_block is)) (mapped_there shape blocks object (object_block is) (mapped_there object_block g.program.objects object is found))
+
+    pub pointed_goes : (s : State) (m : Mode) (t : CType) (site : Site) (v : Value) → OfType g (Pointer m kinds.One t) v s → IsKept low types s → Goes low types s (IsPlaced g t) (element 0 site v s)
+    pointed_goes s m t site (Number z) h kept = absurd h
+    pointed_goes s m t site Null h kept = tt
+    pointed_goes s m t site (At block byte) h kept =
         let same : byte ≡ byte + 0 = omega arith in
         placed_goes s (Some site) t block (byte + 0) (subst (λ x. IsPlace g.structs (shaped s) t block x) same h) kept
 
-    pub member_goes : (s : State) (m : Mode) (k : Kind) (number slot offset : ℕ) (t : CType) (site : Site) (v : Value) → slice_get (typed.slots g.structs (Struct number)) slot ≡ Some (record { type = t; offset = offset }) → IsScalar t → OfType g (Pointer m k (Struct number)) (shaped s) v → IsKept low types s
-        → Goes low types (shaped s) (IsPlaced g t) (element offset site v s)
-    member_goes s m k number slot offset t site (Number z) found scalar h kept = absurd h
-    member_goes s m k number slot offset t site Null found scalar h kept = tt
-    member_goes s m k number slot offset t site (At block byte) found scalar h kept =
+    pub member_goes : (s : State) (m : Mode) (number slot offset : ℕ) (t : CType) (site : Site) (v : Value) → slice_get (slots g.structs (Struct number)) slot ≡ Some (record { type = t; offset = offset }) → IsScalar t → OfType g (Pointer m kinds.One (Struct number)) v s → IsKept low types s
+        → Goes low types s (IsPlaced g t) (element offset site v s)
+    member_goes s m number slot offset t site (Number z) found scalar h kept = absurd h
+    member_goes s m number slot offset t site Null found scalar h kept = tt
+    member_goes s m number slot offset t site (At block byte) found scalar h kept =
         placed_goes s (Some site) t block (byte + offset) (member_place g.structs (shaped s) number block byte slot offset t scalar h found) kept
 
     -- a value of a type passes the audit by the bounds of its type
-    audit_goes : (s : State) (t : CType) (b : Option PointerBounds) (v : Value) → HasBounds g.structs t b → OfType g t (shaped s) v → IsKept low types s → Goes low types (shaped s) (OfType g t) (audit true b v s)
+    audit_goes : (s : State) (t : CType) (b : Option PointerBounds) (v : Value) → HasBounds g.structs t b → OfType g t v s → IsKept low types s → Goes low types s (OfType g t) (audit true b v s)
     audit_goes s t b v bounds h kept =
         let gives = ap (λ b. audit true b v s) bounds.1 ∙ sound g.structs bounds.0 s t v h in
-        subst (λ o. Goes low types (shaped s) (OfType g t) o) (sym gives) (h, grows_here (shaped s), kept)
+        subst (λ o. Goes low types s (OfType g t) o) (sym gives) (h, after_here s, kept)
 
-    pub audited_goes : (s : State) (t : CType) (b : Option PointerBounds) (o : Result Value) → HasBounds g.structs t b → Goes low types (shaped s) (OfType g t) o → Goes low types (shaped s) (OfType g t) (and_then o (audit true b))
-    audited_goes s t b o bounds h = goes_on low types (shaped s) (OfType g t) (OfType g t) o (audit true b) h (λ v u _ typed kept. audit_goes u t b v bounds typed kept)
+    pub audited_goes : (s : State) (t : CType) (b : Option PointerBounds) (o : Result Value) → HasBounds g.structs t b → Goes low types s (OfType g t) o → Goes low types s (OfType g t) (and_then o (audit true b))
+    audited_goes s t b o bounds h = goes_on low types s (OfType g t) (OfType g t) o (audit true b) h (λ v u _ typed kept. audit_goes u t b v bounds typed kept)
 
-    -- a pointer as an access to a single object gets it
-    pub ended_goes : (s : State) (m : Mode) (k : Kind) (t : CType) (b : Option PointerBounds) (o : Result Value) → Goes low types (shaped s) (OfType g (Pointer m k t)) o
-        → Goes low types (shaped s) (IsTarget g (Pointer m k t)) (and_then (and_then o (λ v u. Gives (with_ends b v u.locals) u)) (λ q u. Gives (at_first q) u))
-    ended_goes s m k t b o h =
-        goes_on low types (shaped s) (IsPointed g (Pointer m k t)) (IsTarget g (Pointer m k t)) (and_then o (λ v u. Gives (with_ends b v u.locals) u)) _
-        (goes_on low types (shaped s) (OfType g (Pointer m k t)) (IsPointed g (Pointer m k t)) o _ h (λ v u _ typed kept. (same_pointer (OfType g (Pointer m k t) (shaped u)) b v u typed, grows_here (shaped u), kept)))
-        (λ q u _ typed kept. (typed, grows_here (shaped u), kept))
+    -- where its bounds are elements, it passes by being valid with them
+    bounded_goes : (s : State) (m : Mode) (t : CType) (b : Option PointerBounds) (v : Value) → AreOf g.structs t b → OfType g (Pointer m kinds.Array t) v s → IsBounded g (Pointer m kinds.Array t) b v s → IsKept low types s
+        → Goes low types s (λ w u. OfType g (Pointer m kinds.Array t) w u × IsBounded g (Pointer m kinds.Array t) b w u) (audit true b v s)
+    bounded_goes s m t None v size typed valid kept = ((typed, valid), after_here s, kept)
+    bounded_goes s m t (Some p) v size typed valid kept =
+        let gives : audit true (Some p) v s ≡ Gives v s = ap (λ test. sound_if test p.site v s) (passes_at g.structs m t p s size v valid) in
+        subst (λ o. Goes low types s (λ w u. OfType g (Pointer m kinds.Array t) w u × IsBounded g (Pointer m kinds.Array t) (Some p) w u) o) (sym gives) ((typed, valid), after_here s, kept)
 
-    pub load_goes : (s : State) (t : CType) (site : Option Site) (at : ℕ × ℕ) → IsScalar t → IsPlaced g t (shaped s) at → IsKept low types s → Goes low types (shaped s) (OfType g t) (load_at t site at s)
+    pub load_goes : (s : State) (t : CType) (site : Option Site) (at : ℕ × ℕ) → IsScalar t → IsPlaced g t at s → IsKept low types s → Goes low types s (OfType g t) (load_at t site at s)
     load_goes s t site at scalar placed kept =
         let c = scalar_cell g.structs s.blocks t at.0 at.1 scalar placed in
         let test : same_type t c.cell.type ≡ true = ap (same_type t) c.typed ∙ same_refl t in
-        subst (λ o. Goes low types (shaped s) (OfType g t) (value_in t site o s)) (sym (at_cell s.blocks at.0 at.1 t c))
-        (subst (λ yes. Goes low types (shaped s) (OfType g t) (value_if yes site c.cell.value s)) (sym test) (cell_typed g.structs (shaped s) s.blocks at.0 at.1 t c kept.cells, grows_here (shaped s), kept))
+        subst (λ o. Goes low types s (OfType g t) (value_in t site o s)) (sym (at_cell s.blocks at.0 at.1 t c))
+        (subst (λ yes. Goes low types s (OfType g t) (value_if yes site c.cell.value s)) (sym test) (cell_typed g.structs (shaped s) s.blocks at.0 at.1 t c kept.cells, after_here s, kept))
+
+  -- ---- elements
+
+  module _ (low : ℕ) (types : List CType) (m : Mode) (t : CType) (p : PointerBounds) (size : p.size ≡ size_of g.structs t) where
+    abbrev row : CType
+    row = Pointer m kinds.Array t
+
+    -- a pointer with its bounds, whose ends are those of this state
+    pub record IsAimed (q : Pointed) (s : State) : Type 0 where
+      pub typed : OfType g row q.value s
+      pub valid : IsBounded g row (Some p) q.value s
+      pub ends : q.ends ≡ (with_ends (Some p) q.value s.locals).ends
+
+    pub aimed_here : (v : Value) (s : State) → OfType g row v s → IsBounded g row (Some p) v s → IsAimed (with_ends (Some p) v s.locals) s
+    aimed_here (Number z) s typed valid = absurd typed
+    aimed_here Null s typed valid = record { typed = typed; valid = valid; ends = refl }
+    aimed_here (At block byte) s typed valid = record { typed = typed; valid = valid; ends = refl }
+
+    pub aimed_later : (q : Pointed) (s u : State) → IsAfter s u → IsAimed q s → IsAimed q u
+    aimed_later q s u after h = record {
+      typed = value_grown g.structs (shaped s) (shaped u) after.0 row q.value h.typed;
+      valid = grown_valid g.structs (Some p.bounds) (pointing m t q.value) s u after.0 after.1 h.valid;
+      ends = h.ends ∙ ap (λ locals. (with_ends (Some p) q.value locals).ends) (sym after.1);
+    }
+
+    below_goes : (s : State) (offset : ℕ) (site : Site) (z : ℤ) (block byte : ℕ) (e : EndsOf) (test : Bool) → lies_below e (pos byte +ℤ distance directions.Forward e.size z) ≡ test → ends_at p s.locals block byte ≡ Some e
+        → IsValid g.structs (Some p.bounds) (pointing m t (At block byte)) s → (Q : ℕ × ℕ → State → Type 0) → ((block place : ℕ) → IsPlace g.structs (shaped s) t block place → Goes low types s Q (place_at (Some site) block (place + offset) s))
+        → Goes low types s Q (checked_if test C2 site (cell_behind (Some site) block (pos byte +ℤ distance directions.Forward e.size z) offset s) s)
+    below_goes s offset site z block byte e false below are valid Q more = tt
+    below_goes s offset site z block byte e true below are valid Q more =
+        let w = within g.structs m t p s size block byte valid e are z below in
+        subst (λ x. Goes low types s Q (cell_behind (Some site) block x offset s)) (sym w.1) (more block w.0 w.2)
+
+    -- an access to an element: where its checks hold, a value stands there
+    pub within_goes : (s : State) (offset : ℕ) (site : Site) (z : ℤ) (q : Pointed) → IsAimed q s → (Q : ℕ × ℕ → State → Type 0)
+        → ((block place : ℕ) → IsPlace g.structs (shaped s) t block place → Goes low types s Q (place_at (Some site) block (place + offset) s)) → Goes low types s Q (element_within offset site z q.value q.ends s)
+    within_goes s offset site z q aimed Q more = by q.value q.ends aimed.typed aimed.valid aimed.ends
+      where
+        by : (v : Value) (ends : Option EndsOf) → OfType g row v s → IsBounded g row (Some p) v s → ends ≡ (with_ends (Some p) v s.locals).ends → Goes low types s Q (element_within offset site z v ends s)
+        by (Number n) ends typed valid same = absurd typed
+        by Null ends typed valid same = tt
+        by (At block byte) ends typed valid same =
+            let there = ends_there g.structs m t p s size block byte valid in
+            subst (λ o. Goes low types s Q (element_within offset site z (At block byte) o s)) (sym (same ∙ there.1))
+            (below_goes s offset site z block byte there.0 (lies_below there.0 (pos byte +ℤ distance directions.Forward there.0.size z)) refl there.1 valid Q more)
+
+    pub element_goes : (s : State) (site : Site) (z : ℤ) (q : Pointed) → IsAimed q s → IsKept low types s → Goes low types s (IsPlaced g t) (element_within 0 site z q.value q.ends s)
+    element_goes s site z q aimed kept =
+        within_goes s 0 site z q aimed (IsPlaced g t)
+        (λ block place h. let same : place ≡ place + 0 = omega arith in placed_goes low types s (Some site) t block (place + 0) (subst (λ x. IsPlace g.structs (shaped s) t block x) same h) kept)
+
+    -- a sum: where its checks hold, it is a pointer in the same block
+    up_to_goes : (s : State) (direction : Direction) (site : Site) (z : ℤ) (block byte : ℕ) (e : EndsOf) (test : Bool) → lies_up_to e (pos byte +ℤ distance direction e.size z) ≡ test → ends_at p s.locals block byte ≡ Some e
+        → IsValid g.structs (Some p.bounds) (pointing m t (At block byte)) s → IsKept low types s
+        → Goes low types s (λ w u. IsSum g.structs t direction z (At block byte) w u) (checked_if test C2 site (pointer_at (Some site) block (pos byte +ℤ distance direction e.size z) s) s)
+    up_to_goes s direction site z block byte e false below are valid kept = tt
+    up_to_goes s direction site z block byte e true below are valid kept =
+        let w = up_to g.structs m t p s size block byte valid e are (pos byte +ℤ distance direction e.size z) below in
+        let bytes = size_there g.structs m t p s size block byte valid e are in
+        let step : pos w.0 ≡ pos byte +ℤ (toward direction z *ℤ pos (size_of g.structs t)) = sym w.1 ∙ ap (λ d. pos byte +ℤ d) (ap (λ n. distance direction n z) bytes ∙ sym (as_many direction z (size_of g.structs t))) in
+        subst (λ x. Goes low types s (λ w u. IsSum g.structs t direction z (At block byte) w u) (pointer_at (Some site) block x s)) (sym w.1)
+        (subst (λ yes. Goes low types s (λ w u. IsSum g.structs t direction z (At block byte) w u) (pointer_if yes (Some site) block w.0 s)) (sym w.2)
+        (record { block = block; byte = byte; place = w.0; before = refl; behind = refl; step = step; reach = w.2 }, after_here s, kept))
+
+    pub summed_goes : (s : State) (direction : Direction) (site : Site) (z : ℤ) (q : Pointed) → IsAimed q s → IsKept low types s → Goes low types s (λ w u. IsSum g.structs t direction z q.value w u) (summed direction site z q.value q.ends s)
+    summed_goes s direction site z q aimed kept = by q.value q.ends aimed.typed aimed.valid aimed.ends
+      where
+        by : (v : Value) (ends : Option EndsOf) → OfType g row v s → IsBounded g row (Some p) v s → ends ≡ (with_ends (Some p) v s.locals).ends → Goes low types s (λ w u. IsSum g.structs t direction z v w u) (summed direction site z v ends s)
+        by (Number n) ends typed valid same = absurd typed
+        by Null ends typed valid same = tt
+        by (At block byte) ends typed valid same =
+            let there = ends_there g.structs m t p s size block byte valid in
+            subst (λ o. Goes low types s (λ w u. IsSum g.structs t direction z (At block byte) w u) (summed direction site z (At block byte) o s)) (sym (same ∙ there.1))
+            (up_to_goes s direction site z block byte there.0 (lies_up_to there.0 (pos byte +ℤ distance direction there.0.size z)) refl there.1 valid kept)
+
+  -- a member of an element
+  pub element_member_goes : (low : ℕ) (types : List CType) (m : Mode) (number slot offset : ℕ) (t : CType) (p : PointerBounds) (size : p.size ≡ size_of g.structs (Struct number))
+      → slice_get (slots g.structs (Struct number)) slot ≡ Some (record { type = t; offset = offset }) → IsScalar t → (s : State) (site : Site) (z : ℤ) (q : Pointed) → IsAimed low types m (Struct number) p size q s → IsKept low types s
+      → Goes low types s (IsPlaced g t) (element_within offset site z q.value q.ends s)
+  element_member_goes low types m number slot offset t p size found scalar s site z q aimed kept =
+      within_goes low types m (Struct number) p size s offset site z q aimed (IsPlaced g t)
+      (λ block place h. placed_goes low types s (Some site) t block (place + offset) (member_place g.structs (shaped s) number block place slot offset t scalar h found) kept)
 
   -- ---- calls
 
   -- numbers have words
-  words_there : (b : List Shape) (count : ℕ) (vs : List Value) → OfTypes g (replicate count Int) b vs → (words : List ℕ) × (words_of vs ≡ Some words)
+  words_there : (b : List Shape) (count : ℕ) (vs : List Value) → HaveValues g.structs b (replicate count Int) vs → (words : List ℕ) × (words_of vs ≡ Some words)
   words_there b zero [] h = ([], refl)
   words_there b zero (v ∷ vs) h = absurd h
   words_there b (suc count) [] h = absurd h
@@ -296,26 +534,26 @@ module _ (g : Frame) (budget n : ℕ) where
   words_there b (suc count) (At block byte ∷ vs) h = absurd h.0
 
   module _ (low : ℕ) (types : List CType) (s : State) where
-    reply_goes : (result : Option CType) (site : Site) (reply : ℕ) → IsNumberResult result → IsWord reply → IsKept low types s → Goes low types (shaped s) (IsAnswer g result) (reply_as result site reply s)
-    reply_goes None site reply crosses small kept = (tt, grows_here (shaped s), kept)
-    reply_goes (Some Int) site reply crosses small kept = (signed_fits reply small, grows_here (shaped s), kept)
+    reply_goes : (result : Option CType) (site : Site) (reply : ℕ) → IsNumberResult result → IsWord reply → IsKept low types s → Goes low types s (IsAnswer g result) (reply_as result site reply s)
+    reply_goes None site reply crosses small kept = (tt, after_here s, kept)
+    reply_goes (Some Int) site reply crosses small kept = (signed_fits reply small, after_here s, kept)
     reply_goes (Some Char) site reply crosses small kept = by_size (nat_lt reply 256) refl
       where
-        by_size : (test : Bool) → nat_lt reply 256 ≡ test → Goes low types (shaped s) (IsAnswer g (Some Char)) (reply_as (Some Char) site reply s)
+        by_size : (test : Bool) → nat_lt reply 256 ≡ test → Goes low types s (IsAnswer g (Some Char)) (reply_as (Some Char) site reply s)
         by_size true test =
             let below : reply < 2 ^ 31 = grind (arith, nat_tests) in
-            rw test (ap (λ z. has_type Char (Number z)) (to_z_pos w32 reply below) ∙ test, grows_here (shaped s), kept)
+            rw test (ap (λ z. has_type Char (Number z)) (to_z_pos w32 reply below) ∙ test, after_here s, kept)
         by_size false test = rw test tt
     reply_goes (Some (Struct number)) site reply crosses small kept = absurd (cc)
     reply_goes (Some (Pointer mode kind target)) site reply crosses small kept = absurd (cc)
 
-    given_back : (t : CType) (v : Option Value) → IsAnswer g (Some t) (shaped s) v → IsKept low types s → Goes low types (shaped s) (OfType g t) (result_given v s)
+    given_back : (t : CType) (v : Option Value) → IsAnswer g (Some t) v s → IsKept low types s → Goes low types s (OfType g t) (result_given v s)
     given_back t None h kept = absurd h
-    given_back t (Some v) h kept = (h, grows_here (shaped s), kept)
+    given_back t (Some v) h kept = (h, after_here s, kept)
 
-    nothing_back : (result : Option CType) (loop : Bool) (v : Option Value) → IsAnswer g None (shaped s) v → IsKept low types s → Goes low types (shaped s) (IsFlow g result loop) (no_result v s)
-    nothing_back result loop None h kept = (tt, grows_here (shaped s), kept)
-    nothing_back result loop (Some v) h kept = absurd h
+    nothing_back : (v : Option Value) → IsAnswer g None v s → IsKept low types s → Goes low types s IsNext (no_result v s)
+    nothing_back None h kept = (refl, after_here s, kept)
+    nothing_back (Some v) h kept = absurd h
 
   module _ (sandbox trusted : ℕ) (k : Knot) (is : IsKnot k) where
     abbrev setting : Setting
@@ -323,131 +561,463 @@ module _ (g : Frame) (budget n : ℕ) where
 
     module _ (types : List CType) where
       -- back in the function that called, whose locals were left
-      back_kept : (low : ℕ) (s t : State) → Grows (shaped s) (shaped t) → IsKept low types s → IsKept low types t → IsKept low types (record t { locals = s.locals; depth = s.depth })
+      back_kept : (low : ℕ) (s t : State) → IsAfter s t → IsKept low types s → IsKept low types t → IsKept low types (record t { locals = s.locals; depth = s.depth })
       back_kept low s t grown kept after =
-          record { grown = after.grown; cells = after.cells; locals = locals_grown g.structs (shaped s) (shaped t) grown types s.locals kept.locals; world = after.world; enough = after.enough }
+          record { grown = after.grown; cells = after.cells; locals = locals_grown g.structs (shaped s) (shaped t) grown.0 types s.locals kept.locals; world = after.world; enough = after.enough }
 
-      passed_goes : (low : ℕ) (s : State) (i : Import) (site : Site) → IsNumberResult i.result → suc budget ≤ low + n → IsKept low types s → Goes low types (shaped s) (IsAnswer g i.result) (passed k i site s)
+      passed_goes : (low : ℕ) (s : State) (i : Import) (site : Site) → IsNumberResult i.result → suc budget ≤ low + n → IsKept low types s → Goes low types s (IsAnswer g i.result) (passed k i site s)
       passed_goes low s i site crosses enough kept =
           let inside : State = record s { depth = s.depth + 1 } in
-          goes_on low types (shaped s) IsReply (IsAnswer g i.result) (and_then (k.sandbox inside) (back s)) (reply_as i.result site)
-          (goes_on low types (shaped s) IsReply IsReply (k.sandbox inside) (back s)
+          goes_on low types s IsReply (IsAnswer g i.result) (and_then (k.sandbox inside) (back s)) (reply_as i.result site)
+          (goes_on low types s IsReply IsReply (k.sandbox inside) (back s)
           (is.sandbox low types inside enough (record { grown = kept.grown; cells = kept.cells; locals = kept.locals; world = kept.world; enough = kept.enough }))
-          (λ reply t grown small t_kept. (small, grows_here (shaped t), back_kept low s t grown kept t_kept)))
+          (λ reply t grown small t_kept. (small, (grows_here (shaped t), sym grown.1), back_kept low s t grown kept t_kept)))
           (λ reply t grown small t_kept. reply_goes low types t i.result site reply crosses small t_kept)
 
-      cross_goes : (low : ℕ) (s : State) (import : ℕ) (i : Import) (site : Site) (o : Option (List ℕ)) (words : List ℕ) → o ≡ Some words → IsNumberResult i.result → IsKept low types s → Goes low types (shaped s) (IsAnswer g i.result) (cross setting k import i site o s)
+      cross_goes : (low : ℕ) (s : State) (import : ℕ) (i : Import) (site : Site) (o : Option (List ℕ)) (words : List ℕ) → o ≡ Some words → IsNumberResult i.result → IsKept low types s → Goes low types s (IsAnswer g i.result) (cross setting k import i site o s)
       cross_goes low s import i site None words e crosses kept = absurd (cc)
       cross_goes low s import i site (Some sent) words e crosses kept =
-          lowered low types (shaped s) (IsAnswer g i.result) (cross setting k import i site (Some sent) s) kept.enough
+          lowered low types s (IsAnswer g i.result) (cross setting k import i site (Some sent) s) kept.enough
           (asked_goes low (suc low) types Anything (IsAnswer g i.result) (spend_tick budget s.world) s _ (tick_answers budget low s.world kept.world) (let few = kept.enough in omega arith) kept
           (λ _ t _ _ t_kept. asked_goes (suc low) (suc low) types Anything (IsAnswer g i.result) (enter_call t.depth t.world) t _ (enter_answers budget (suc low) t.depth t.world t_kept.world) t_kept.enough t_kept
           (λ _ u _ _ u_kept. asked_goes (suc low) (suc low) types Anything (IsAnswer g i.result) (touch (Passed import sent) u.world) u _ (touch_answers budget (suc low) (Passed import sent) u.world u_kept.world) u_kept.enough u_kept
           (λ _ v _ _ v_kept. passed_goes (suc low) v i site crosses (let few = kept.enough in omega arith) v_kept))))
 
-      tainted_goes : (low : ℕ) (s : State) (import : ℕ) (i : Import) (site : Site) (vs : List Value) → slice_get g.program.imports import ≡ Some i → IsNumberResult i.result → OfTypes g (replicate i.parameters Int) (shaped s) vs → IsKept low types s
-          → Goes low types (shaped s) (IsAnswer g i.result) (call_tainted setting k import (slice_get g.program.imports import) site vs s)
+      tainted_goes : (low : ℕ) (s : State) (import : ℕ) (i : Import) (site : Site) (vs : List Value) → slice_get g.program.imports import ≡ Some i → IsNumberResult i.result → OfTypes g (replicate i.parameters Int) vs s → IsKept low types s
+          → Goes low types s (IsAnswer g i.result) (call_tainted setting k import (slice_get g.program.imports import) site vs s)
       tainted_goes low s import i site vs found crosses h kept =
           let words = words_there (shaped s) i.parameters vs h in
           let many : length vs ≡ i.parameters = values_count g.structs (shaped s) (replicate i.parameters Int) vs h ∙ length-replicate i.parameters Int in
           let test : (i.parameters == length vs) ≡ true = grind (arith, nat_tests) in
-          subst (λ o. Goes low types (shaped s) (IsAnswer g i.result) (call_tainted setting k import o site vs s)) (sym found)
-          (subst (λ yes. Goes low types (shaped s) (IsAnswer g i.result) (cross_if yes setting k import i site vs s)) (sym test) (cross_goes low s import i site (words_of vs) words.0 words.1 crosses kept))
+          subst (λ o. Goes low types s (IsAnswer g i.result) (call_tainted setting k import o site vs s)) (sym found)
+          (subst (λ yes. Goes low types s (IsAnswer g i.result) (cross_if yes setting k import i site vs s)) (sym test) (cross_goes low s import i site (words_of vs) words.0 words.1 crosses kept))
 
-      entered_goes : (low : ℕ) (s : State) (function : ℕ) (f : core.Function) (vs : List Value) (test : Bool) → test ≡ true → slice_get g.program.functions function ≡ Some f → OfTypes g (parameters_of f) (shaped s) vs → IsKept low types s
-          → Goes low types (shaped s) (IsAnswer g f.result) (enter_if test setting k function vs s)
+      entered_goes : (low : ℕ) (s : State) (function : ℕ) (f : core.Function) (vs : List Value) (test : Bool) → test ≡ true → slice_get g.program.functions function ≡ Some f → OfTypes g (parameters_of f) vs s → IsKept low types s
+          → Goes low types s (IsAnswer g f.result) (enter_if test setting k function vs s)
       entered_goes low s function f vs false e found h kept = absurd (cc)
       entered_goes low s function f vs true e found h kept =
           let enough : suc budget ≤ suc low + n = let few = kept.enough in omega arith in
-          lowered low types (shaped s) (IsAnswer g f.result) (enter_if true setting k function vs s) kept.enough
+          lowered low types s (IsAnswer g f.result) (enter_if true setting k function vs s) kept.enough
           (asked_goes low (suc low) types Anything (IsAnswer g f.result) (spend_tick budget s.world) s _ (tick_answers budget low s.world kept.world) (let few = kept.enough in omega arith) kept
           (λ _ t more _ t_kept. asked_goes (suc low) (suc low) types Anything (IsAnswer g f.result) (enter_call t.depth t.world) t _ (enter_answers budget (suc low) t.depth t.world t_kept.world) t_kept.enough t_kept
-          (λ _ u more' _ u_kept. is.call (suc low) types function f vs u found (values_grown g.structs (shaped s) (shaped u) (grows_on (shaped s) (shaped t) (shaped u) more more') (parameters_of f) vs h) enough u_kept)))
+          (λ _ u more' _ u_kept. is.call (suc low) types function f vs u found (values_grown g.structs (shaped s) (shaped u) (grows_on (shaped s) (shaped t) (shaped u) more.0 more'.0) (parameters_of f) vs h) enough u_kept)))
 
-      trusted_goes : (low : ℕ) (s : State) (function : ℕ) (f : core.Function) (vs : List Value) → slice_get g.program.functions function ≡ Some f → OfTypes g (parameters_of f) (shaped s) vs → IsKept low types s
-          → Goes low types (shaped s) (IsAnswer g f.result) (call_trusted setting k function vs s)
+      trusted_goes : (low : ℕ) (s : State) (function : ℕ) (f : core.Function) (vs : List Value) → slice_get g.program.functions function ≡ Some f → OfTypes g (parameters_of f) vs s → IsKept low types s
+          → Goes low types s (IsAnswer g f.result) (call_trusted setting k function vs s)
       trusted_goes low s function f vs found h kept =
           let test = ap (λ (o : Option core.Function). takes o vs) found ∙ values_fit g.structs (shaped s) (parameters_of f) vs h in
           entered_goes low s function f vs (takes (slice_get g.program.functions function) vs) test found h kept
 
-      called_goes : (low : ℕ) (s : State) {callee : Callee} {ts : List CType} {result : Option CType} → IsCallee g callee ts result → (vs : List Value) → OfTypes g ts (shaped s) vs → IsKept low types s → Goes low types (shaped s) (IsAnswer g result) (called setting k callee vs s)
+      called_goes : (low : ℕ) (s : State) {callee : Callee} {ts : List CType} {result : Option CType} → IsCallee g callee ts result → (vs : List Value) → OfTypes g ts vs s → IsKept low types s → Goes low types s (IsAnswer g result) (called setting k callee vs s)
       called_goes low s (typed.trusted {n = function} {f = f} found) vs h kept = trusted_goes low s function f vs found h kept
       called_goes low s (typed.tainted {n = import} {i = i} {site = site} found crosses) vs h kept = tainted_goes low s import i site vs found crosses h kept
 
     -- ---- expressions
 
-    chosen_goes : {A : Type 0} (low : ℕ) (types : List CType) (b : List Shape) (P : List Shape → A → Type 0) (test : Bool) (first second : Result A) → Goes low types b P first → Goes low types b P second → Goes low types b P (choose test first second)
-    chosen_goes low types b P true first second h h' = h
-    chosen_goes low types b P false first second h h' = h'
+    chosen_goes : {A : Type 0} (low : ℕ) (types : List CType) (r : State) (P : A → State → Type 0) (test : Bool) (first second : Result A) → Goes low types r P first → Goes low types r P second → Goes low types r P (choose test first second)
+    chosen_goes low types r P true first second h h' = h
+    chosen_goes low types r P false first second h h' = h'
 
-    truth_goes : (low : ℕ) (types : List CType) (b : List Shape) (t : CType) (o : Result Value) → Goes low types b (OfType g t) o → Goes low types b (OfType g Int) (and_then o (λ v u. Gives (number_of_test (truth v)) u))
-    truth_goes low types b t o h = goes_on low types b (OfType g t) (OfType g Int) o _ h (λ v u _ typed kept. test_goes low types u (truth v) kept)
+    truth_goes : (low : ℕ) (types : List CType) (r : State) (t : CType) (o : Result Value) → Goes low types r (OfType g t) o → Goes low types r (OfType g Int) (and_then o (λ v u. Gives (number_of_test (truth v)) u))
+    truth_goes low types r t o h = goes_on low types r (OfType g t) (OfType g Int) o _ h (λ v u _ typed kept. test_goes low types u (truth v) kept)
 
-    module _ (low : ℕ) (types : List CType) where
+    -- no bounds at a node
+    none_bounded : (t : CType) (v : Value) (s : State) → IsBounded g t None v s
+    none_bounded Int v s = tt
+    none_bounded Char v s = tt
+    none_bounded (Struct number) v s = tt
+    none_bounded (Pointer m kinds.One t) v s = tt
+    none_bounded (Pointer m kinds.Array t) v s = tt
+    none_bounded (Pointer m kinds.Nt t) v s = tt
+
+    -- and those of a type are none where it has bounds
+    of_type_bounded : (t : CType) (site : Site) (v : Value) (s : State) → IsBounded g t (bounds_at g.structs t site) v s
+    of_type_bounded Int site v s = tt
+    of_type_bounded Char site v s = tt
+    of_type_bounded (Struct number) site v s = tt
+    of_type_bounded (Pointer m kinds.One t) site v s = tt
+    of_type_bounded (Pointer modes.Checked kinds.Array t) site v s = tt
+    of_type_bounded (Pointer modes.Tainted kinds.Array t) site v s = tt
+    of_type_bounded (Pointer modes.Raw kinds.Array t) site v s = tt
+    of_type_bounded (Pointer m kinds.Nt t) site v s = tt
+
+    plain_bounded : (t : CType) (b : Option PointerBounds) → HasBounds g.structs t b → (v : Value) (s : State) → IsBounded g t b v s
+    plain_bounded t b h v s = subst (λ b. IsBounded g t b v s) (sym h.1) (of_type_bounded t h.0 v s)
+
+    module _ (low : ℕ) (types : List CType) (here : Scope) (flow : IsFlow here.flow) (reaches : Extends here.locals types) where
+      -- what is known is so, and the state is kept
+      abbrev pub IsHere : State → Type 0
+      IsHere s = IsKnown g.structs here s × IsKept low types s
+
+      here_later : (s u : State) → IsAfter s u → IsHere s → IsKept low types u → IsHere u
+      here_later s u after h kept = (fits_after g.structs (length here.locals) here.flow s u flow after h.0, kept)
+
       -- a value where the first operand's was worked out before
-      behind : {B : Type 0} (t t' : CType) (Q : List Shape → B → Type 0) (s : State) (v : Value) (o : Result Value) (next : Value → State → Result B) → OfType g t (shaped s) v → Goes low types (shaped s) (OfType g t') o
-          → ((w : Value) (x : State) → OfType g t (shaped x) v → OfType g t' (shaped x) w → IsKept low types x → Goes low types (shaped x) Q (next w x)) → Goes low types (shaped s) Q (and_then o next)
+      behind : {B : Type 0} (t t' : CType) (Q : B → State → Type 0) (s : State) (v : Value) (o : Result Value) (next : Value → State → Result B) → OfType g t v s → Goes low types s (OfType g t') o
+          → ((w : Value) (x : State) → OfType g t v x → OfType g t' w x → IsKept low types x → Goes low types x Q (next w x)) → Goes low types s Q (and_then o next)
       behind t t' Q s v o next typed h more =
-          goes_on low types (shaped s) (OfType g t') Q o next h (λ w x grown typed' x_kept. more w x (value_grown g.structs (shaped s) (shaped x) grown t v typed) typed' x_kept)
+          goes_on low types s (OfType g t') Q o next h (λ w x grown typed' x_kept. more w x (value_grown g.structs (shaped s) (shaped x) grown.0 t v typed) typed' x_kept)
+
+      -- of a value only its type
+      typed_alone : (e : core.Expression) (t : CType) (s : State) → Goes low types s (OfNode g e t) (value true setting k e s) → Goes low types s (OfType g t) (value true setting k e s)
+      typed_alone e t s h = goes_further low types s (OfNode g e t) (OfType g t) (value true setting k e s) h (λ v u h. h.0)
+
+      -- a value whose node has no bounds that are asked for
+      with_none : (e : core.Expression) (t : CType) (s : State) → ((v : Value) (u : State) → IsBounded g t (bounds_of e) v u) → Goes low types s (OfType g t) (value true setting k e s) → Goes low types s (OfNode g e t) (value true setting k e s)
+      with_none e t s none h = goes_further low types s (OfType g t) (OfNode g e t) (value true setting k e s) h (λ v u typed. (typed, none v u))
+
+      -- the number of an index
+      index_goes : (s : State) (site : Option Site) (v : Value) → OfType g Int v s → IsKept low types s → Goes low types s (λ (z : ℤ) (u : State). v ≡ Number z) (number_given site v s)
+      index_goes s site (Number z) typed kept = (refl, after_here s, kept)
+      index_goes s site Null typed kept = absurd typed
+      index_goes s site (At block byte) typed kept = absurd typed
+
+      -- a local that is read is what is read
+      local_read : (i : ℕ) (b : Option PointerBounds) (s : State) → WhereGiven (λ (v : Value) (u : State). (l : Local) → slice_get u.locals i ≡ Some l → l.value ≡ v) (value true setting k (core.Local i b) s)
+      local_read i b s = over (slice_get s.locals i) refl
+        where
+          over : (o : Option Local) → slice_get s.locals i ≡ o → WhereGiven (λ (v : Value) (u : State). (l : Local) → slice_get u.locals i ≡ Some l → l.value ≡ v) (and_then (given o s) (audit true b))
+          over None e = tt
+          over (Some l) e = audited_so (λ (v : Value) (u : State). (l : Local) → slice_get u.locals i ≡ Some l → l.value ≡ v) true b l.value s (λ other f. same other l (sym f ∙ e))
+            where
+              same : (a b : Local) → Some a ≡ Some b → a.value ≡ b.value
+              same a b q = cc
+
+      -- with where it stands among the states
+      with_after : {A : Type 0} (low : ℕ) (types : List CType) (r : State) (P : A → State → Type 0) (o : Result A) → Goes low types r P o → Goes low types r (λ v s. P v s × IsAfter r s) o
+      with_after low types r P o h = sure_further (λ v s. P v s × IsAfter r s × IsKept low types s) (λ v s. (P v s × IsAfter r s) × IsAfter r s × IsKept low types s) o h (λ v s k. ((k.0, k.1), k.1, k.2))
+
+      -- with what is known
+      known_too : {A : Type 0} (s : State) (P : A → State → Type 0) (o : Result A) → IsHere s → Goes low types s P o → Goes low types s (λ v u. P v u × IsKnown g.structs here u) o
+      known_too s P o h goes =
+          sure_further (λ v u. P v u × IsAfter s u × IsKept low types u) (λ v u. (P v u × IsKnown g.structs here u) × IsAfter s u × IsKept low types u) o goes
+          (λ v u k. ((k.0, fits_after g.structs (length here.locals) here.flow s u flow k.1 h.0), k.1, k.2))
+
+      -- where an expression is a local of a type, that local holds what it gives
+      abbrev IsLocalOf : core.Expression → Mode → CType → Value → State → Type 0
+      IsLocalOf e m t v u = (a : ℕ) (c : Option PointerBounds) → e ≡ core.Local a c → slice_get here.locals a ≡ Some (Pointer m kinds.Array t) → slice_get u.locals a ≡ Some (pointing m t v)
+
+      local_is : (l : Local) (m : Mode) (t : CType) (v : Value) → l.type ≡ Pointer m kinds.Array t → l.value ≡ v → l ≡ pointing m t v
+      local_is l m t v type value = ap (λ c. record { type = c; value = l.value }) type ∙ ap (λ v. pointing m t v) value
+
+      local_held : (e : core.Expression) (m : Mode) (t : CType) (s : State) → IsHere s → WhereGiven (λ v u. IsAfter s u → IsLocalOf e m t v u) (value true setting k e s)
+      local_held (core.Local a b) m t s h =
+          so_further (λ (v : Value) (u : State). (l : Local) → slice_get u.locals a ≡ Some l → l.value ≡ v) (λ v u. IsAfter s u → IsLocalOf (core.Local a b) m t v u) (value true setting k (core.Local a b) s) (local_read a b s)
+          (λ v u read after a' c same type.
+          let is : a ≡ a' = cc in
+          let l = local_there g.structs (shaped s) types s.locals a' (Pointer m kinds.Array t) h.1.locals (reaches a' (Pointer m kinds.Array t) type) in
+          let there : slice_get u.locals a' ≡ Some l.0 = ap (λ ls. slice_get ls a') after.1 ∙ l.1 in
+          there ∙ ap Some (local_is l.0 m t v l.2 (read l.0 (subst (λ a. slice_get u.locals a ≡ Some l.0) (sym is) there))))
+      local_held e m t s h = so_always (λ v u. IsAfter s u → IsLocalOf e m t v u) (value true setting k e s) (λ v u after a c same type. absurd (cc))
+
+      same_value : (b : Option PointerBounds) (v : Value) (u : State) → (with_ends b v u.locals).value ≡ v
+      same_value b v u = same_pointer (λ w. w ≡ v) b v u refl
+
+      -- a pointer with its bounds, as an access and a sum take it
+      aimed_goes : (e : core.Expression) (m : Mode) (t : CType) (p : PointerBounds) (s : State) (elements : HasElements g.structs e t p) → IsHere s → Goes low types s (OfNode g e (Pointer m kinds.Array t)) (value true setting k e s)
+          → Goes low types s (λ v u. IsAimed low types m t p elements.size (with_ends (bounds_of e) v u.locals) u × IsLocalOf e m t v u) (value true setting k e s)
+      aimed_goes e m t p s elements h goes =
+          sure_further (λ v u. (OfNode g e (Pointer m kinds.Array t) v u × IsAfter s u × IsKept low types u) × (IsAfter s u → IsLocalOf e m t v u)) (λ v u. (IsAimed low types m t p elements.size (with_ends (bounds_of e) v u.locals) u × IsLocalOf e m t v u) × IsAfter s u × IsKept low types u)
+          (value true setting k e s) (sure_both (λ v u. OfNode g e (Pointer m kinds.Array t) v u × IsAfter s u × IsKept low types u) (λ v u. IsAfter s u → IsLocalOf e m t v u) (value true setting k e s) goes (local_held e m t s h))
+          (λ v u x. ((subst (λ b. IsAimed low types m t p elements.size (with_ends b v u.locals) u) (sym elements.bounds) (aimed_here low types m t p elements.size v u x.0.0.0 (subst (λ b. IsBounded g (Pointer m kinds.Array t) b v u) elements.bounds x.0.0.1)), x.1 x.0.1), x.0.1, x.0.2))
+
+      -- the number behind it
+      number_goes_on : (i : core.Expression) (s : State) (site : Option Site) → Goes low types s (OfType g Int) (value true setting k i s) → Goes low types s (λ (z : ℤ) (u : State). Unit {0}) (and_then (value true setting k i s) (number_given site))
+      number_goes_on i s site h = goes_on low types s (OfType g Int) (λ (z : ℤ) (u : State). Unit {0}) (value true setting k i s) (number_given site) h (λ v u _ typed kept. goes_further low types u (λ (z : ℤ) (u : State). v ≡ Number z) (λ (z : ℤ) (u : State). Unit {0}) (number_given site v u) (index_goes u site v typed kept) (λ z w is. tt))
+
+      constant_from : (ls : List Local) (var : Option ℕ) (plus : ℤ) (v : Value) (z c : ℤ) → IsOfTerm ls (Some (record { var = var; plus = plus })) v → v ≡ Number z → constant_of (Some (record { var = var; plus = plus })) ≡ Some c → z ≡ c
+      constant_from ls (Some x) plus v z c h is e = absurd (cc)
+      constant_from ls None plus v z c h is e =
+          let same : plus ≡ c = cc in
+          let number : v ≡ Number (pos 0 +ℤ plus) = h (record { var = None; plus = plus }) refl in
+          let q : z ≡ pos 0 +ℤ plus = number_same z (pos 0 +ℤ plus) (sym is ∙ number) in
+          omega (arith, ints, q, same)
+        where
+          number_same : (a b : ℤ) → Number a ≡ Number b → a ≡ b
+          number_same a b q = cc
+
+      constant_number : (ls : List Local) (o : Option Term) (v : Value) (z c : ℤ) → IsOfTerm ls o v → v ≡ Number z → constant_of o ≡ Some c → z ≡ c
+      constant_number ls None v z c h is e = absurd (cc)
+      constant_number ls (Some t) v z c h is e = constant_from ls t.var t.plus v z c h is e
+
+      constant_goes : (i : core.Expression) (s : State) (site : Option Site) → IsHere s → Goes low types s (OfType g Int) (value true setting k i s)
+          → Goes low types s (λ (z : ℤ) (u : State). (c : ℤ) → constant here.locals i ≡ Some c → z ≡ c) (and_then (value true setting k i s) (number_given site))
+      constant_goes i s site h goes =
+          goes_on low types s (λ v u. OfType g Int v u × IsOfTerm s.locals (term here.locals i) v) (λ (z : ℤ) (u : State). (c : ℤ) → constant here.locals i ≡ Some c → z ≡ c) (value true setting k i s) (number_given site)
+          (sure_further (λ v u. (OfType g Int v u × IsAfter s u × IsKept low types u) × IsOfTerm s.locals (term here.locals i) v) (λ v u. (OfType g Int v u × IsOfTerm s.locals (term here.locals i) v) × IsAfter s u × IsKept low types u) (value true setting k i s)
+          (sure_both (λ v u. OfType g Int v u × IsAfter s u × IsKept low types u) (λ v u. IsOfTerm s.locals (term here.locals i) v) (value true setting k i s) goes
+          (term_so true setting k is.keeps here.locals s.locals (types_alike g.structs (length here.locals) here.flow s (λ t alike. (h.0 t alike).holds)) (has_locals g.structs (shaped s) here.locals types s.locals reaches h.1.locals) i s refl))
+          (λ v u x. ((x.0.0, x.1), x.0.1, x.0.2)))
+          (λ v u _ x u_kept. goes_further low types u (λ (z : ℤ) (w : State). v ≡ Number z) (λ (z : ℤ) (w : State). (c : ℤ) → constant here.locals i ≡ Some c → z ≡ c) (number_given site v u) (index_goes u site v x.0 u_kept)
+          (λ z w same c e. constant_number s.locals (term here.locals i) v z c x.1 same e))
+
+      -- nothing else
+      abbrev NoMore : Value → State → Type 0
+      NoMore v u = Unit {0}
+
+      -- what a sum comes to, where something else is so of its pointer
+      pub record IsSummed (e i : core.Expression) (m : Mode) (t : CType) (direction : Direction) (p : PointerBounds) (X : Value → State → Type 0) (x : Value) (y : State) : Type 0 where
+        pub before : Value
+        pub number : ℤ
+        pub sum : IsSum g.structs t direction number before x y
+        pub valid : IsBounded g (Pointer m kinds.Array t) (Some p) before y
+        pub local : (a : ℕ) (c : Option PointerBounds) → e ≡ core.Local a c → slice_get here.locals a ≡ Some (Pointer m kinds.Array t) → slice_get y.locals a ≡ Some (pointing m t before)
+        pub constant : (c : ℤ) → constant here.locals i ≡ Some c → number ≡ c
+        pub other : X before y
+
+      pub sum_goes : (e i : core.Expression) (m : Mode) (t : CType) (direction : Direction) (p : PointerBounds) (site : Site) (elements : HasElements g.structs e t p) (X : Value → State → Type 0) (s : State) → IsHere s
+          → ((v : Value) (u w : State) → IsAfter u w → X v u → X v w) → Goes low types s (λ v u. OfNode g e (Pointer m kinds.Array t) v u × X v u) (value true setting k e s)
+          → ((u : State) → IsHere u → Goes low types u (OfType g Int) (value true setting k i u))
+          → Goes low types s (IsSummed e i m t direction p X)
+          (and_then (value true setting k e s) (λ v u. and_then (and_then (value true setting k i u) (number_given (Some site))) (λ z w. summed direction site z v (with_ends (bounds_of e) v u.locals).ends w)))
+      sum_goes e i m t direction p site elements X s h stable first second =
+          goes_on low types s (λ v u. (IsAimed low types m t p elements.size (with_ends (bounds_of e) v u.locals) u × IsLocalOf e m t v u) × X v u) (IsSummed e i m t direction p X) (value true setting k e s) _
+          (sure_further (λ v u. ((IsAimed low types m t p elements.size (with_ends (bounds_of e) v u.locals) u × IsLocalOf e m t v u) × IsAfter s u × IsKept low types u) × X v u)
+          (λ v u. ((IsAimed low types m t p elements.size (with_ends (bounds_of e) v u.locals) u × IsLocalOf e m t v u) × X v u) × IsAfter s u × IsKept low types u) (value true setting k e s)
+          (sure_both (λ v u. (IsAimed low types m t p elements.size (with_ends (bounds_of e) v u.locals) u × IsLocalOf e m t v u) × IsAfter s u × IsKept low types u) X (value true setting k e s)
+          (aimed_goes e m t p s elements h (goes_further low types s (λ v u. OfNode g e (Pointer m kinds.Array t) v u × X v u) (OfNode g e (Pointer m kinds.Array t)) (value true setting k e s) first (λ v u x. x.0)))
+          (sure_given X (value true setting k e s) (sure_further (λ v u. (OfNode g e (Pointer m kinds.Array t) v u × X v u) × IsAfter s u × IsKept low types u) X (value true setting k e s) first (λ v u x. x.0.1))))
+          (λ v u x. ((x.0.0, x.1), x.0.1, x.0.2)))
+          (λ v u after aimed u_kept. goes_on low types u (λ (z : ℤ) (w : State). (c : ℤ) → constant here.locals i ≡ Some c → z ≡ c) (IsSummed e i m t direction p X) (and_then (value true setting k i u) (number_given (Some site))) _
+          (constant_goes i u (Some site) (here_later s u after h u_kept) (second u (here_later s u after h u_kept)))
+          (λ z w later is w_kept.
+          let q = with_ends (bounds_of e) v u.locals in
+          let there = aimed_later low types m t p elements.size q u w later aimed.0.0 in
+          goes_further low types w (λ x y. IsSum g.structs t direction z q.value x y × IsAfter w y) (IsSummed e i m t direction p X) (summed direction site z v q.ends w)
+          (subst (λ v. Goes low types w (λ x y. IsSum g.structs t direction z q.value x y × IsAfter w y) (summed direction site z v q.ends w)) (same_value (bounds_of e) v u)
+          (with_after low types w (λ x y. IsSum g.structs t direction z q.value x y) (summed direction site z q.value q.ends w) (summed_goes low types m t p elements.size w direction site z q there w_kept)))
+          (λ x y sum. record {
+            before = q.value;
+            number = z;
+            sum = sum.0;
+            valid = (aimed_later low types m t p elements.size q w y sum.1 there).valid;
+            local = λ a c is_local type. subst (λ ls. slice_get ls a ≡ Some (pointing m t q.value)) (sym (sum.1.1 ∙ later.1)) (subst (λ v. slice_get u.locals a ≡ Some (pointing m t v)) (sym (same_value (bounds_of e) v u)) (aimed.0.1 a c is_local type));
+            constant = is;
+            other = subst (λ v. X v y) (sym (same_value (bounds_of e) v u)) (stable v w y sum.1 (stable v u w later aimed.1));
+          })))
+
+      sum_typed : {e i : core.Expression} {m : Mode} {t : CType} {p : PointerBounds} {X : Value → State → Type 0} (direction : Direction) (x : Value) (y : State) → IsSummed e i m t direction p X x y → OfType g (Pointer m kinds.Array t) x y
+      sum_typed {m = m} {t = t} direction x y h = subst (λ x. OfType g (Pointer m kinds.Array t) x y) (sym h.sum.behind) tt
+
+      sum_bounded : (e i : core.Expression) (m : Mode) (t : CType) (direction : Direction) (p : PointerBounds) (b : Option PointerBounds) → AreSumBounds here.locals (Pointer m kinds.Array t) e direction i p b → (X : Value → State → Type 0) (x : Value) (y : State) → IsSummed e i m t direction p X x y
+          → IsBounded g (Pointer m kinds.Array t) b x y
+      sum_bounded e i m t direction p None are X x y h = tt
+      sum_bounded e i m t direction p (Some q) are X x y h = sum_valid g.structs m t direction h.number h.before x y h.sum here.locals e i p (Some q) are h.local h.constant h.valid q refl
+
+      -- a pointer as one with bounds
+      row_value : (m : Mode) (d : Kind) (t : CType) (v : Value) (u : State) → OfType g (Pointer m d t) v u → OfType g (Pointer m kinds.Array t) v u
+      row_value m d t (Number z) u h = absurd h
+      row_value m d t Null u h = tt
+      row_value m d t (At block byte) u h = tt
+
+      as_row : (m : Mode) (d : Kind) (t : CType) (e : core.Expression) (s : State) → Goes low types s (OfNode g e (Pointer m d t)) (value true setting k e s)
+          → ((v : Value) (u : State) → OfType g (Pointer m d t) v u → IsBounded g (Pointer m kinds.Array t) (bounds_of e) v u) → Goes low types s (OfNode g e (Pointer m kinds.Array t)) (value true setting k e s)
+      as_row m d t e s h bounded = goes_further low types s (OfNode g e (Pointer m d t)) (OfNode g e (Pointer m kinds.Array t)) (value true setting k e s) h (λ v u x. (row_value m d t v u x.0, bounded v u x.0))
+
+      row_bounded : (m : Mode) (t : CType) (b : Option PointerBounds) → HasBounds g.structs (Pointer m kinds.One t) b → (v : Value) (u : State) → OfType g (Pointer m kinds.One t) v u → IsBounded g (Pointer m kinds.Array t) b v u
+      row_bounded modes.Checked t b h v u typed = subst (λ b. IsBounded g (Pointer modes.Checked kinds.Array t) b v u) (sym h.1) (one_valid g.structs modes.Checked t u v typed)
+      row_bounded modes.Tainted t b h v u typed = subst (λ b. IsBounded g (Pointer modes.Tainted kinds.Array t) b v u) (sym h.1) tt
+      row_bounded modes.Raw t b h v u typed = subst (λ b. IsBounded g (Pointer modes.Raw kinds.Array t) b v u) (sym h.1) tt
 
       mutual
-        pub value_goes : {e : core.Expression} {t : CType} → HasType g types e t → (s : State) → IsKept low types s → Goes low types (shaped s) (OfType g t) (value true setting k e s)
-        value_goes (typed.word {z = z} fits) s kept = number_goes low types s z (is_word_number z) refl fits kept
-        value_goes (typed.byte {z = z} fits) s kept = byte_number_goes low types s z (is_word_number z) (value_widened g.structs (shaped s) (Number z) fits) fits kept
-        value_goes typed.null s kept = (tt, grows_here (shaped s), kept)
-        value_goes (typed.local {k = i} {t = t} {b = b} e bounds) s kept = audited_goes low types s t b (given (slice_get s.locals i) s) bounds (given_goes low types s i t kept e)
-        value_goes (typed.widened {e = e} h) s kept = widened_goes low types (shaped s) (value true setting k e s) (value_goes h s kept)
-        value_goes (typed.load {t = t} {p = p} {b = b} scalar h bounds) s kept =
-            audited_goes low types s t b (and_then (place true setting k p s) (load_at t (site_of p))) bounds
-            (goes_on low types (shaped s) (IsPlaced g t) (OfType g t) (place true setting k p s) (load_at t (site_of p)) (place_goes h s kept) (λ at u _ placed u_kept. load_goes low types u t (site_of p) at scalar placed u_kept))
-        value_goes (typed.address_of {mode = m} {kind = d} {t = t} {p = p} {b = b} h bounds) s kept =
-            audited_goes low types s (Pointer m d t) b (and_then (place true setting k p s) pointer_to) bounds
-            (goes_on low types (shaped s) (IsPlaced g t) (OfType g (Pointer m d t)) (place true setting k p s) pointer_to (place_goes h s kept) (λ at u _ placed u_kept. (placed, grows_here (shaped u), u_kept)))
-        value_goes (typed.negate {e = e} {site = site} h) s kept =
-            goes_on low types (shaped s) (OfType g Int) (OfType g Int) (value true setting k e s) (negated site) (value_goes h s kept) (λ v u _ typed u_kept. negated_goes low types u site v typed u_kept)
-        value_goes (typed.complement {e = e} h) s kept =
-            goes_on low types (shaped s) (OfType g Int) (OfType g Int) (value true setting k e s) complemented (value_goes h s kept) (λ v u _ typed u_kept. complemented_goes low types u v typed u_kept)
-        value_goes (typed.inverse {e = e} {t = t} h) s kept =
-            goes_on low types (shaped s) (OfType g t) (OfType g Int) (value true setting k e s) _ (value_goes h s kept) (λ v u _ typed u_kept. test_goes low types u (not (truth v)) u_kept)
-        value_goes (typed.arithmetic {operator = operator} {a = a} {b = b} {site = site} ha hb) s kept =
-            goes_on low types (shaped s) (OfType g Int) (OfType g Int) (value true setting k a s) _ (value_goes ha s kept)
-            (λ v u _ typed u_kept. behind Int Int (OfType g Int) u v (value true setting k b u) (arithmetic_of operator site v) typed (value_goes hb u u_kept) (λ w x typed typed' x_kept. arithmetic_goes low types x operator site v w typed typed' x_kept))
-        value_goes (typed.compare {comparison = comparison} {a = a} {b = b} ha hb) s kept =
-            goes_on low types (shaped s) (OfType g Int) (OfType g Int) (value true setting k a s) _ (value_goes ha s kept)
-            (λ v u _ typed u_kept. behind Int Int (OfType g Int) u v (value true setting k b u) (compared comparison v) typed (value_goes hb u u_kept) (λ w x typed typed' x_kept. compared_goes low types x comparison v w typed typed' x_kept))
-        value_goes (typed.same {mode = m} {mode' = m'} {kind = d} {kind' = d'} {t = t} {t' = t'} {a = a} {b = b} ha hb) s kept =
-            goes_on low types (shaped s) (OfType g (Pointer m d t)) (OfType g Int) (value true setting k a s) _ (value_goes ha s kept)
-            (λ v u _ typed u_kept. behind (Pointer m d t) (Pointer m' d' t') (OfType g Int) u v (value true setting k b u) _ typed (value_goes hb u u_kept) (λ w x typed typed' x_kept. same_goes low types x m m' d d' t t' v w typed typed' x_kept))
-        value_goes (typed.both {a = a} {b = b} {t = t} {t' = t'} ha hb) s kept =
-            goes_on low types (shaped s) (OfType g t) (OfType g Int) (value true setting k a s) _ (value_goes ha s kept)
-            (λ v u _ typed u_kept. chosen_goes low types (shaped u) (OfType g Int) (truth v) _ _ (truth_goes low types (shaped u) t' (value true setting k b u) (value_goes hb u u_kept)) (test_goes low types u false u_kept))
-        value_goes (typed.either {a = a} {b = b} {t = t} {t' = t'} ha hb) s kept =
-            goes_on low types (shaped s) (OfType g t) (OfType g Int) (value true setting k a s) _ (value_goes ha s kept)
-            (λ v u _ typed u_kept. chosen_goes low types (shaped u) (OfType g Int) (truth v) _ _ (test_goes low types u true u_kept) (truth_goes low types (shaped u) t' (value true setting k b u) (value_goes hb u u_kept)))
-        value_goes (typed.low_byte {e = e} h) s kept =
-            goes_on low types (shaped s) (OfType g Int) (OfType g Char) (value true setting k e s) low_byte_of (value_goes h s kept) (λ v u _ typed u_kept. byte_goes low types u v typed u_kept)
-        value_goes (typed.call {callee = callee} {ts = ts} {arguments = arguments} {t = t} {b = b} known h bounds) s kept =
-            goes_on low types (shaped s) (OfTypes g ts) (OfType g t) (values true setting k arguments s) _ (values_go h s kept)
+        pub value_goes : {e : core.Expression} {t : CType} → HasType g types here e t → (s : State) → IsHere s → Goes low types s (OfNode g e t) (value true setting k e s)
+        value_goes (typed.word {z = z} fits) s h = with_none (core.Number z) Int s (λ v u. tt) (number_goes low types s z (is_word_number z) refl fits h.1)
+        value_goes (typed.byte {z = z} fits) s h =
+            with_none (core.Number z) Char s (λ v u. tt) (byte_number_goes low types s z (is_word_number z) (value_widened g.structs (shaped s) (Number z) fits) fits h.1)
+        value_goes (typed.null {mode = m} {kind = d} {t = t}) s h = with_none core.Null (Pointer m d t) s (none_bounded (Pointer m d t)) (tt, after_here s, h.1)
+        value_goes (typed.local {k = i} {t = t} {b = b} e bounds) s h =
+            with_none (core.Local i b) t s (plain_bounded t b bounds) (audited_goes low types s t b (given (slice_get s.locals i) s) bounds (given_goes low types s i t h.1 e))
+        value_goes (typed.bounded {k = i} {mode = m} {t = t} {p = p} e size limited force) s h =
+            let l = local_there g.structs (shaped s) types s.locals i (Pointer m kinds.Array t) h.1.locals e in
+            subst (λ o. Goes low types s (OfNode g (core.Local i (Some p)) (Pointer m kinds.Array t)) (and_then (given o s) (audit true (Some p)))) (sym l.1)
+            (bounded_goes low types s m t (Some p) l.0.value size l.3 (subst (λ c. IsValid g.structs (Some p.bounds) (record { type = c; value = l.0.value }) s) l.2 (force s h.0 l.0 l.1)) h.1)
+        value_goes (typed.widened {e = e} h) s here' = with_none e Int s (λ v u. tt) (widened_goes low types s (value true setting k e s) (typed_alone e Char s (value_goes h s here')))
+        value_goes (typed.single {e = e} {mode = m} {t = t} {p = p} h elements leads) s here' =
+            goes_further low types s (λ v u. OfNode g e (Pointer m kinds.Array t) v u × IsKnown g.structs here u) (OfNode g e (Pointer m kinds.One t)) (value true setting k e s)
+            (known_too s (OfNode g e (Pointer m kinds.Array t)) (value true setting k e s) here' (value_goes h s here'))
+            (λ v u x. (single_typed g.structs m t u elements.some v x.0.0 (leads u x.1 (pointing m t v) (subst (λ b. IsBounded g (Pointer m kinds.Array t) b v u) elements.bounds x.0.1)) p.site, tt))
+        value_goes (typed.row {e = e} {mode = m} {t = t} h bounds) s here' = as_row m kinds.One t e s (value_goes h s here') (row_bounded m t (bounds_of e) bounds)
+        value_goes (typed.ended_row {e = e} {mode = m} {t = t} h none) s here' = as_row m kinds.Nt t e s (value_goes h s here') (λ v u typed. subst (λ b. IsBounded g (Pointer m kinds.Array t) b v u) (sym none) tt)
+        value_goes (typed.load {t = t} {p = p} {b = b} scalar h bounds) s here' =
+            with_none (core.Load t p b) t s (plain_bounded t b bounds)
+            (audited_goes low types s t b (and_then (place true setting k p s) (load_at t (site_of p))) bounds
+            (goes_on low types s (IsPlaced g t) (OfType g t) (place true setting k p s) (load_at t (site_of p)) (place_goes h s here') (λ at u _ placed u_kept. load_goes low types u t (site_of p) at scalar placed u_kept)))
+        value_goes (typed.address_of {mode = m} {t = t} {p = p} {b = b} h bounds) s here' =
+            with_none (core.AddressOf p b) (Pointer m kinds.One t) s (λ v u. tt)
+            (audited_goes low types s (Pointer m kinds.One t) b (and_then (place true setting k p s) pointer_to) bounds
+            (goes_on low types s (IsPlaced g t) (OfType g (Pointer m kinds.One t)) (place true setting k p s) pointer_to (place_goes h s here') (λ at u _ placed u_kept. (placed, after_here u, u_kept))))
+        value_goes (typed.array {object = object} {n = n} {t = t} {p = p} {cells = is} found some few rows bounds size) s here' =
+            goes_on low types s (λ (v : Value) (u : State). v ≡ At object 0) (OfNode g (core.AddressOf (core.Direct object 0) (Some p)) (Pointer modes.Checked kinds.Array t)) (and_then (variable_at setting object 0 s) pointer_to) (audit true (Some p))
+            (goes_on low types s (λ (at : ℕ × ℕ) (u : State). at ≡ (object, 0)) (λ (v : Value) (u : State). v ≡ At object 0) (variable_at setting object 0 s) pointer_to (first_goes low types s t object n is found some rows here'.1)
+            (λ at u _ same u_kept. (ap (λ (at : ℕ × ℕ). At at.0 at.1) same, after_here u, u_kept)))
+            (λ v u _ same u_kept. subst (λ v. Goes low types u (OfNode g (core.AddressOf (core.Direct object 0) (Some p)) (Pointer modes.Checked kinds.Array t)) (audit true (Some p) v u)) (sym same)
+            (bounded_goes low types u modes.Checked t (Some p) (At object 0) size tt
+            (array_valid g.structs modes.Checked t n object (shape (object_block is)) u (object_there low types u object is found u_kept) some rows p bounds) u_kept))
+        value_goes (typed.sum {e = e} {i = i} {mode = m} {t = t} {direction = direction} {site = site} {p = p} {b = b} h elements hi bounds) s here' =
+            goes_on low types s (IsSummed e i m t direction p NoMore) (OfNode g (core.Sum e direction i site b) (Pointer m kinds.Array t)) _ (audit true b)
+            (sum_goes e i m t direction p site elements NoMore s here' (λ v u w after x. tt)
+            (goes_further low types s (OfNode g e (Pointer m kinds.Array t)) (λ v u. OfNode g e (Pointer m kinds.Array t) v u × NoMore v u) (value true setting k e s) (value_goes h s here') (λ v u x. (x, tt)))
+            (λ u stands. typed_alone i Int u (value_goes hi u stands)))
+            (λ x y _ summed y_kept. bounded_goes low types y m t b x (sum_size g.structs t here.locals (Pointer m kinds.Array t) e direction i p b bounds elements.size) (sum_typed direction x y summed)
+            (sum_bounded e i m t direction p b bounds NoMore x y summed) y_kept)
+        value_goes (typed.negate {e = e} {site = site} h) s here' =
+            with_none (core.Negate e site) Int s (λ v u. tt) (goes_on low types s (OfType g Int) (OfType g Int) (value true setting k e s) (negated site) (typed_alone e Int s (value_goes h s here')) (λ v u _ typed u_kept. negated_goes low types u site v typed u_kept))
+        value_goes (typed.complement {e = e} h) s here' =
+            with_none (core.Complement e) Int s (λ v u. tt) (goes_on low types s (OfType g Int) (OfType g Int) (value true setting k e s) complemented (typed_alone e Int s (value_goes h s here')) (λ v u _ typed u_kept. complemented_goes low types u v typed u_kept))
+        value_goes (typed.inverse {e = e} {t = t} h) s here' =
+            with_none (core.Not e) Int s (λ v u. tt) (goes_on low types s (OfType g t) (OfType g Int) (value true setting k e s) _ (typed_alone e t s (value_goes h s here')) (λ v u _ typed u_kept. test_goes low types u (not (truth v)) u_kept))
+        value_goes (typed.arithmetic {operator = operator} {a = a} {b = b} {site = site} ha hb) s here' =
+            with_none (core.Arithmetic operator a b site) Int s (λ v u. tt)
+            (goes_on low types s (OfType g Int) (OfType g Int) (value true setting k a s) _ (typed_alone a Int s (value_goes ha s here'))
+            (λ v u after typed u_kept. behind Int Int (OfType g Int) u v (value true setting k b u) (arithmetic_of operator site v) typed (typed_alone b Int u (value_goes hb u (here_later s u after here' u_kept)))
+            (λ w x typed typed' x_kept. arithmetic_goes low types x operator site v w typed typed' x_kept)))
+        value_goes (typed.compare {comparison = comparison} {a = a} {b = b} ha hb) s here' =
+            with_none (core.Compare comparison a b) Int s (λ v u. tt)
+            (goes_on low types s (OfType g Int) (OfType g Int) (value true setting k a s) _ (typed_alone a Int s (value_goes ha s here'))
+            (λ v u after typed u_kept. behind Int Int (OfType g Int) u v (value true setting k b u) (compared comparison v) typed (typed_alone b Int u (value_goes hb u (here_later s u after here' u_kept)))
+            (λ w x typed typed' x_kept. compared_goes low types x comparison v w typed typed' x_kept)))
+        value_goes (typed.same {mode = m} {mode' = m'} {kind = d} {kind' = d'} {t = t} {t' = t'} {a = a} {b = b} ha hb) s here' =
+            with_none (core.Same a b) Int s (λ v u. tt)
+            (goes_on low types s (OfType g (Pointer m d t)) (OfType g Int) (value true setting k a s) _ (typed_alone a (Pointer m d t) s (value_goes ha s here'))
+            (λ v u after typed u_kept. behind (Pointer m d t) (Pointer m' d' t') (OfType g Int) u v (value true setting k b u) _ typed (typed_alone b (Pointer m' d' t') u (value_goes hb u (here_later s u after here' u_kept)))
+            (λ w x typed typed' x_kept. same_goes low types x m m' d d' t t' v w typed typed' x_kept)))
+        value_goes (typed.both {a = a} {b = b} {t = t} {t' = t'} ha hb) s here' =
+            with_none (core.AndAlso a b) Int s (λ v u. tt)
+            (goes_on low types s (OfType g t) (OfType g Int) (value true setting k a s) _ (typed_alone a t s (value_goes ha s here'))
+            (λ v u after typed u_kept. chosen_goes low types u (OfType g Int) (truth v) _ _ (truth_goes low types u t' (value true setting k b u) (typed_alone b t' u (value_goes hb u (here_later s u after here' u_kept)))) (test_goes low types u false u_kept)))
+        value_goes (typed.either {a = a} {b = b} {t = t} {t' = t'} ha hb) s here' =
+            with_none (core.OrElse a b) Int s (λ v u. tt)
+            (goes_on low types s (OfType g t) (OfType g Int) (value true setting k a s) _ (typed_alone a t s (value_goes ha s here'))
+            (λ v u after typed u_kept. chosen_goes low types u (OfType g Int) (truth v) _ _ (test_goes low types u true u_kept) (truth_goes low types u t' (value true setting k b u) (typed_alone b t' u (value_goes hb u (here_later s u after here' u_kept))))))
+        value_goes (typed.low_byte {e = e} h) s here' =
+            with_none (core.LowByte e) Char s (λ v u. tt) (goes_on low types s (OfType g Int) (OfType g Char) (value true setting k e s) low_byte_of (typed_alone e Int s (value_goes h s here')) (λ v u _ typed u_kept. byte_goes low types u v typed u_kept))
+        value_goes (typed.call {callee = callee} {ts = ts} {arguments = arguments} {t = t} {b = b} known h bounds) s here' =
+            with_none (core.Call callee arguments b) t s (plain_bounded t b bounds)
+            (goes_on low types s (OfTypes g ts) (OfType g t) (values true setting k arguments s) _ (values_go h s here')
             (λ vs u _ typed u_kept. audited_goes low types u t b (and_then (called setting k callee vs u) result_given) bounds
-            (goes_on low types (shaped u) (IsAnswer g (Some t)) (OfType g t) (called setting k callee vs u) result_given (called_goes types low u known vs typed u_kept) (λ v w _ answered w_kept. given_back low types w t v answered w_kept)))
-        value_goes typed.next_input s kept =
-            asked_goes low low types IsNumber (OfType g Int) (next_input s.world) s _ (next_answers budget low s.world kept.world) kept.enough kept (λ z u _ fits u_kept. (fits, grows_here (shaped u), u_kept))
+            (goes_on low types u (IsAnswer g (Some t)) (OfType g t) (called setting k callee vs u) result_given (called_goes types low u known vs typed u_kept) (λ v w _ answered w_kept. given_back low types w t v answered w_kept))))
+        value_goes typed.next_input s here' =
+            with_none core.NextInput Int s (λ v u. tt)
+            (asked_goes low low types IsNumber (OfType g Int) (next_input s.world) s _ (next_answers budget low s.world here'.1.world) here'.1.enough here'.1 (λ z u _ fits u_kept. (fits, after_here u, u_kept)))
 
-        values_go : {arguments : core.Arguments} {ts : List CType} → HaveTypes g types arguments ts → (s : State) → IsKept low types s → Goes low types (shaped s) (OfTypes g ts) (values true setting k arguments s)
-        values_go typed.done s kept = (tt, grows_here (shaped s), kept)
-        values_go (typed.more {e = e} {rest = rest} {t = t} {ts = ts} h hs) s kept =
-            goes_on low types (shaped s) (OfType g t) (OfTypes g (t ∷ ts)) (value true setting k e s) _ (value_goes h s kept)
-            (λ v u _ typed u_kept. goes_on low types (shaped u) (OfTypes g ts) (OfTypes g (t ∷ ts)) (values true setting k rest u) _ (values_go hs u u_kept)
-            (λ vs w grown typed' w_kept. ((value_grown g.structs (shaped u) (shaped w) grown t v typed, typed'), grows_here (shaped w), w_kept)))
+        pub values_go : {arguments : core.Arguments} {ts : List CType} → HaveTypes g types here arguments ts → (s : State) → IsHere s → Goes low types s (OfTypes g ts) (values true setting k arguments s)
+        values_go typed.done s h = (tt, after_here s, h.1)
+        values_go (typed.more {e = e} {rest = rest} {t = t} {ts = ts} h hs) s here' =
+            goes_on low types s (OfType g t) (OfTypes g (t ∷ ts)) (value true setting k e s) _ (typed_alone e t s (value_goes h s here'))
+            (λ v u after typed u_kept. goes_on low types u (OfTypes g ts) (OfTypes g (t ∷ ts)) (values true setting k rest u) _ (values_go hs u (here_later s u after here' u_kept))
+            (λ vs w grown typed' w_kept. ((value_grown g.structs (shaped u) (shaped w) grown.0 t v typed, typed'), after_here w, w_kept)))
 
-        pub place_goes : {p : core.Place} {t : CType} → HasPlace g types p t → (s : State) → IsKept low types s → Goes low types (shaped s) (IsPlaced g t) (place true setting k p s)
-        place_goes (typed.direct {object = object} {offset = offset} {t = t} {cells = is} found row) s kept = variable_goes low types s t object offset is found row kept
-        place_goes (typed.pointed {mode = m} {kind = d} {e = e} {t = t} {site = site} h) s kept =
-            goes_on low types (shaped s) (OfType g (Pointer m d t)) (IsPlaced g t) (value true setting k e s) _ (value_goes h s kept)
-            (λ v u _ typed u_kept. pointed_goes low types u m d t site _ (same_pointer (OfType g (Pointer m d t) (shaped u)) (bounds_of e) v u typed) u_kept)
-        place_goes (typed.member {mode = m} {kind = d} {e = e} {n = number} {offset = offset} {t = t} {site = site} slot h found scalar) s kept =
-            goes_on low types (shaped s) (OfType g (Pointer m d (Struct number))) (IsPlaced g t) (value true setting k e s) _ (value_goes h s kept)
-            (λ v u _ typed u_kept. member_goes low types u m d number slot offset t site _ found scalar (same_pointer (OfType g (Pointer m d (Struct number)) (shaped u)) (bounds_of e) v u typed) u_kept)
+        pub place_goes : {p : core.Place} {t : CType} → HasPlace g types here p t → (s : State) → IsHere s → Goes low types s (IsPlaced g t) (place true setting k p s)
+        place_goes (typed.direct {object = object} {offset = offset} {t = t} {cells = is} found row) s h = variable_goes low types s t object offset is found row h.1
+        place_goes (typed.pointed {mode = m} {e = e} {t = t} {site = site} h) s here' =
+            goes_on low types s (OfType g (Pointer m kinds.One t)) (IsPlaced g t) (value true setting k e s) _ (typed_alone e (Pointer m kinds.One t) s (value_goes h s here'))
+            (λ v u _ typed u_kept. pointed_goes low types u m t site _ (same_pointer (λ v. OfType g (Pointer m kinds.One t) v u) (bounds_of e) v u typed) u_kept)
+        place_goes (typed.member {mode = m} {e = e} {n = number} {offset = offset} {t = t} {site = site} slot h found scalar) s here' =
+            goes_on low types s (OfType g (Pointer m kinds.One (Struct number))) (IsPlaced g t) (value true setting k e s) _ (typed_alone e (Pointer m kinds.One (Struct number)) s (value_goes h s here'))
+            (λ v u _ typed u_kept. member_goes low types u m number slot offset t site _ found scalar (same_pointer (λ v. OfType g (Pointer m kinds.One (Struct number)) v u) (bounds_of e) v u typed) u_kept)
+        place_goes (typed.element {mode = m} {e = e} {i = i} {t = t} {p = p} {site = site} h elements hi) s here' =
+            goes_on low types s (λ v u. IsAimed low types m t p elements.size (with_ends (bounds_of e) v u.locals) u × IsLocalOf e m t v u) (IsPlaced g t) (value true setting k e s) _ (aimed_goes e m t p s elements here' (value_goes h s here'))
+            (λ v u after aimed u_kept. goes_on low types u (λ (z : ℤ) (w : State). Unit {0}) (IsPlaced g t) (and_then (value true setting k i u) (number_given None)) _
+            (number_goes_on i u None (typed_alone i Int u (value_goes hi u (here_later s u after here' u_kept))))
+            (λ z w later _ w_kept. element_goes low types m t p elements.size w site z (with_ends (bounds_of e) v u.locals) (aimed_later low types m t p elements.size (with_ends (bounds_of e) v u.locals) u w later aimed.0) w_kept))
+        place_goes (typed.element_member {mode = m} {e = e} {i = i} {n = number} {offset = offset} {t = t} {p = p} {site = site} slot h elements hi found scalar) s here' =
+            goes_on low types s (λ v u. IsAimed low types m (Struct number) p elements.size (with_ends (bounds_of e) v u.locals) u × IsLocalOf e m (Struct number) v u) (IsPlaced g t) (value true setting k e s) _ (aimed_goes e m (Struct number) p s elements here' (value_goes h s here'))
+            (λ v u after aimed u_kept. goes_on low types u (λ (z : ℤ) (w : State). Unit {0}) (IsPlaced g t) (and_then (value true setting k i u) (number_given None)) _
+            (number_goes_on i u None (typed_alone i Int u (value_goes hi u (here_later s u after here' u_kept))))
+            (λ z w later _ w_kept. element_member_goes low types m number slot offset t p elements.size found scalar w site z (with_ends (bounds_of e) v u.locals)
+            (aimed_later low types m (Struct number) p elements.size (with_ends (bounds_of e) v u.locals) u w later aimed.0) w_kept))
+
+    -- ---- moved pointers
+
+    moved_further : (size : ℕ) (a c : ℤ) (o : Value) (block byte place : ℕ) → IsMoved size a o (At block byte) → pos place ≡ pos byte +ℤ (c *ℤ pos size) → IsMoved size (a +ℤ c) o (At block place)
+    moved_further size a c (Number z) block byte place h step = tt
+    moved_further size a c Null block byte place h step = tt
+    moved_further size a c (At other from) block byte place h step =
+        let same : block ≡ other = first_same block byte other h.0 h.1 in
+        let at : byte ≡ h.0 = second_same block byte other h.0 h.1 in
+        let before = h.2 in
+        let both = times_plus a c size in
+        (place, ap (λ b. At b place) same, omega (arith, ints, step, at, before, both))
+      where
+        first_same : (a b c d : ℕ) → At a b ≡ At c d → a ≡ c
+        first_same a b c d q = cc
+
+        second_same : (a b c d : ℕ) → At a b ≡ At c d → b ≡ d
+        second_same a b c d q = cc
+
+    module _ (low : ℕ) (types : List CType) (here : Scope) (flow : IsFlow here.flow) (reaches : Extends here.locals types) where
+      behind_later : (e : core.Expression) (v : Value) (u w : State) → IsAfter u w → IsBehind g.structs here.locals e v u → IsBehind g.structs here.locals e v w
+      behind_later e v u w after h b is l there = h b is l (subst (λ ls. slice_get ls b.local ≡ Some l) after.1 there)
+
+      local_behind : (i : ℕ) (c : Option PointerBounds) (s : State) → WhereGiven (IsBehind g.structs here.locals (core.Local i c)) (value true setting k (core.Local i c) s)
+      local_behind i c s =
+          so_further (λ (v : Value) (u : State). (l : Local) → slice_get u.locals i ≡ Some l → l.value ≡ v) (IsBehind g.structs here.locals (core.Local i c)) (value true setting k (core.Local i c) s) (local_read low types here flow reaches i c s)
+          (λ v u read b is l there.
+          let at = local_parts here.locals i b (is_pointer_type (slice_get here.locals i)) is in
+          subst (λ z. IsMoved (target_size g.structs l.type) z l.value v) (sym at.1)
+          (subst (λ v. IsMoved (target_size g.structs l.type) (pos 0) l.value v) (read l (subst (λ x. slice_get u.locals x ≡ Some l) at.0 there)) (stays (target_size g.structs l.type) l.value)))
+
+      -- an expression of another form
+      nowhere : (e : core.Expression) (s : State) → ((b : Behind) → behind_local here.locals e ≡ Some b → ⊥) → WhereGiven (IsBehind g.structs here.locals e) (value true setting k e s)
+      nowhere e s none = so_always (IsBehind g.structs here.locals e) (value true setting k e s) (λ v u b is. absurd (none b is))
+
+      sum_behind : {e i : core.Expression} {m : Mode} {t : CType} {direction : Direction} {p : PointerBounds} → HasType g types here e (Pointer m kinds.Array t) → (site : Site) (c : Option PointerBounds) (x : Value) (y : State)
+          → IsSummed low types here flow reaches e i m t direction p (IsBehind g.structs here.locals e) x y → IsKept low types y → IsBehind g.structs here.locals (core.Sum e direction i site c) x y
+      sum_behind {e = e} {i = i} {m = m} {t = t} {direction = direction} h site c x y summed kept b is l there =
+          let f = further_parts direction (constant here.locals i) (behind_local here.locals e) b is in
+          let base = base_of g types here reaches h f.before f.there m kinds.Array t refl in
+          let held = local_there g.structs (shaped y) types y.locals f.before.local (Pointer m base.0 t) kept.locals base.1 in
+          let at : slice_get y.locals f.before.local ≡ Some l = subst (λ k. slice_get y.locals k ≡ Some l) f.local there in
+          let type : l.type ≡ Pointer m base.0 t = ap (λ (l : Local). l.type) (same_local l held.0 (sym at ∙ held.1)) ∙ held.2 in
+          let size : target_size g.structs l.type ≡ size_of g.structs t = ap (target_size g.structs) type in
+          let before : IsMoved (target_size g.structs l.type) f.before.elements l.value (At summed.sum.block summed.sum.byte) = subst (λ v. IsMoved (target_size g.structs l.type) f.before.elements l.value v) summed.sum.before (summed.other f.before f.there l at) in
+          let step : pos summed.sum.place ≡ pos summed.sum.byte +ℤ (toward direction f.constant *ℤ pos (target_size g.structs l.type)) =
+          summed.sum.step ∙ (ap (λ z. pos summed.sum.byte +ℤ (toward direction z *ℤ pos (size_of g.structs t))) (summed.constant f.constant f.is) ∙ ap (λ n. pos summed.sum.byte +ℤ (toward direction f.constant *ℤ pos n)) (sym size)) in
+          subst (λ z. IsMoved (target_size g.structs l.type) z l.value x) (sym f.elements)
+          (subst (λ v. IsMoved (target_size g.structs l.type) (f.before.elements +ℤ toward direction f.constant) l.value v) (sym summed.sum.behind)
+          (moved_further (target_size g.structs l.type) f.before.elements (toward direction f.constant) l.value summed.sum.block summed.sum.byte summed.sum.place before step))
+        where
+          same_local : (a b : Local) → Some a ≡ Some b → a ≡ b
+          same_local a b q = cc
+
+      pub behind_so : {e : core.Expression} {t : CType} → HasType g types here e t → (s : State) → IsHere low types here flow reaches s → WhereGiven (IsBehind g.structs here.locals e) (value true setting k e s)
+      behind_so (typed.word {z = z} fits) s h = nowhere (core.Number z) s (λ b is. absurd (cc))
+      behind_so (typed.byte {z = z} fits) s h = nowhere (core.Number z) s (λ b is. absurd (cc))
+      behind_so typed.null s h = nowhere core.Null s (λ b is. absurd (cc))
+      behind_so (typed.local {k = i} {b = b} e bounds) s h = local_behind i b s
+      behind_so (typed.bounded {k = i} {p = p} e size limited force) s h = local_behind i (Some p) s
+      behind_so (typed.widened h) s here' = behind_so h s here'
+      behind_so (typed.single h elements leads) s here' = behind_so h s here'
+      behind_so (typed.row h bounds) s here' = behind_so h s here'
+      behind_so (typed.ended_row h none) s here' = behind_so h s here'
+      behind_so (typed.load {t = t} {p = p} {b = b} scalar hp bounds) s h = nowhere (core.Load t p b) s (λ b is. absurd (cc))
+      behind_so (typed.address_of {p = p} {b = b} hp bounds) s h = nowhere (core.AddressOf p b) s (λ b is. absurd (cc))
+      behind_so (typed.array {object = object} {p = p} found some few rows bounds size) s h = nowhere (core.AddressOf (core.Direct object 0) (Some p)) s (λ b is. absurd (cc))
+      behind_so (typed.sum {e = e} {i = i} {mode = m} {t = t} {direction = direction} {site = site} {p = p} {b = b} h elements hi bounds) s here' =
+          so_on (λ x y. IsSummed low types here flow reaches e i m t direction p X x y × IsAfter s y × IsKept low types y) (IsBehind g.structs here.locals (core.Sum e direction i site b)) inner (audit true b)
+          (sure_given (λ x y. IsSummed low types here flow reaches e i m t direction p X x y × IsAfter s y × IsKept low types y) inner
+          (sum_goes low types here flow reaches e i m t direction p site elements X s here' (behind_later e)
+          (sure_further (λ v u. (OfNode g e (Pointer m kinds.Array t) v u × IsAfter s u × IsKept low types u) × X v u) (λ v u. (OfNode g e (Pointer m kinds.Array t) v u × X v u) × IsAfter s u × IsKept low types u) (value true setting k e s)
+          (sure_both (λ v u. OfNode g e (Pointer m kinds.Array t) v u × IsAfter s u × IsKept low types u) X (value true setting k e s) (value_goes low types here flow reaches h s here') (behind_so h s here')) (λ v u x. ((x.0.0, x.1), x.0.1, x.0.2)))
+          (λ u stands. typed_alone low types here flow reaches i Int u (value_goes low types here flow reaches hi u stands))))
+          (λ x y summed. audited_so (IsBehind g.structs here.locals (core.Sum e direction i site b)) true b x y (sum_behind h site b x y summed.0 summed.2))
+        where
+          X : Value → State → Type 0
+          X = IsBehind g.structs here.locals e
+
+          inner : Result Value
+          inner = and_then (value true setting k e s) (λ v u. and_then (and_then (value true setting k i u) (number_given (Some site))) (λ z w. summed direction site z v (with_ends (bounds_of e) v u.locals).ends w))
+      behind_so (typed.negate {e = e} {site = site} he) s h = nowhere (core.Negate e site) s (λ b is. absurd (cc))
+      behind_so (typed.complement {e = e} he) s h = nowhere (core.Complement e) s (λ b is. absurd (cc))
+      behind_so (typed.inverse {e = e} he) s h = nowhere (core.Not e) s (λ b is. absurd (cc))
+      behind_so (typed.arithmetic {operator = operator} {a = a} {b = c} {site = site} ha hb) s h = nowhere (core.Arithmetic operator a c site) s (λ b is. absurd (cc))
+      behind_so (typed.compare {comparison = comparison} {a = a} {b = c} ha hb) s h = nowhere (core.Compare comparison a c) s (λ b is. absurd (cc))
+      behind_so (typed.same {a = a} {b = c} ha hb) s h = nowhere (core.Same a c) s (λ b is. absurd (cc))
+      behind_so (typed.both {a = a} {b = c} ha hb) s h = nowhere (core.AndAlso a c) s (λ b is. absurd (cc))
+      behind_so (typed.either {a = a} {b = c} ha hb) s h = nowhere (core.OrElse a c) s (λ b is. absurd (cc))
+      behind_so (typed.low_byte {e = e} he) s h = nowhere (core.LowByte e) s (λ b is. absurd (cc))
+      behind_so (typed.call {callee = callee} {arguments = arguments} {b = c} known ha bounds) s h = nowhere (core.Call callee arguments c) s (λ b is. absurd (cc))
+      behind_so typed.next_input s h = nowhere core.NextInput s (λ b is. absurd (cc))
 
     -- ---- stores
 
@@ -458,27 +1028,26 @@ module _ (g : Frame) (budget n : ℕ) where
     number_scalar (Pointer m d t) h = absurd (cc)
 
     module _ (low : ℕ) (types : List CType) where
-      set_goes : (s : State) (result : Option CType) (loop : Bool) (i : ℕ) (t : CType) (v : Value) → slice_get types i ≡ Some t → OfType g t (shaped s) v → IsKept low types s → Goes low types (shaped s) (IsFlow g result loop) (set_local i v s)
-      set_goes s result loop i t v e typed kept =
+      set_goes : (s : State) (i : ℕ) (t : CType) (v : Value) → slice_get types i ≡ Some t → OfType g t v s → IsKept low types s → Runs low types IsNext (set_local i v s)
+      set_goes s i t v e typed kept =
           let l = local_there g.structs (shaped s) types s.locals i t kept.locals e in
           let test : has_type l.0.type v ≡ true = ap (λ x. has_type x v) l.2 ∙ value_typed g.structs (shaped s) t v typed in
           let new : Local = record l.0 { value = v } in
-          subst (λ o. Goes low types (shaped s) (IsFlow g result loop) (set_over o i v s)) (sym l.1)
-          (subst (λ yes. Goes low types (shaped s) (IsFlow g result loop) (set_if yes l.0 i v s)) (sym test)
-          (tt, grows_here (shaped s), record { grown = kept.grown; cells = kept.cells; locals = locals_set g.structs (shaped s) types s.locals i t new kept.locals e l.2 typed; world = kept.world; enough = kept.enough }))
+          subst (λ o. Runs low types IsNext (set_over o i v s)) (sym l.1)
+          (subst (λ yes. Runs low types IsNext (set_if yes l.0 i v s)) (sym test)
+          (refl, record { grown = kept.grown; cells = kept.cells; locals = locals_set g.structs (shaped s) types s.locals i t new kept.locals e l.2 typed; world = kept.world; enough = kept.enough }))
 
-      store_goes : (s : State) (result : Option CType) (loop : Bool) (t : CType) (site : Option Site) (at : ℕ × ℕ) (v : Value) → IsScalar t → IsPlaced g t (shaped s) at → OfType g t (shaped s) v → IsKept low types s → Goes low types (shaped s) (IsFlow g result loop) (store_at t site at v s)
-      store_goes s result loop t site at v scalar placed typed kept =
+      store_goes : (s : State) (t : CType) (site : Option Site) (at : ℕ × ℕ) (v : Value) → IsScalar t → IsPlaced g t at s → OfType g t v s → IsKept low types s → Runs low types IsNext (store_at t site at v s)
+      store_goes s t site at v scalar placed typed kept =
           let c = scalar_cell g.structs s.blocks t at.0 at.1 scalar placed in
           let same : shapes (stored s.blocks at.0 at.1 v) ≡ shaped s = shapes_stored s.blocks at.0 at.1 t c v in
           let after = sym same in
           let fits = and_from (has_type t v) (leaves_zero (slice_get s.blocks at.0) at.1 v) (value_typed g.structs (shaped s) t v typed) (zero_left s.blocks at.0 at.1 t c v) in
           let test = and_from (same_type t c.cell.type) (has_type t v && leaves_zero (slice_get s.blocks at.0) at.1 v) (ap (same_type t) c.typed ∙ same_refl t) fits in
           let cells = stored_typed g.structs (shaped s) s.blocks at.0 at.1 t c kept.cells v typed in
-          subst (λ o. Goes low types (shaped s) (IsFlow g result loop) (store_over o t site v at.0 at.1 s)) (sym (at_cell s.blocks at.0 at.1 t c))
-          (subst (λ yes. Goes low types (shaped s) (IsFlow g result loop) (store_if yes site at.0 at.1 v s)) (sym test) (
-            tt,
-            subst (λ b. Grows (shaped s) b) after (grows_here (shaped s)),
+          subst (λ o. Runs low types IsNext (store_over o t site v at.0 at.1 s)) (sym (at_cell s.blocks at.0 at.1 t c))
+          (subst (λ yes. Runs low types IsNext (store_if yes site at.0 at.1 v s)) (sym test) (
+            refl,
             record {
               grown = subst (λ b. Grows (shapes (map object_block g.program.objects)) b) after kept.grown;
               cells = subst (λ b. AllByRecursion (HoldsValues g.structs b) (stored s.blocks at.0 at.1 v)) after cells;
@@ -488,120 +1057,132 @@ module _ (g : Frame) (budget n : ℕ) where
             },
           ))
 
-      kept_goes : (s : State) (t : CType) (char : Bool) (v : Value) → is_number t ≡ true → is_char t ≡ char → OfType g Int (shaped s) v → IsKept low types s → Goes low types (shaped s) (OfType g t) (kept_if char v s)
+      kept_goes : (s : State) (t : CType) (char : Bool) (v : Value) → is_number t ≡ true → is_char t ≡ char → OfType g Int v s → IsKept low types s → Goes low types s (OfType g t) (kept_if char v s)
       kept_goes s Int true v h e typed kept = absurd (cc)
-      kept_goes s Int false v h e typed kept = (typed, grows_here (shaped s), kept)
+      kept_goes s Int false v h e typed kept = (typed, after_here s, kept)
       kept_goes s Char true v h e typed kept = byte_goes low types s v typed kept
       kept_goes s Char false v h e typed kept = absurd (cc)
       kept_goes s (Struct number) char v h e typed kept = absurd (cc)
       kept_goes s (Pointer m d t) char v h e typed kept = absurd (cc)
 
       -- the new value of an update, at a place that was worked out before
-      kept_store : (s : State) (result : Option CType) (loop : Bool) (t : CType) (site : Option Site) (at : ℕ × ℕ) (v : Value) → is_number t ≡ true → IsPlaced g t (shaped s) at → OfType g Int (shaped s) v → IsKept low types s → Goes low types (shaped s) (IsFlow g result loop) (and_then (kept_if (is_char t) v s) (store_at t site at))
-      kept_store s result loop t site at v number placed typed kept =
-          goes_on low types (shaped s) (OfType g t) (IsFlow g result loop) (kept_if (is_char t) v s) (store_at t site at) (kept_goes s t (is_char t) v number refl typed kept)
-          (λ last u grown last_typed u_kept. store_goes u result loop t site at last (number_scalar t number) (place_grown g.structs (shaped s) (shaped u) grown t at.0 at.1 placed) last_typed u_kept)
+      kept_store : (s : State) (t : CType) (site : Option Site) (at : ℕ × ℕ) (v : Value) → is_number t ≡ true → IsPlaced g t at s → OfType g Int v s → IsKept low types s → Runs low types IsNext (and_then (kept_if (is_char t) v s) (store_at t site at))
+      kept_store s t site at v number placed typed kept =
+          runs_on low types s (OfType g t) IsNext (kept_if (is_char t) v s) (store_at t site at) (kept_goes s t (is_char t) v number refl typed kept)
+          (λ last u grown last_typed u_kept. store_goes u t site at last (number_scalar t number) (place_grown g.structs (shaped s) (shaped u) grown.0 t at.0 at.1 placed) last_typed u_kept)
 
       -- behind the place of a value that was worked out before
-      placed_store : (s : State) (result : Option CType) (loop : Bool) (t : CType) (site : Option Site) (v : Value) (o : Result (ℕ × ℕ)) → IsScalar t → OfType g t (shaped s) v → Goes low types (shaped s) (IsPlaced g t) o → Goes low types (shaped s) (IsFlow g result loop) (and_then o (λ at u. store_at t site at v u))
-      placed_store s result loop t site v o scalar typed h =
-          goes_on low types (shaped s) (IsPlaced g t) (IsFlow g result loop) o _ h (λ at u grown placed u_kept. store_goes u result loop t site at v scalar placed (value_grown g.structs (shaped s) (shaped u) grown t v typed) u_kept)
+      placed_store : (s : State) (t : CType) (site : Option Site) (v : Value) (o : Result (ℕ × ℕ)) → IsScalar t → OfType g t v s → Goes low types s (IsPlaced g t) o → Runs low types IsNext (and_then o (λ at u. store_at t site at v u))
+      placed_store s t site v o scalar typed h =
+          runs_on low types s (IsPlaced g t) IsNext o _ h (λ at u grown placed u_kept. store_goes u t site at v scalar placed (value_grown g.structs (shaped s) (shaped u) grown.0 t v typed) u_kept)
 
-      -- a place whose pointer was worked out before the value
-      pub pointed_store : {p : core.Place} {t : CType} → HasPlace g types p t → IsScalar t → {e : core.Expression} → HasType g types e t → (result : Option CType) (loop : Bool) (s : State) → IsKept low types s → Goes low types (shaped s) (IsFlow g result loop) (effect true setting k (core.Store t p e) s)
-      pointed_store {t = t} (typed.direct {object = object} {offset = offset} {cells = is} found row) scalar {e = e} h result loop s kept =
-          goes_on low types (shaped s) (IsTarget g (Pointer modes.Checked kinds.One t)) (IsFlow g result loop) (target_of true setting k (core.Direct object offset) s) _
-          (goes_on low types (shaped s) (IsPlaced g t) (IsTarget g (Pointer modes.Checked kinds.One t)) (variable_at setting object offset s) (λ at u. Gives (without_ends at) u) (variable_goes low types s t object offset is found row kept) (λ at u _ placed u_kept. (placed, grows_here (shaped u), u_kept)))
-          (λ q u _ _ u_kept. goes_on low types (shaped u) (OfType g t) (IsFlow g result loop) (value true setting k e u) _ (value_goes low types h u u_kept)
-          (λ v w _ typed w_kept. placed_store w result loop t None v (place_at None object offset w) scalar typed (direct_goes low types w t object offset is found row w_kept)))
-      pointed_store {t = t} (typed.pointed {mode = m} {kind = d} {e = p} {site = site} hp) scalar {e = e} h result loop s kept =
-          goes_on low types (shaped s) (IsTarget g (Pointer m d t)) (IsFlow g result loop) (target_of true setting k (core.Through p core.First 0 site) s) _ (ended_goes low types s m d t (bounds_of p) (value true setting k p s) (value_goes low types hp s kept))
-          (λ q u _ pointer u_kept. behind low types (Pointer m d t) t (IsFlow g result loop) u q.pointer.value (value true setting k e u) _ pointer (value_goes low types h u u_kept)
-          (λ v w pointer typed w_kept. placed_store w result loop t (Some site) v (element 0 site q.pointer.value w) scalar typed (pointed_goes low types w m d t site q.pointer.value pointer w_kept)))
-      pointed_store {t = t} (typed.member {mode = m} {kind = d} {e = p} {n = number} {offset = offset} {site = site} slot hp found scalar') scalar {e = e} h result loop s kept =
-          goes_on low types (shaped s) (IsTarget g (Pointer m d (Struct number))) (IsFlow g result loop) (target_of true setting k (core.Through p core.First offset site) s) _ (ended_goes low types s m d (Struct number) (bounds_of p) (value true setting k p s) (value_goes low types hp s kept))
-          (λ q u _ pointer u_kept. behind low types (Pointer m d (Struct number)) t (IsFlow g result loop) u q.pointer.value (value true setting k e u) _ pointer (value_goes low types h u u_kept)
-          (λ v w pointer typed w_kept. placed_store w result loop t (Some site) v (element offset site q.pointer.value w) scalar typed (member_goes low types w m d number slot offset t site q.pointer.value found scalar pointer w_kept)))
+      printed_goes : (s : State) (v : Value) → OfType g Int v s → IsKept low types s → Runs low types IsNext (printed v s)
+      printed_goes s (Number z) h kept = (refl, record { grown = kept.grown; cells = kept.cells; locals = kept.locals; world = kept.world; enough = kept.enough })
+      printed_goes s Null h kept = absurd h
+      printed_goes s (At block byte) h kept = absurd h
 
-    -- ---- statements
+      put_goes : (s : State) (v : Value) → OfType g Int v s → IsKept low types s → Runs low types IsNext (put v s)
+      put_goes s (Number z) h kept = (refl, record { grown = kept.grown; cells = kept.cells; locals = kept.locals; world = kept.world; enough = kept.enough })
+      put_goes s Null h kept = absurd h
+      put_goes s (At block byte) h kept = absurd h
 
-    printed_goes : (low : ℕ) (types : List CType) (result : Option CType) (loop : Bool) (s : State) (v : Value) → OfType g Int (shaped s) v → IsKept low types s → Goes low types (shaped s) (IsFlow g result loop) (printed v s)
-    printed_goes low types result loop s (Number z) h kept = (tt, grows_here (shaped s), record { grown = kept.grown; cells = kept.cells; locals = kept.locals; world = kept.world; enough = kept.enough })
-    printed_goes low types result loop s Null h kept = absurd h
-    printed_goes low types result loop s (At block byte) h kept = absurd h
+      module _ (here : Scope) (flow : IsFlow here.flow) (reaches : Extends here.locals types) where
+        abbrev Stands : State → Type 0
+        Stands s = IsHere low types here flow reaches s
 
-    put_goes : (low : ℕ) (types : List CType) (result : Option CType) (loop : Bool) (s : State) (v : Value) → OfType g Int (shaped s) v → IsKept low types s → Goes low types (shaped s) (IsFlow g result loop) (put v s)
-    put_goes low types result loop s (Number z) h kept = (tt, grows_here (shaped s), record { grown = kept.grown; cells = kept.cells; locals = kept.locals; world = kept.world; enough = kept.enough })
-    put_goes low types result loop s Null h kept = absurd h
-    put_goes low types result loop s (At block byte) h kept = absurd h
+        standing_later : (s u : State) → IsAfter s u → Stands s → IsKept low types u → Stands u
+        standing_later s u after h kept = here_later low types here flow reaches s u after h kept
 
-    module _ (low : ℕ) (types : List CType) (result : Option CType) (loop : Bool) where
-      next_goes : (inner : Bool) (rest : State → Result Flow) (flow : Flow) (s : State) → (inner ≡ true → loop ≡ true) → IsFlow g result inner (shaped s) flow → IsKept low types s → Goes low types (shaped s) (IsFlow g result loop) (rest s) → Goes low types (shaped s) (IsFlow g result loop) (on_next rest flow s)
-      next_goes inner rest Next s within ok kept h = h
-      next_goes inner rest Broke s within ok kept h = (within ok, grows_here (shaped s), kept)
-      next_goes inner rest Continued s within ok kept h = (within ok, grows_here (shaped s), kept)
-      next_goes inner rest (Returned v) s within ok kept h = (ok, grows_here (shaped s), kept)
+        -- a value of a type
+        pub typed_goes : {e : core.Expression} {t : CType} → HasType g types here e t → (s : State) → Stands s → Goes low types s (OfType g t) (value true setting k e s)
+        typed_goes {e = e} {t = t} h s stands = typed_alone low types here flow reaches e t s (value_goes low types here flow reaches h s stands)
 
-      turned_goes : (further : State → Result Flow) (flow : Flow) (s : State) → IsFlow g result true (shaped s) flow → IsKept low types s → Goes low types (shaped s) (IsFlow g result loop) (further s) → Goes low types (shaped s) (IsFlow g result loop) (behind_turn further flow s)
-      turned_goes further Next s ok kept h = h
-      turned_goes further Continued s ok kept h = h
-      turned_goes further Broke s ok kept h = (tt, grows_here (shaped s), kept)
-      turned_goes further (Returned v) s ok kept h = (ok, grows_here (shaped s), kept)
+        -- and then a step
+        value_then : {e : core.Expression} {t : CType} (next : Value → State → Result Flow) → HasType g types here e t → (s : State) → Stands s → ((v : Value) (u : State) → IsAfter s u → OfType g t v u → IsKept low types u → Runs low types IsNext (next v u))
+            → Runs low types IsNext (and_then (value true setting k e s) next)
+        value_then {e = e} {t = t} next h s stands more = runs_on low types s (OfType g t) IsNext (value true setting k e s) next (typed_goes h s stands) more
 
-    module _ (types : List CType) (result : Option CType) where
-      mutual
-        pub statement_goes : {loop : Bool} {x : core.Statement} → IsStatement g types result loop x → (low : ℕ) (s : State) → IsKept low types s → Goes low types (shaped s) (IsFlow g result loop) (effect true setting k x s)
-        statement_goes typed.nothing low s kept = (tt, grows_here (shaped s), kept)
-        statement_goes {loop = loop} (typed.set_local {k = i} {t = t} {e = e} found h) low s kept =
-            goes_on low types (shaped s) (OfType g t) (IsFlow g result loop) (value true setting k e s) (set_local i) (value_goes low types h s kept) (λ v u _ typed u_kept. set_goes low types u result loop i t v found typed u_kept)
-        statement_goes {loop = loop} (typed.store {t = t} scalar place h) low s kept = pointed_store low types place scalar h result loop s kept
-        statement_goes {loop = loop} (typed.update_local {char = char} {k = i} {t = t} {operator = operator} {e = e} {site = site} found number is_char h) low s kept =
-            goes_on low types (shaped s) (OfType g t) (IsFlow g result loop) (given (slice_get s.locals i) s) _ (given_goes low types s i t kept found)
-            (λ old u _ old_typed u_kept. behind low types t Int (IsFlow g result loop) u old (value true setting k e u) _ old_typed (value_goes low types h u u_kept)
-            (λ v w old_typed typed w_kept. goes_on low types (shaped w) (OfType g Int) (IsFlow g result loop) (arithmetic_of operator site old v w) _ (arithmetic_goes low types w operator site old v (value_number g.structs (shaped w) t old number old_typed) typed w_kept)
-            (λ new x _ new_typed x_kept. goes_on low types (shaped x) (OfType g t) (IsFlow g result loop) (kept_if char new x) (set_local i) (kept_goes low types x t char new number is_char new_typed x_kept)
-            (λ last y _ last_typed y_kept. set_goes low types y result loop i t last found last_typed y_kept))))
-        statement_goes {loop = loop} (typed.update {t = t} {p = p} {operator = operator} {e = e} {site = site} number hp h) low s kept =
-            goes_on low types (shaped s) (IsPlaced g t) (IsFlow g result loop) (place true setting k p s) _ (place_goes low types hp s kept)
-            (λ at r _ placed r_kept. goes_on low types (shaped r) (OfType g t) (IsFlow g result loop) (load_at t (Some site) at r) _ (load_goes low types r t (Some site) at (number_scalar t number) placed r_kept)
-            (λ old u to_u old_typed u_kept. goes_on low types (shaped u) (OfType g Int) (IsFlow g result loop) (value true setting k e u) _ (value_goes low types h u u_kept)
-            (λ v w to_w typed w_kept. goes_on low types (shaped w) (OfType g Int) (IsFlow g result loop) (arithmetic_of operator site old v w) _
-            (arithmetic_goes low types w operator site old v (value_number g.structs (shaped w) t old number (value_grown g.structs (shaped u) (shaped w) to_w t old old_typed)) typed w_kept)
+        -- a pointer to one value, as a store takes it
+        single_target : (m : Mode) (t : CType) (p : core.Expression) (s : State) → Goes low types s (OfType g (Pointer m kinds.One t)) (value true setting k p s)
+            → Goes low types s (λ (q : Target) (u : State). OfType g (Pointer m kinds.One t) q.pointer.value u) (and_then (and_then (value true setting k p s) (λ v u. Gives (with_ends (bounds_of p) v u.locals) u)) (λ q u. Gives (record { pointer = q; number = pos 0 }) u))
+        single_target m t p s h =
+            goes_on low types s (λ (q : Pointed) (u : State). OfType g (Pointer m kinds.One t) q.value u) (λ (q : Target) (u : State). OfType g (Pointer m kinds.One t) q.pointer.value u) (and_then (value true setting k p s) (λ v u. Gives (with_ends (bounds_of p) v u.locals) u)) _
+            (goes_on low types s (OfType g (Pointer m kinds.One t)) (λ (q : Pointed) (u : State). OfType g (Pointer m kinds.One t) q.value u) (value true setting k p s) _ h
+            (λ v u _ typed kept. (same_pointer (λ v. OfType g (Pointer m kinds.One t) v u) (bounds_of p) v u typed, after_here u, kept)))
+            (λ q u _ typed kept. (typed, after_here u, kept))
+
+        -- and one to elements, with the number of one
+        element_target : (m : Mode) (t : CType) (p i : core.Expression) (b : PointerBounds) (elements : HasElements g.structs p t b) (s : State) → HasType g types here p (Pointer m kinds.Array t) → HasType g types here i Int → Stands s
+            → Goes low types s (λ (q : Target) (u : State). IsAimed low types m t b elements.size q.pointer u)
+            (and_then (and_then (value true setting k p s) (λ v u. Gives (with_ends (bounds_of p) v u.locals) u)) (λ q u. and_then (and_then (value true setting k i u) (number_given None)) (λ n w. Gives (record { pointer = q; number = n }) w)))
+        element_target m t p i b elements s hp hi stands =
+            goes_on low types s (λ (q : Pointed) (u : State). IsAimed low types m t b elements.size q u) (λ (q : Target) (u : State). IsAimed low types m t b elements.size q.pointer u) (and_then (value true setting k p s) (λ v u. Gives (with_ends (bounds_of p) v u.locals) u)) _
+            (goes_on low types s (λ v u. IsAimed low types m t b elements.size (with_ends (bounds_of p) v u.locals) u × IsLocalOf low types here flow reaches p m t v u) (λ (q : Pointed) (u : State). IsAimed low types m t b elements.size q u) (value true setting k p s) _
+            (aimed_goes low types here flow reaches p m t b s elements stands (value_goes low types here flow reaches hp s stands))
+            (λ v u _ aimed kept. (aimed.0, after_here u, kept)))
+            (λ q u after aimed u_kept. goes_on low types u (λ (z : ℤ) (w : State). Unit {0}) (λ (q : Target) (w : State). IsAimed low types m t b elements.size q.pointer w) (and_then (value true setting k i u) (number_given None)) _
+            (number_goes_on low types here flow reaches i u None (typed_goes hi u (standing_later s u after stands u_kept)))
+            (λ z w later _ w_kept. (aimed_later low types m t b elements.size q u w later aimed, after_here w, w_kept)))
+
+        -- a place whose pointer was worked out before the value
+        pointed_store : {p : core.Place} {t : CType} → HasPlace g types here p t → IsScalar t → {e : core.Expression} → HasType g types here e t → (s : State) → Stands s → Runs low types IsNext (effect true setting k (core.Store t p e) s)
+        pointed_store {t = t} (typed.direct {object = object} {offset = offset} {cells = is} found row) scalar {e = e} h s stands =
+            runs_on low types s (λ (q : Target) (u : State). Unit {0}) IsNext (target_of true setting k (core.Direct object offset) s) _
+            (goes_on low types s (IsPlaced g t) (λ (q : Target) (u : State). Unit {0}) (variable_at setting object offset s) (λ at u. Gives (without_ends at) u) (variable_goes low types s t object offset is found row stands.1) (λ at u _ placed u_kept. (tt, after_here u, u_kept)))
+            (λ q u after _ u_kept. value_then _ h u (standing_later s u after stands u_kept)
+            (λ v w _ typed w_kept. placed_store w t None v (place_at None object offset w) scalar typed (direct_goes low types w t object offset is found row w_kept)))
+        pointed_store {t = t} (typed.pointed {mode = m} {e = p} {site = site} hp) scalar {e = e} h s stands =
+            runs_on low types s (λ (q : Target) (u : State). OfType g (Pointer m kinds.One t) q.pointer.value u) IsNext (target_of true setting k (core.Through p core.First 0 site) s) _ (single_target m t p s (typed_goes hp s stands))
+            (λ q u after pointer u_kept. value_then _ h u (standing_later s u after stands u_kept)
+            (λ v w later typed w_kept. placed_store w t (Some site) v (element 0 site q.pointer.value w) scalar typed (pointed_goes low types w m t site q.pointer.value (value_grown g.structs (shaped u) (shaped w) later.0 (Pointer m kinds.One t) q.pointer.value pointer) w_kept)))
+        pointed_store {t = t} (typed.member {mode = m} {e = p} {n = number} {offset = offset} {site = site} slot hp found scalar') scalar {e = e} h s stands =
+            runs_on low types s (λ (q : Target) (u : State). OfType g (Pointer m kinds.One (Struct number)) q.pointer.value u) IsNext (target_of true setting k (core.Through p core.First offset site) s) _ (single_target m (Struct number) p s (typed_goes hp s stands))
+            (λ q u after pointer u_kept. value_then _ h u (standing_later s u after stands u_kept)
+            (λ v w later typed w_kept. placed_store w t (Some site) v (element offset site q.pointer.value w) scalar typed
+            (member_goes low types w m number slot offset t site q.pointer.value found scalar (value_grown g.structs (shaped u) (shaped w) later.0 (Pointer m kinds.One (Struct number)) q.pointer.value pointer) w_kept)))
+        pointed_store {t = t} (typed.element {mode = m} {e = p} {i = i} {p = b} {site = site} hp elements hi) scalar {e = e} h s stands =
+            runs_on low types s (λ (q : Target) (u : State). IsAimed low types m t b elements.size q.pointer u) IsNext (target_of true setting k (core.Through p (core.Element i) 0 site) s) _ (element_target m t p i b elements s hp hi stands)
+            (λ q u after aimed u_kept. value_then _ h u (standing_later s u after stands u_kept)
+            (λ v w later typed w_kept. placed_store w t (Some site) v (element_within 0 site q.number q.pointer.value q.pointer.ends w) scalar typed
+            (element_goes low types m t b elements.size w site q.number q.pointer (aimed_later low types m t b elements.size q.pointer u w later aimed) w_kept)))
+        pointed_store {t = t} (typed.element_member {mode = m} {e = p} {i = i} {n = number} {offset = offset} {p = b} {site = site} slot hp elements hi found scalar') scalar {e = e} h s stands =
+            runs_on low types s (λ (q : Target) (u : State). IsAimed low types m (Struct number) b elements.size q.pointer u) IsNext (target_of true setting k (core.Through p (core.Element i) offset site) s) _ (element_target m (Struct number) p i b elements s hp hi stands)
+            (λ q u after aimed u_kept. value_then _ h u (standing_later s u after stands u_kept)
+            (λ v w later typed w_kept. placed_store w t (Some site) v (element_within offset site q.number q.pointer.value q.pointer.ends w) scalar typed
+            (element_member_goes low types m number slot offset t b elements.size found scalar w site q.number q.pointer (aimed_later low types m (Struct number) b elements.size q.pointer u w later aimed) w_kept)))
+
+        -- ---- simple statements
+
+        pub simple_runs : {x : core.Statement} → IsSimple g types here x → (s : State) → Stands s → Runs low types IsNext (effect true setting k x s)
+        simple_runs typed.nothing s stands = (refl, stands.1)
+        simple_runs (typed.set_local {k = i} {t = t} {e = e} found h) s stands = value_then (set_local i) h s stands (λ v u _ typed u_kept. set_goes u i t v found typed u_kept)
+        simple_runs (typed.store {t = t} scalar place h) s stands = pointed_store place scalar h s stands
+        simple_runs (typed.update_local {char = char} {k = i} {t = t} {operator = operator} {e = e} {site = site} found number is_char h) s stands =
+            runs_on low types s (OfType g t) IsNext (given (slice_get s.locals i) s) _ (given_goes low types s i t stands.1 found)
+            (λ old u after old_typed u_kept. value_then _ h u (standing_later s u after stands u_kept)
+            (λ v w later typed w_kept. runs_on low types w (OfType g Int) IsNext (arithmetic_of operator site old v w) _
+            (arithmetic_goes low types w operator site old v (value_number g.structs (shaped w) t old number (value_grown g.structs (shaped u) (shaped w) later.0 t old old_typed)) typed w_kept)
+            (λ new x _ new_typed x_kept. runs_on low types x (OfType g t) IsNext (kept_if char new x) (set_local i) (kept_goes x t char new number is_char new_typed x_kept)
+            (λ last y _ last_typed y_kept. set_goes y i t last found last_typed y_kept))))
+        simple_runs (typed.update {t = t} {p = p} {operator = operator} {e = e} {site = site} number hp h) s stands =
+            runs_on low types s (IsPlaced g t) IsNext (place true setting k p s) _ (place_goes low types here flow reaches hp s stands)
+            (λ at r to_r placed r_kept. runs_on low types r (OfType g t) IsNext (load_at t (Some site) at r) _ (load_goes low types r t (Some site) at (number_scalar t number) placed r_kept)
+            (λ old u to_u old_typed u_kept. value_then _ h u (standing_later r u to_u (standing_later s r to_r stands r_kept) u_kept)
+            (λ v w to_w typed w_kept. runs_on low types w (OfType g Int) IsNext (arithmetic_of operator site old v w) _
+            (arithmetic_goes low types w operator site old v (value_number g.structs (shaped w) t old number (value_grown g.structs (shaped u) (shaped w) to_w.0 t old old_typed)) typed w_kept)
             (λ new x to_x new_typed x_kept.
-            let grown = grows_on (shaped r) (shaped w) (shaped x) (grows_on (shaped r) (shaped u) (shaped w) to_u to_w) to_x in
-            kept_store low types x result loop t (Some site) at new number (place_grown g.structs (shaped r) (shaped x) grown t at.0 at.1 placed) new_typed x_kept))))
-        statement_goes {loop = loop} (typed.evaluate {e = e} {t = t} h) low s kept =
-            goes_on low types (shaped s) (OfType g t) (IsFlow g result loop) (value true setting k e s) _ (value_goes low types h s kept) (λ v u _ typed u_kept. (tt, grows_here (shaped u), u_kept))
-        statement_goes {loop = loop} (typed.call_alone {callee = callee} {ts = ts} {arguments = arguments} known h) low s kept =
-            goes_on low types (shaped s) (OfTypes g ts) (IsFlow g result loop) (values true setting k arguments s) _ (values_go low types h s kept)
-            (λ vs u _ typed u_kept. goes_on low types (shaped u) (IsAnswer g None) (IsFlow g result loop) (called setting k callee vs u) no_result (called_goes types low u known vs typed u_kept) (λ v w _ answered w_kept. nothing_back low types w result loop v answered w_kept))
-        statement_goes {loop = loop} (typed.print {e = e} h) low s kept =
-            goes_on low types (shaped s) (OfType g Int) (IsFlow g result loop) (value true setting k e s) printed (value_goes low types h s kept) (λ v u _ typed u_kept. printed_goes low types result loop u v typed u_kept)
-        statement_goes {loop = loop} (typed.put_byte {e = e} h) low s kept =
-            goes_on low types (shaped s) (OfType g Int) (IsFlow g result loop) (value true setting k e s) put (value_goes low types h s kept) (λ v u _ typed u_kept. put_goes low types result loop u v typed u_kept)
-        statement_goes (typed.block h) low s kept = statements_go h low s kept
-        statement_goes {loop = loop} (typed.choice {e = e} {t = t} {x = x} {y = y} h hx hy) low s kept =
-            goes_on low types (shaped s) (OfType g t) (IsFlow g result loop) (value true setting k e s) _ (value_goes low types h s kept)
-            (λ v u _ typed u_kept. chosen_goes low types (shaped u) (IsFlow g result loop) (truth v) _ _ (statement_goes hx low u u_kept) (statement_goes hy low u u_kept))
-        statement_goes {loop = loop} (typed.repeat {e = e} {t = t} {x = x} {y = y} h hx hy) low s kept =
-            goes_on low types (shaped s) (OfType g t) (IsFlow g result loop) (value true setting k e s) _ (value_goes low types h s kept)
-            (λ v u _ typed u_kept. chosen_goes low types (shaped u) (IsFlow g result loop) (truth v) _ _
-            (lowered low types (shaped u) (IsFlow g result loop) _ u_kept.enough
-            (asked_goes low (suc low) types Anything (IsFlow g result loop) (spend_tick budget u.world) u _ (tick_answers budget low u.world u_kept.world) (let few = u_kept.enough in omega arith) u_kept
-            (λ _ w _ _ w_kept. goes_on (suc low) types (shaped w) (IsFlow g result true) (IsFlow g result loop) (effect true setting k x w) _ (statement_goes hx (suc low) w w_kept)
-            (λ flow w' _ ok w'_kept. turned_goes (suc low) types result loop _ flow w' ok w'_kept
-            (goes_on (suc low) types (shaped w') (IsFlow g result false) (IsFlow g result loop) (effect true setting k y w') _ (statement_goes hy (suc low) w' w'_kept)
-            (λ flow' z _ ok' z_kept. next_goes (suc low) types result loop false _ flow' z (λ e. absurd (cc)) ok' z_kept
-            (is.turn (suc low) types result loop e t x y z h hx hy (let few = u_kept.enough in omega arith) z_kept)))))))
-            (tt, grows_here (shaped u), u_kept))
-        statement_goes {loop = loop} (typed.returned {e = e} {t = t} declared h) low s kept =
-            goes_on low types (shaped s) (OfType g t) (IsFlow g result loop) (value true setting k e s) _ (value_goes low types h s kept) (λ v u _ typed u_kept. (subst (λ r. IsAnswer g r (shaped u) (Some v)) (sym declared) typed, grows_here (shaped u), u_kept))
-        statement_goes (typed.returned_nothing declared) low s kept = (subst (λ r. IsAnswer g r (shaped s) None) (sym declared) tt, grows_here (shaped s), kept)
-        statement_goes typed.broken low s kept = (refl, grows_here (shaped s), kept)
-        statement_goes typed.continued low s kept = (refl, grows_here (shaped s), kept)
+            let grown = grows_on (shaped r) (shaped w) (shaped x) (grows_on (shaped r) (shaped u) (shaped w) to_u.0 to_w.0) to_x.0 in
+            kept_store x t (Some site) at new number (place_grown g.structs (shaped r) (shaped x) grown t at.0 at.1 placed) new_typed x_kept))))
+        simple_runs (typed.evaluate {e = e} {t = t} h) s stands = value_then _ h s stands (λ v u _ typed u_kept. (refl, u_kept))
+        simple_runs (typed.call_alone {callee = callee} {ts = ts} {arguments = arguments} known h) s stands =
+            runs_on low types s (OfTypes g ts) IsNext (values true setting k arguments s) _ (values_go low types here flow reaches h s stands)
+            (λ vs u _ typed u_kept. runs_on low types u (IsAnswer g None) IsNext (called setting k callee vs u) no_result (called_goes types low u known vs typed u_kept)
+            (λ v w _ answered w_kept. runs_of low types w IsNext (no_result v w) (nothing_back low types w v answered w_kept)))
+        simple_runs (typed.print {e = e} h) s stands = value_then printed h s stands (λ v u _ typed u_kept. printed_goes u v typed u_kept)
+        simple_runs (typed.put_byte {e = e} h) s stands = value_then put h s stands (λ v u _ typed u_kept. put_goes u v typed u_kept)
 
-        pub statements_go : {loop : Bool} {xs : core.Statements} → AreStatements g types result loop xs → (low : ℕ) (s : State) → IsKept low types s → Goes low types (shaped s) (IsFlow g result loop) (effects true setting k xs s)
-        statements_go typed.no_more low s kept = (tt, grows_here (shaped s), kept)
-        statements_go {loop = loop} (typed.then_more {x = x} {xs = xs} h hs) low s kept =
-            goes_on low types (shaped s) (IsFlow g result loop) (IsFlow g result loop) (effect true setting k x s) _ (statement_goes h low s kept)
-            (λ flow u _ ok u_kept. next_goes low types result loop loop (effects true setting k xs) flow u (λ e. e) ok u_kept (statements_go hs low u u_kept))
+-- in a knot of more ticks
+pub raised_runs : (g : Frame) (budget n m low : ℕ) (types : List CType) (P : Flow → State → Type 0) (o : Result Flow) → budget ≤ low + n → Runs g budget m low types P o → Runs g budget n low types P o
+raised_runs g budget n m low types P o enough h =
+    sure_further (λ v s. P v s × IsKept g budget m low types s) (λ v s. P v s × IsKept g budget n low types s) o h
+    (λ v s k. (k.0, record { grown = k.1.grown; cells = k.1.cells; locals = k.1.locals; world = k.1.world; enough = enough }))

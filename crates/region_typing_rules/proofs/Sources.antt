@@ -1,15 +1,16 @@
 -- What expressions of the walk are, and which locals assignments are to.
 use Rattle.std.proofs.Common.{◌≡◌, ℕ, suc, ◌^◌, Bool, true, false, List, [], ◌∷◌, length, Option, Some, None, refl}
-use Rattle.std.specs.Prelude.{◌==◌, nat_lt, not, ◌&&◌, ◌||◌, slice_get}
+use Rattle.std.specs.Prelude.{◌==◌, nat_lt, ◌&&◌, slice_get}
 use Rattle.ckc_text.specs.declared.place.Span.{Span}
-use Rattle.ckc_text.specs.declared.code.Code.TheVariants.{E04, E13, E14, E19}
+use Rattle.ckc_text.specs.declared.code.Code.TheVariants.{E04, E13, E14}
 use Rattle.ckc_tree.specs.declared.expr.UnaryOperator.{UnaryOperator}
 use Rattle.ckc_tree.specs.declared.expr.UnaryOperator.TheVariants as unary
 use Rattle.ckc_tree.specs.declared.expr.BinaryOperator.{BinaryOperator}
 use Rattle.ckc_tree.specs.declared.expr.BinaryOperator.TheVariants as binary
 use Rattle.ckc_tree.specs.declared.identifier.Identifier.{Identifier}
 use Rattle.ckc_tree.specs.Expressions as e
-use Rattle.ckc_tree.specs.Expressions.{Expression, Expressions}
+use Rattle.ckc_tree.specs.Expressions.{Expression}
+use Rattle.pointer_modes.specs.declared.ctype.Kind.TheVariants as kinds
 use Rattle.pointer_modes.specs.Types.{CType, Int, Char, Struct, Pointer, Structure, members_of}
 use Rattle.pointer_modes.specs.Layout.{cells_of}
 use Rattle.ckc_core.specs.declared.program.Site.{Site}
@@ -20,81 +21,70 @@ use Rattle.act_words.specs.declared.operator.Operator.TheVariants as operators
 use Rattle.act_words.specs.declared.operator.Comparison.{Comparison}
 use Rattle.act_words.specs.declared.operator.Comparison.TheVariants as comparisons
 use Rattle.ckc_core.specs.declared.program.Callee.{Callee}
-use Rattle.ckc_core.specs.declared.program.PointerBounds.{PointerBounds}
+use Rattle.ckc_core.specs.declared.program.Direction.{Direction}
+use Rattle.ckc_core.specs.declared.program.Direction.TheVariants as directions
 use Rattle.ckc_core.specs.Core as core
 use Rattle.ckc_names_rules.specs.declared.given.Given.{Given}
 use Rattle.region_typing_rules.specs.Verdicts.{Verdict, Passes, passing, meant}
-use Rattle.region_typing_rules.specs.Scopes.{Scope, Signature, Variable, Visible, Named, Local, Object, Nothing, local_if, found_if, local_named, object_named, or_else, null_named, named, function_named, members_named}
+use Rattle.region_typing_rules.specs.Scopes.{Scope, Signature, FileVariable, Visible, Named, Local, Object, Array, Nothing, local_if, found_if, local_named, object_of, object_named, or_else, null_named, named, function_named, members_named}
 use Rattle.region_typing_rules.specs.Types.{type_named, is_number, is_pointer, are_comparable}
-use Rattle.region_typing_rules.specs.Expressions.{Places, Lvalue, OfLocal, OfCell, Typed, Value, AStruct, Called, Gives, GivesNothing, site_at, bounds_at, noted, with_bounds, bounded, number, at_place, local_typed, name_typed, struct_place, member_place, member_from, offset_among, member_at, dotted, pointed_by, arrowed, pointed_at, dereferenced, address, number_of, scalar_of, unary_typed, is_pointer_value, two_numbers, summands, equated_values, equated, ordered_values, ordered, arithmetic, binary_typed, indexed, arguments_as, is_import, call_of, declared_callee, first_of, writes, constant, predefined_call, called, with_result, typed, all_typed, call_typed}
+use Rattle.region_typing_rules.specs.Expressions.{Places, OfLocal, OfCell, Standing, ForNothing, ForArray, For, Typed, Value, AStruct, Called, Gives, GivesNothing, site_at, with_bounds, bounded, number, at_place, local_typed, name_typed}
+use Rattle.region_typing_rules.specs.Expressions.{struct_place, member_place, member_from, offset_among, member_at, dotted, with_elements, first_element, pointed_by, arrowed, pointed_at, dereferenced, address, number_of, scalar_of, unary_typed, two_numbers, two_scalars, operator_along, summed, sum_typed}
+use Rattle.region_typing_rules.specs.Expressions.{equated, ordered_values, ordered, arithmetic, binary_typed, element_at, indexed, arguments_as, is_import, call_of, declared_callee, first_of, writes, constant_typed, predefined_call, called, with_result, typed, all_typed, call_typed}
 use Rattle.region_typing_rules.specs.Knowing.{local_number}
 use Rattle.region_typing_rules.proofs.Knowledge.{crossing_promises}
-use Rattle.region_typing_rules.proofs.Verdicts.{Promises, passing_promises, needs_promises, promised_so}
+use Rattle.region_typing_rules.proofs.Verdicts.{Promises, passing_promises, needs_promises, promised_so, elements_promise, apart_promises, all_met_promise}
 use Rattle.region_typing_rules.proofs.Kept.{passing_any}
-use Rattle.region_typing_rules.proofs.Assigns.{IsDirect, IsPlain}
+use Rattle.region_typing_rules.proofs.Assigns.{IsPlain}
 
 -- ---- expressions that are no locals
 
-abbrev IsNoLocal : Option Lvalue → Type 0
-IsNoLocal None = Unit {0}
-IsNoLocal (Some (OfLocal k)) = ⊥
-IsNoLocal (Some (OfCell p)) = Unit {0}
+abbrev IsNoLocal : Standing → Type 0
+IsNoLocal ForNothing = Unit {0}
+IsNoLocal ForArray = Unit {0}
+IsNoLocal (For (OfLocal k)) = ⊥
+IsNoLocal (For (OfCell p)) = Unit {0}
 
 abbrev IsFresh : Typed → Type 0
-IsFresh (Value type zero value place) = IsDirect value × IsNoLocal place
+IsFresh (Value type zero value place) = IsNoLocal place
 IsFresh (AStruct number place) = Unit {0}
 
+-- of a call that has a value nothing is left to show
 abbrev pub IsFreshCall : Called → Type 0
-IsFreshCall (Gives type value) = IsDirect value
+IsFreshCall (Gives type value) = Unit {0}
 IsFreshCall (GivesNothing call) = IsPlain [] call
 
-noted_direct : (b : Option PointerBounds) (v : core.Expression) → IsDirect v → IsDirect (noted b v)
-noted_direct b (core.Number number) h = tt
-noted_direct b core.Null h = tt
-noted_direct b (core.Local x bounds) h = tt
-noted_direct b (core.Load type place bounds) h = tt
-noted_direct b (core.AddressOf place bounds) h = tt
-noted_direct b (core.Negate operand site) h = tt
-noted_direct b (core.Complement operand) h = tt
-noted_direct b (core.Not operand) h = tt
-noted_direct b (core.Arithmetic operator left right site) h = tt
-noted_direct b (core.Compare comparison left right) h = tt
-noted_direct b (core.Same left right) h = tt
-noted_direct b (core.AndAlso left right) h = tt
-noted_direct b (core.OrElse left right) h = tt
-noted_direct b (core.LowByte operand) h = tt
-noted_direct b (core.Call callee arguments bounds) h = tt
-noted_direct b core.NextInput h = tt
-noted_direct b (core.Sum pointer direction number site bounds) h = h
-noted_direct b (core.Order comparison left right site) h = tt
-noted_direct b (core.Allocate count element bounds) h = tt
-noted_direct b (core.Cast pointer bounds) h = tt
-
 with_bounds_fresh : (s : Scope) (site : Site) (t : Typed) → IsFresh t → IsFresh (with_bounds s.structs site t)
-with_bounds_fresh s site (Value type zero value place) h = (noted_direct (bounds_at s.structs type site) value h.0, h.1)
+with_bounds_fresh s site (Value type zero value place) h = h
 with_bounds_fresh s site (AStruct number place) h = tt
 
 bounded_fresh : (s : Scope) (site : Site) (v : Verdict Typed) → Promises IsFresh v → Promises IsFresh (bounded s site v)
 bounded_fresh s site v h = passing_promises IsFresh IsFresh v _ h (with_bounds_fresh s site)
 
 at_place_fresh : (t : CType) (p : core.Place) → IsFresh (at_place t p)
-at_place_fresh Int p = (tt, tt)
-at_place_fresh Char p = (tt, tt)
+at_place_fresh Int p = tt
+at_place_fresh Char p = tt
 at_place_fresh (Struct number) p = tt
-at_place_fresh (Pointer m k t) p = (tt, tt)
+at_place_fresh (Pointer m k t) p = tt
 
 address_fresh : (a : Typed) (site : Site) (span : Span) → Promises IsFresh (address a site span)
-address_fresh (Value type zero value None) site span = tt
-address_fresh (Value type zero value (Some (OfLocal k))) site span = tt
-address_fresh (Value type zero value (Some (OfCell p))) site span = (tt, tt)
+address_fresh (Value type zero value ForNothing) site span = tt
+address_fresh (Value type zero value ForArray) site span = tt
+address_fresh (Value type zero value (For (OfLocal k))) site span = tt
+address_fresh (Value type zero value (For (OfCell p))) site span = tt
 address_fresh (AStruct number (OfLocal k)) site span = tt
-address_fresh (AStruct number (OfCell p)) site span = (tt, tt)
+address_fresh (AStruct number (OfCell p)) site span = tt
+
+elements_fresh : (t : CType) (p : core.Place) (value : core.Expression) (span : Span) → Promises IsFresh (with_elements value span (Passes (at_place t p)))
+elements_fresh t p value span = elements_promise IsFresh value span (Passes (at_place t p)) (at_place_fresh t p)
 
 pointed_fresh : (t : CType) (value : core.Expression) (site : Site) (span : Span) → Promises IsFresh (pointed_at t value site span)
 pointed_fresh Int value site span = tt
 pointed_fresh Char value site span = tt
 pointed_fresh (Struct number) value site span = tt
-pointed_fresh (Pointer m k t) value site span = at_place_fresh t (core.Through value core.First 0 site)
+pointed_fresh (Pointer m kinds.One t) value site span = at_place_fresh t (core.Through value core.First 0 site)
+pointed_fresh (Pointer m kinds.Array t) value site span = elements_fresh t (first_element value site) value span
+pointed_fresh (Pointer m kinds.Nt t) value site span = tt
 
 dereferenced_fresh : (a : Typed) (site : Site) (span : Span) → Promises IsFresh (dereferenced a site span)
 dereferenced_fresh (Value type zero value place) site span = pointed_fresh type value site span
@@ -115,10 +105,16 @@ pointed_by_fresh : (s : Scope) (t : CType) (value : core.Expression) (name : ℕ
 pointed_by_fresh s Int value name site span = tt
 pointed_by_fresh s Char value name site span = tt
 pointed_by_fresh s (Struct number) value name site span = tt
-pointed_by_fresh s (Pointer m k Int) value name site span = tt
-pointed_by_fresh s (Pointer m k Char) value name site span = tt
-pointed_by_fresh s (Pointer m k (Pointer m' k' t)) value name site span = tt
-pointed_by_fresh s (Pointer m k (Struct number)) value name site span = member_at_fresh s number (core.Through value core.First 0 site) name site span
+pointed_by_fresh s (Pointer m kinds.One Int) value name site span = tt
+pointed_by_fresh s (Pointer m kinds.One Char) value name site span = tt
+pointed_by_fresh s (Pointer m kinds.One (Struct number)) value name site span = member_at_fresh s number (core.Through value core.First 0 site) name site span
+pointed_by_fresh s (Pointer m kinds.One (Pointer m' k' t)) value name site span = tt
+pointed_by_fresh s (Pointer m kinds.Array Int) value name site span = tt
+pointed_by_fresh s (Pointer m kinds.Array Char) value name site span = tt
+pointed_by_fresh s (Pointer m kinds.Array (Struct number)) value name site span =
+    passing_promises IsFresh IsFresh (member_at s number (first_element value site) name site span) _ (member_at_fresh s number (first_element value site) name site span) (λ t h. elements_promise IsFresh value span (Passes t) h)
+pointed_by_fresh s (Pointer m kinds.Array (Pointer m' k' t)) value name site span = tt
+pointed_by_fresh s (Pointer m kinds.Nt t) value name site span = tt
 
 arrowed_fresh : (s : Scope) (a : Typed) (name : ℕ) (site : Site) (span : Span) → Promises IsFresh (arrowed s a name site span)
 arrowed_fresh s (Value type zero value place) name site span = pointed_by_fresh s type value name site span
@@ -132,25 +128,34 @@ scalar_any : {A : Type 0} (Q : A → Type 0) (a : Typed) (span : Span) (next : c
 scalar_any Q (Value type zero value place) span next more = more value
 scalar_any Q (AStruct number place) span next more = tt
 
+pub numbers_any : {A : Type 0} (Q : A → Type 0) (a b : Typed) (span : Span) (next : core.Expression → core.Expression → Verdict A) → ((v w : core.Expression) → Promises Q (next v w)) → Promises Q (two_numbers a b span next)
+numbers_any Q a b span next more = number_any Q a span _ (λ v. number_any Q b span _ (λ w. more v w))
+
 unary_fresh : (operator : UnaryOperator) (a : Typed) (site : Site) (span : Span) → Promises IsFresh (unary_typed operator a site span)
 unary_fresh unary.Deref a site span = dereferenced_fresh a site span
 unary_fresh unary.AddressOf a site span = address_fresh a site span
-unary_fresh unary.Negate a site span = number_any IsFresh a span (λ v. number (core.Negate v site)) (λ v. (tt, tt))
-unary_fresh unary.Not a site span = scalar_any IsFresh a span (λ v. number (core.Not v)) (λ v. (tt, tt))
-unary_fresh unary.Complement a site span = number_any IsFresh a span (λ v. number (core.Complement v)) (λ v. (tt, tt))
+unary_fresh unary.Negate a site span = number_any IsFresh a span (λ v. number (core.Negate v site)) (λ v. tt)
+unary_fresh unary.Not a site span = scalar_any IsFresh a span (λ v. number (core.Not v)) (λ v. tt)
+unary_fresh unary.Complement a site span = number_any IsFresh a span (λ v. number (core.Complement v)) (λ v. tt)
 
-module _ (a b : Typed) (span : Span) where
-  arithmetic_fresh : (operator : Operator) (site : Site) → Promises IsFresh (two_numbers a b span (arithmetic operator site))
-  arithmetic_fresh operator site = number_any IsFresh a span _ (λ v. number_any IsFresh b span _ (λ w. (tt, tt)))
+arithmetic_fresh : (a b : Typed) (operator : Operator) (site : Site) (span : Span) → Promises IsFresh (two_numbers a b span (arithmetic operator site))
+arithmetic_fresh a b operator site span = numbers_any IsFresh a b span (arithmetic operator site) (λ v w. tt)
 
-  sum_fresh : (operator : Operator) (site : Site) → Promises IsFresh (summands a b span (arithmetic operator site))
-  sum_fresh operator site = needs_promises IsFresh (not (is_pointer_value a || is_pointer_value b)) E19 span _ (λ x. arithmetic_fresh operator site)
+summed_fresh : (s : Scope) (direction : Direction) (a b : Typed) (site : Site) (span : Span) → Promises IsFresh (summed s direction a b site span)
+summed_fresh s direction (Value Int zero value place) b site span = arithmetic_fresh (Value Int zero value place) b (operator_along direction) site span
+summed_fresh s direction (Value Char zero value place) b site span = arithmetic_fresh (Value Char zero value place) b (operator_along direction) site span
+summed_fresh s direction (Value (Struct number) zero value place) b site span = tt
+summed_fresh s direction (Value (Pointer m k t) zero value place) b site span = number_any IsFresh b span _ (λ w. tt)
+summed_fresh s direction (AStruct number place) b site span = tt
+
+sum_fresh : (s : Scope) (direction : Direction) (a b : Typed) (site : Site) (span : Span) → Promises IsFresh (sum_typed s direction a b site span)
+sum_fresh s direction a b site span = apart_promises IsFresh a b span (summed s direction a b site span) (summed_fresh s direction a b site span)
 
 ordered_values_fresh : (comparison : Comparison) (t : CType) (v : core.Expression) (u : CType) (w : core.Expression) (span : Span) → Promises IsFresh (ordered_values comparison t v u w span)
 ordered_values_fresh comparison t v u w span = by (is_number t && is_number u) (are_comparable t u) refl refl
   where
     by : (numbers same : Bool) → (is_number t && is_number u) ≡ numbers → are_comparable t u ≡ same → Promises IsFresh (ordered_values comparison t v u w span)
-    by true same h0 h1 = rw h0 (tt, tt)
+    by true same h0 h1 = rw h0 tt
     by false true h0 h1 = rw (h0, h1) tt
     by false false h0 h1 = rw (h0, h1) tt
 
@@ -159,45 +164,41 @@ ordered_fresh comparison (Value t z v p) (Value u y w q) span = ordered_values_f
 ordered_fresh comparison (Value t z v p) (AStruct k q) span = tt
 ordered_fresh comparison (AStruct k p) b span = tt
 
-equated_direct : (t : CType) (z : Bool) (v : core.Expression) (u : CType) (y : Bool) (w : core.Expression) (span : Span) → Promises IsDirect (equated_values t z v u y w span)
-equated_direct t z v u y w span = by (is_number t && is_number u) (are_comparable t u) (is_pointer t && y) (is_pointer u && z) refl refl refl refl
-  where
-    by : (numbers same left right : Bool) → (is_number t && is_number u) ≡ numbers → are_comparable t u ≡ same → (is_pointer t && y) ≡ left → (is_pointer u && z) ≡ right → Promises IsDirect (equated_values t z v u y w span)
-    by true same left right h0 h1 h2 h3 = rw h0 tt
-    by false true left right h0 h1 h2 h3 = rw (h0, h1) tt
-    by false false true right h0 h1 h2 h3 = rw (h0, h1, h2) tt
-    by false false false true h0 h1 h2 h3 = rw (h0, h1, h2, h3) tt
-    by false false false false h0 h1 h2 h3 = rw (h0, h1, h2, h3) tt
+scalars_fresh : (of : core.Expression → core.Expression → core.Expression) (a b : Typed) (span : Span) → Promises IsFresh (two_scalars a b span (λ v w. number (of v w)))
+scalars_fresh of a b span = scalar_any IsFresh a span _ (λ v. scalar_any IsFresh b span _ (λ w. tt))
 
-equated_fresh : (a b : Typed) (span : Span) → Promises IsDirect (equated a b span)
-equated_fresh (Value t z v p) (Value u y w q) span = equated_direct t z v u y w span
-equated_fresh (Value t z v p) (AStruct k q) span = tt
-equated_fresh (AStruct k p) b span = tt
+binary_fresh : (s : Scope) (operator : BinaryOperator) (a b : Typed) (site : Site) (span : Span) → Promises IsFresh (binary_typed s operator a b site span)
+binary_fresh s binary.Or a b site span = scalars_fresh core.OrElse a b span
+binary_fresh s binary.And a b site span = scalars_fresh core.AndAlso a b span
+binary_fresh s binary.BitOr a b site span = arithmetic_fresh a b (operators.Bitwise bits.Or) site span
+binary_fresh s binary.BitXor a b site span = arithmetic_fresh a b (operators.Bitwise bits.Xor) site span
+binary_fresh s binary.BitAnd a b site span = arithmetic_fresh a b (operators.Bitwise bits.And) site span
+binary_fresh s binary.Equal a b site span = passing_any IsFresh (equated a b span) number (λ v. tt)
+binary_fresh s binary.NotEqual a b site span = passing_any IsFresh (equated a b span) (λ v. number (core.Not v)) (λ v. tt)
+binary_fresh s binary.Less a b site span = ordered_fresh comparisons.Less a b span
+binary_fresh s binary.LessEqual a b site span = ordered_fresh comparisons.LessEqual a b span
+binary_fresh s binary.Greater a b site span = ordered_fresh comparisons.Greater a b span
+binary_fresh s binary.GreaterEqual a b site span = ordered_fresh comparisons.GreaterEqual a b span
+binary_fresh s binary.ShiftLeft a b site span = arithmetic_fresh a b (operators.Arithmetic arithmetics.ShiftLeft) site span
+binary_fresh s binary.ShiftRight a b site span = arithmetic_fresh a b (operators.Arithmetic arithmetics.ShiftRight) site span
+binary_fresh s binary.Add a b site span = sum_fresh s directions.Forward a b site span
+binary_fresh s binary.Subtract a b site span = sum_fresh s directions.Backward a b site span
+binary_fresh s binary.Multiply a b site span = arithmetic_fresh a b (operators.Arithmetic arithmetics.Multiply) site span
+binary_fresh s binary.Divide a b site span = arithmetic_fresh a b (operators.Arithmetic arithmetics.Divide) site span
+binary_fresh s binary.Remainder a b site span = arithmetic_fresh a b (operators.Arithmetic arithmetics.Remainder) site span
 
-binary_fresh : (operator : BinaryOperator) (a b : Typed) (site : Site) (span : Span) → Promises IsFresh (binary_typed operator a b site span)
-binary_fresh binary.Or a b site span = scalar_any IsFresh a span _ (λ v. scalar_any IsFresh b span _ (λ w. (tt, tt)))
-binary_fresh binary.And a b site span = scalar_any IsFresh a span _ (λ v. scalar_any IsFresh b span _ (λ w. (tt, tt)))
-binary_fresh binary.BitOr a b site span = arithmetic_fresh a b span (operators.Bitwise bits.Or) site
-binary_fresh binary.BitXor a b site span = arithmetic_fresh a b span (operators.Bitwise bits.Xor) site
-binary_fresh binary.BitAnd a b site span = arithmetic_fresh a b span (operators.Bitwise bits.And) site
-binary_fresh binary.Equal a b site span = passing_promises IsDirect IsFresh (equated a b span) number (equated_fresh a b span) (λ v h. (h, tt))
-binary_fresh binary.NotEqual a b site span = passing_promises IsDirect IsFresh (equated a b span) (λ v. number (core.Not v)) (equated_fresh a b span) (λ v h. (tt, tt))
-binary_fresh binary.Less a b site span = ordered_fresh comparisons.Less a b span
-binary_fresh binary.LessEqual a b site span = ordered_fresh comparisons.LessEqual a b span
-binary_fresh binary.Greater a b site span = ordered_fresh comparisons.Greater a b span
-binary_fresh binary.GreaterEqual a b site span = ordered_fresh comparisons.GreaterEqual a b span
-binary_fresh binary.ShiftLeft a b site span = arithmetic_fresh a b span (operators.Arithmetic arithmetics.ShiftLeft) site
-binary_fresh binary.ShiftRight a b site span = arithmetic_fresh a b span (operators.Arithmetic arithmetics.ShiftRight) site
-binary_fresh binary.Add a b site span = sum_fresh a b span (operators.Arithmetic arithmetics.Add) site
-binary_fresh binary.Subtract a b site span = sum_fresh a b span (operators.Arithmetic arithmetics.Subtract) site
-binary_fresh binary.Multiply a b site span = arithmetic_fresh a b span (operators.Arithmetic arithmetics.Multiply) site
-binary_fresh binary.Divide a b site span = arithmetic_fresh a b span (operators.Arithmetic arithmetics.Divide) site
-binary_fresh binary.Remainder a b site span = arithmetic_fresh a b span (operators.Arithmetic arithmetics.Remainder) site
+element_fresh : (t : CType) (v w : core.Expression) (site : Site) (span : Span) → Promises IsFresh (element_at t v w site span)
+element_fresh Int v w site span = tt
+element_fresh Char v w site span = tt
+element_fresh (Struct number) v w site span = tt
+element_fresh (Pointer m kinds.One t) v w site span = tt
+element_fresh (Pointer m kinds.Array t) v w site span = elements_fresh t (core.Through v (core.Element w) 0 site) v span
+element_fresh (Pointer m kinds.Nt t) v w site span = tt
 
-indexed_fresh : (a b : Typed) (span : Span) → Promises IsFresh (indexed a b span)
-indexed_fresh (Value t z v p) (Value u y w q) span = needs_promises IsFresh (is_pointer t && is_number u) E13 span _ (λ ok. tt)
-indexed_fresh (Value t z v p) (AStruct k q) span = tt
-indexed_fresh (AStruct k p) b span = tt
+indexed_fresh : (a b : Typed) (site : Site) (span : Span) → Promises IsFresh (indexed a b site span)
+indexed_fresh (Value t z v p) (Value u y w q) site span = needs_promises IsFresh (is_pointer t && is_number u) E13 span _ (λ ok. element_fresh t v w site span)
+indexed_fresh (Value t z v p) (AStruct k q) site span = tt
+indexed_fresh (AStruct k p) b site span = tt
 
 -- ---- calls
 
@@ -221,16 +222,17 @@ predefined_fresh given name arguments span = by (name == given.next_input) (name
     by false false true h0 h1 h2 = rw (h0, h1, h2) (writes_fresh core.PutByte arguments span (λ v. tt))
     by false false false h0 h1 h2 = rw (h0, h1, h2) tt
 
-with_result_fresh : (c : Called) (span : Span) → IsFreshCall c → Promises IsFresh (with_result c span)
-with_result_fresh (Gives type value) span h = (h, tt)
-with_result_fresh (GivesNothing call) span h = tt
+with_result_fresh : (c : Called) (span : Span) → Promises IsFresh (with_result c span)
+with_result_fresh (Gives type value) span = tt
+with_result_fresh (GivesNothing call) span = tt
 
 called_fresh : (s : Scope) (o : Option Signature) (name : ℕ) (arguments : List (Typed × Span)) (site : Site) (span : Span) → Promises IsFreshCall (called s o name arguments site span)
 called_fresh s None name arguments site span = predefined_fresh s.given name arguments span
 called_fresh s (Some f) name arguments site span =
     needs_promises IsFreshCall (length f.parameters == length arguments) E14 span _
     (λ many. crossing_promises IsFreshCall (is_import f) arguments _
-    (passing_any IsFreshCall (arguments_as arguments f.parameters) _ (λ values. call_fresh f.result (declared_callee s f site) values site s.structs)))
+    (passing_any IsFreshCall (arguments_as arguments f.parameters) _ (λ values. all_met_promise IsFreshCall s.flow arguments f.parameters _
+    (call_fresh f.result (declared_callee s f site) values site s.structs))))
 
 pub call_typed_fresh : (at : Places) (s : Scope) (x : Expression) → Promises IsFreshCall (call_typed at s x)
 call_typed_fresh at s (e.Number value span) = tt
@@ -255,6 +257,7 @@ call_typed_fresh at s (e.Binary operator left right span) = tt
 abbrev pub IsLocalAt : Scope → ℕ → Named → Type 0
 IsLocalAt s name (Local k t) = (slice_get s.locals k ≡ Some t) × (local_number s.visible name ≡ Some k)
 IsLocalAt s name (Object k t) = Unit {0}
+IsLocalAt s name (Array k t n) = Unit {0}
 IsLocalAt s name Nothing = Unit {0}
 
 abbrev IfLocal : Scope → ℕ → Option Named → Type 0
@@ -265,6 +268,7 @@ abbrev IfFound : List CType → List Visible → ℕ → Option Named → Type 0
 IfFound types visible name None = Unit {0}
 IfFound types visible name (Some (Local k t)) = (slice_get types k ≡ Some t) × (local_number visible name ≡ Some k)
 IfFound types visible name (Some (Object k t)) = ⊥
+IfFound types visible name (Some (Array k t n)) = ⊥
 IfFound types visible name (Some Nothing) = ⊥
 
 local_if_found : (types : List CType) (v : Visible) (visible : List Visible) (name : ℕ) → (name == v.name) ≡ true → (o : Option CType) → slice_get types v.local ≡ o → IfFound types (v ∷ visible) name (local_if o v.local)
@@ -275,6 +279,7 @@ later_found : (types : List CType) (v : Visible) (visible : List Visible) (name 
 later_found types v visible name other None h = tt
 later_found types v visible name other (Some (Local k t)) h = (h.0, rw other h.1)
 later_found types v visible name other (Some (Object k t)) h = h
+later_found types v visible name other (Some (Array k t n)) h = h
 later_found types v visible name other (Some Nothing) h = h
 
 local_by : (types : List CType) (v : Visible) (visible : List Visible) (name : ℕ) (test : Bool) → (name == v.name) ≡ test → IfFound types visible name (local_named types visible name)
@@ -290,6 +295,7 @@ found_at : (s : Scope) (name : ℕ) (o : Option Named) → IfFound s.locals s.vi
 found_at s name None h = tt
 found_at s name (Some (Local k t)) h = h
 found_at s name (Some (Object k t)) h = absurd h
+found_at s name (Some (Array k t n)) h = absurd h
 found_at s name (Some Nothing) h = absurd h
 
 either_at : (s : Scope) (name : ℕ) (this other : Option Named) → IfLocal s name this → IfLocal s name other → IfLocal s name (or_else this other)
@@ -300,9 +306,14 @@ test_at : (s : Scope) (name : ℕ) (test : Bool) (this other : Option Named) →
 test_at s name true this other h k = h
 test_at s name false this other h k = k
 
-objects_at : (s : Scope) (name number : ℕ) (variables : List Variable) → IfLocal s name (object_named number variables name)
+object_at : (s : Scope) (name number : ℕ) (t : CType) (length : Option ℕ) → IsLocalAt s name (object_of number t length)
+object_at s name number t None = tt
+object_at s name number t (Some length) = tt
+
+objects_at : (s : Scope) (name number : ℕ) (variables : List FileVariable) → IfLocal s name (object_named number variables name)
 objects_at s name number [] = tt
-objects_at s name number (v ∷ variables) = test_at s name (name == v.name) (Some (Object number v.type)) (object_named (suc number) variables name) tt (objects_at s name (suc number) variables)
+objects_at s name number (v ∷ variables) =
+    test_at s name (name == v.name) (Some (object_of number v.type v.length)) (object_named (suc number) variables name) (object_at s name number v.type v.length) (objects_at s name (suc number) variables)
 
 meant_at : (s : Scope) (name : ℕ) (o : Option Named) → IfLocal s name o → Promises (IsLocalAt s name) (meant o)
 meant_at s name None h = tt
@@ -334,64 +345,68 @@ IsNameOf visible (e.Arrow base member span) k = ⊥
 IsNameOf visible (e.Unary operator operand span) k = ⊥
 IsNameOf visible (e.Binary operator left right span) k = ⊥
 
-abbrev pub IsTarget : Scope → Expression → CType → Option Lvalue → Type 0
-IsTarget s x type None = Unit {0}
-IsTarget s x type (Some (OfLocal k)) = (slice_get s.locals k ≡ Some type) × IsNameOf s.visible x k
-IsTarget s x type (Some (OfCell p)) = Unit {0}
+abbrev pub IsTarget : Scope → Expression → CType → Standing → Type 0
+IsTarget s x type ForNothing = Unit {0}
+IsTarget s x type ForArray = Unit {0}
+IsTarget s x type (For (OfLocal k)) = (slice_get s.locals k ≡ Some type) × IsNameOf s.visible x k
+IsTarget s x type (For (OfCell p)) = Unit {0}
 
--- an expression doesn't move a pointer, and where it is a local, it is that of its name
+-- where an expression is a local, it is that of its name
 abbrev pub IsSource : Scope → Expression → Typed → Type 0
-IsSource s x (Value type zero value place) = IsDirect value × IsTarget s x type place
+IsSource s x (Value type zero value place) = IsTarget s x type place
 IsSource s x (AStruct number place) = Unit {0}
 
-fresh_target : (s : Scope) (x : Expression) (type : CType) (place : Option Lvalue) → IsNoLocal place → IsTarget s x type place
-fresh_target s x type None h = tt
-fresh_target s x type (Some (OfLocal k)) h = absurd h
-fresh_target s x type (Some (OfCell p)) h = tt
+fresh_target : (s : Scope) (x : Expression) (type : CType) (place : Standing) → IsNoLocal place → IsTarget s x type place
+fresh_target s x type ForNothing h = tt
+fresh_target s x type ForArray h = tt
+fresh_target s x type (For (OfLocal k)) h = absurd h
+fresh_target s x type (For (OfCell p)) h = tt
 
 fresh_source : (s : Scope) (x : Expression) (t : Typed) → IsFresh t → IsSource s x t
-fresh_source s x (Value type zero value place) h = (h.0, fresh_target s x type place h.1)
+fresh_source s x (Value type zero value place) h = fresh_target s x type place h
 fresh_source s x (AStruct number place) h = tt
 
 fresh_sources : (s : Scope) (x : Expression) (v : Verdict Typed) → Promises IsFresh v → Promises (IsSource s x) v
 fresh_sources s x v h = promised_so IsFresh (IsSource s x) v h (fresh_source s x)
 
 local_source : (s : Scope) (x : Expression) (k : ℕ) (t : CType) → slice_get s.locals k ≡ Some t → IsNameOf s.visible x k → IsSource s x (local_typed k t)
-local_source s x k Int h n = (tt, (h, n))
-local_source s x k Char h n = (tt, (h, n))
+local_source s x k Int h n = (h, n)
+local_source s x k Char h n = (h, n)
 local_source s x k (Struct number) h n = tt
-local_source s x k (Pointer m d t) h n = (tt, (h, n))
+local_source s x k (Pointer m d t) h n = (h, n)
 
-name_source : (s : Scope) (name : Identifier) (x : Named) → IsLocalAt s name.number x → IsSource s (e.Name name) (name_typed x)
-name_source s name (Local k t) h = local_source s (e.Name name) k t h.0 h.1
-name_source s name (Object k t) h = fresh_source s (e.Name name) (at_place t (core.Direct k 0)) (at_place_fresh t (core.Direct k 0))
-name_source s name Nothing h = (tt, tt)
+name_source : (s : Scope) (name : Identifier) (site : Site) (x : Named) → IsLocalAt s name.number x → IsSource s (e.Name name) (name_typed s.structs x site)
+name_source s name site (Local k t) h = local_source s (e.Name name) k t h.0 h.1
+name_source s name site (Object k t) h = fresh_source s (e.Name name) (at_place t (core.Direct k 0)) (at_place_fresh t (core.Direct k 0))
+name_source s name site (Array k t n) h = tt
+name_source s name site Nothing h = tt
 
 with_bounds_source : (s : Scope) (x : Expression) (site : Site) (t : Typed) → IsSource s x t → IsSource s x (with_bounds s.structs site t)
-with_bounds_source s x site (Value type zero value place) h = (noted_direct (bounds_at s.structs type site) value h.0, h.1)
+with_bounds_source s x site (Value type zero value place) h = h
 with_bounds_source s x site (AStruct number place) h = tt
 
-constant_fresh : (value : ℕ) (zero : Bool) (span : Span) → Promises IsFresh (constant value zero span)
-constant_fresh value zero span = needs_promises IsFresh (nat_lt value (2 ^ 31)) E04 span _ (λ low. (tt, tt))
+constant_fresh : (value : ℕ) (zero : Bool) (span : Span) → Promises IsFresh (constant_typed value zero span)
+constant_fresh value zero span = needs_promises IsFresh (nat_lt value (2 ^ 31)) E04 span _ (λ low. tt)
 
 pub typed_source : (at : Places) (s : Scope) (x : Expression) → Promises (IsSource s x) (typed at s x)
-typed_source at s (e.Number value span) = fresh_sources s (e.Number value span) (constant value (value == 0) span) (constant_fresh value (value == 0) span)
-typed_source at s (e.Character value span) = fresh_sources s (e.Character value span) (constant value false span) (constant_fresh value false span)
+typed_source at s (e.Number value span) = fresh_sources s (e.Number value span) (constant_typed value (value == 0) span) (constant_fresh value (value == 0) span)
+typed_source at s (e.Character value span) = fresh_sources s (e.Character value span) (constant_typed value false span) (constant_fresh value false span)
 typed_source at s (e.Text bytes span) = tt
 typed_source at s (e.Name name) =
-    passing_promises (IsSource s (e.Name name)) (IsSource s (e.Name name)) (passing (named s name.number) (λ n. Passes (name_typed n))) _
-    (passing_promises (IsLocalAt s name.number) (IsSource s (e.Name name)) (named s name.number) _ (named_at s name.number) (name_source s name)) (with_bounds_source s (e.Name name) (site_at at name.span))
+    passing_promises (IsSource s (e.Name name)) (IsSource s (e.Name name)) (passing (named s name.number) (λ n. Passes (name_typed s.structs n (site_at at name.span)))) _
+    (passing_promises (IsLocalAt s name.number) (IsSource s (e.Name name)) (named s name.number) _ (named_at s name.number) (name_source s name (site_at at name.span))) (with_bounds_source s (e.Name name) (site_at at name.span))
 typed_source at s (e.Call callee arguments span) =
     fresh_sources s (e.Call callee arguments span) (typed at s (e.Call callee arguments span))
-    (passing_any IsFresh (all_typed at s arguments) _ (λ ts. passing_promises IsFreshCall IsFresh (called s (function_named s.functions callee.number) callee.number ts (site_at at span) span) _
-    (called_fresh s (function_named s.functions callee.number) callee.number ts (site_at at span) span) (λ c h. with_result_fresh c span h)))
-typed_source at s (e.SizeOf type span) = fresh_sources s (e.SizeOf type span) (typed at s (e.SizeOf type span)) (passing_any IsFresh (type_named s type) _ (λ t. (tt, tt)))
+    (passing_any IsFresh (all_typed at s arguments) _ (λ ts. passing_any IsFresh (called s (function_named s.functions callee.number) callee.number ts (site_at at span) span) _ (λ c. with_result_fresh c span)))
+typed_source at s (e.SizeOf type span) = fresh_sources s (e.SizeOf type span) (typed at s (e.SizeOf type span)) (passing_any IsFresh (type_named s type) _ (λ t. tt))
 typed_source at s (e.Cast word type operand span) = tt
 typed_source at s (e.BoundedCast word type operand bounds span) = tt
 typed_source at s (e.Malloc word type size span) = tt
 typed_source at s (e.Calloc word type count size span) = tt
 typed_source at s (e.Index base index span) =
-    fresh_sources s (e.Index base index span) (typed at s (e.Index base index span)) (passing_any IsFresh (typed at s base) _ (λ a. passing_any IsFresh (typed at s index) _ (λ b. indexed_fresh a b span)))
+    fresh_sources s (e.Index base index span) (typed at s (e.Index base index span))
+    (bounded_fresh s (site_at at span) (passing (typed at s base) (λ a. passing (typed at s index) (λ b. indexed a b (site_at at span) span)))
+    (passing_any IsFresh (typed at s base) _ (λ a. passing_any IsFresh (typed at s index) _ (λ b. indexed_fresh a b (site_at at span) span))))
 typed_source at s (e.Dot base member span) =
     fresh_sources s (e.Dot base member span) (typed at s (e.Dot base member span))
     (bounded_fresh s (site_at at span) (passing (typed at s base) (λ a. dotted s a member.number (site_at at span) span)) (passing_any IsFresh (typed at s base) _ (λ a. dotted_fresh s a member.number (site_at at span) span)))
@@ -403,4 +418,4 @@ typed_source at s (e.Unary operator operand span) =
     (bounded_fresh s (site_at at span) (passing (typed at s operand) (λ a. unary_typed operator a (site_at at span) span)) (passing_any IsFresh (typed at s operand) _ (λ a. unary_fresh operator a (site_at at span) span)))
 typed_source at s (e.Binary operator left right span) =
     fresh_sources s (e.Binary operator left right span) (typed at s (e.Binary operator left right span))
-    (passing_any IsFresh (typed at s left) _ (λ a. passing_any IsFresh (typed at s right) _ (λ b. binary_fresh operator a b (site_at at span) span)))
+    (passing_any IsFresh (typed at s left) _ (λ a. passing_any IsFresh (typed at s right) _ (λ b. binary_fresh s operator a b (site_at at span) span)))

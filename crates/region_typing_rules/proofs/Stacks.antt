@@ -1,10 +1,10 @@
 -- The parts of a core take few words of the stack, by the height of the tree that they come from.
 use Rattle.std.proofs.Common.{◌≡◌, ℕ, ◌+◌, ◌*◌, ◌≤◌, ◌^◌, Bool, true, false, List, [], ◌∷◌, length, Option, Some, None, refl, arith}
-use Rattle.std.specs.Prelude.{◌==◌, nat_lt, not, ◌&&◌, ◌||◌}
+use Rattle.std.specs.Prelude.{◌==◌, nat_lt, ◌&&◌}
 use Rattle.std.specs.List.{AllByRecursion}
 use Rattle.std.proofs.lemmas.Bool.{ltb-true, ltb-false}
 use Rattle.ckc_text.specs.declared.place.Span.{Span}
-use Rattle.ckc_text.specs.declared.code.Code.TheVariants.{E04, E13, E14, E19}
+use Rattle.ckc_text.specs.declared.code.Code.TheVariants.{E04, E13, E14}
 use Rattle.ckc_tree.specs.declared.expr.UnaryOperator.{UnaryOperator}
 use Rattle.ckc_tree.specs.declared.expr.UnaryOperator.TheVariants as unary
 use Rattle.ckc_tree.specs.declared.expr.BinaryOperator.{BinaryOperator}
@@ -12,6 +12,7 @@ use Rattle.ckc_tree.specs.declared.expr.BinaryOperator.TheVariants as binary
 use Rattle.ckc_tree.specs.Expressions as e
 use Rattle.ckc_tree.specs.Expressions.{Expression, Expressions}
 use Rattle.ckc_tree.specs.Heights.{Reach, deeper, ◌beside◌, inside, around, type_reach, expression_reach, expressions_reach}
+use Rattle.pointer_modes.specs.declared.ctype.Kind.TheVariants as kinds
 use Rattle.pointer_modes.specs.Types.{CType, Int, Char, Struct, Pointer, Structure, members_of}
 use Rattle.pointer_modes.specs.Layout.{cells_of}
 use Rattle.ckc_core.specs.declared.program.Site.{Site}
@@ -23,15 +24,17 @@ use Rattle.act_words.specs.declared.operator.Comparison.{Comparison}
 use Rattle.act_words.specs.declared.operator.Comparison.TheVariants as comparisons
 use Rattle.ckc_core.specs.declared.program.Callee.{Callee}
 use Rattle.ckc_core.specs.declared.program.PointerBounds.{PointerBounds}
+use Rattle.ckc_core.specs.declared.program.Direction.{Direction}
+use Rattle.ckc_core.specs.declared.program.Direction.TheVariants as directions
 use Rattle.ckc_core.specs.Core as core
 use Rattle.ckc_core.specs.Stacks.{offset_stack, expression_stack, arguments_stack, place_stack, statement_stack}
 use Rattle.ckc_names_rules.specs.declared.given.Given.{Given}
-use Rattle.region_typing_rules.specs.Verdicts.{Verdict, Passes, passing, breaks}
-use Rattle.region_typing_rules.specs.Scopes.{Scope, Signature, Named, Local, Object, Nothing, named, function_named, members_named}
+use Rattle.region_typing_rules.specs.Verdicts.{Verdict, Passes, passing}
+use Rattle.region_typing_rules.specs.Scopes.{Scope, Signature, Named, Local, Object, Array, Nothing, named, function_named, members_named}
 use Rattle.region_typing_rules.specs.Types.{type_named, is_number, is_pointer, are_comparable, converts}
-use Rattle.region_typing_rules.specs.Expressions.{Places, Lvalue, OfLocal, OfCell, Typed, Value, AStruct, Called, Gives, GivesNothing, site_at, bounds_at, noted, with_bounds, bounded, number, at_place, local_typed, name_typed, member_place, member_from, offset_among, member_at, dotted, pointed_by, arrowed, pointed_at, dereferenced, pointer_to, address, number_of, scalar_of, unary_typed, is_pointer_value, two_numbers, two_scalars, summands, as_pointer, equated_values, equated, ordered_values, ordered, arithmetic, binary_typed, indexed, in_type, converted, arguments_as, is_import, call_of, declared_callee, first_of, writes, predefined_call, called, with_result, typed, all_typed, call_typed}
+use Rattle.region_typing_rules.specs.Expressions.{Places, OfLocal, OfCell, Standing, ForNothing, ForArray, For, Typed, Value, AStruct, Called, Gives, GivesNothing, site_at, bounds_at, noted, noted_if, with_bounds, sum_node, bounded, plain, number, at_place, local_typed, name_typed, member_place, member_from, offset_among, member_at, dotted, first_element, pointed_by, arrowed, pointed_at, dereferenced, pointer_to, address, number_of, scalar_of, unary_typed, two_numbers, two_scalars, operator_along, summed, sum_typed, as_pointer, equated_values, equated, ordered_values, ordered, arithmetic, binary_typed, element_at, indexed, in_type, converted, arguments_as, is_import, call_of, declared_callee, first_of, writes, predefined_call, called, with_result, typed, all_typed, call_typed}
 use Rattle.region_typing_rules.proofs.Knowledge.{crossing_promises}
-use Rattle.region_typing_rules.proofs.Verdicts.{Promises, passing_promises, needs_promises, anything_promised, promised_so}
+use Rattle.region_typing_rules.proofs.Verdicts.{Promises, passing_promises, needs_promises, anything_promised, promised_so, elements_promise, apart_promises, all_met_promise}
 use Rattle.region_typing_rules.proofs.Signatures.{named_has}
 
 -- ---- heights
@@ -59,14 +62,15 @@ around_higher start parts = by parts.height
 
 -- ---- what an expression is takes so many words at most
 
-abbrev pub LowPlace : ℕ → Option Lvalue → Type 0
-LowPlace n None = Unit {0}
-LowPlace n (Some (OfLocal k)) = Unit {0}
-LowPlace n (Some (OfCell p)) = place_stack p ≤ n
+abbrev pub LowPlace : ℕ → Standing → Type 0
+LowPlace n ForNothing = Unit {0}
+LowPlace n ForArray = Unit {0}
+LowPlace n (For (OfLocal k)) = Unit {0}
+LowPlace n (For (OfCell p)) = place_stack p ≤ n
 
 abbrev pub Low : ℕ → Typed → Type 0
 Low n (Value type zero value place) = (expression_stack value ≤ n) × LowPlace n place
-Low n (AStruct number place) = LowPlace n (Some place)
+Low n (AStruct number place) = LowPlace n (For place)
 
 abbrev pub LowCall : ℕ → Called → Type 0
 LowCall n (Gives type value) = expression_stack value ≤ n
@@ -75,14 +79,15 @@ LowCall n (GivesNothing call) = statement_stack call ≤ n
 abbrev pub IsLow : ℕ → core.Expression → Type 0
 IsLow n v = expression_stack v ≤ n
 
-low_place_more : (n m : ℕ) (place : Option Lvalue) → n ≤ m → LowPlace n place → LowPlace m place
-low_place_more n m None le h = tt
-low_place_more n m (Some (OfLocal k)) le h = tt
-low_place_more n m (Some (OfCell p)) le h = omega arith
+low_place_more : (n m : ℕ) (place : Standing) → n ≤ m → LowPlace n place → LowPlace m place
+low_place_more n m ForNothing le h = tt
+low_place_more n m ForArray le h = tt
+low_place_more n m (For (OfLocal k)) le h = tt
+low_place_more n m (For (OfCell p)) le h = omega arith
 
 pub low_more : (n m : ℕ) (t : Typed) → n ≤ m → Low n t → Low m t
 low_more n m (Value type zero value place) le h = let first = h.0 in (omega arith, low_place_more n m place le h.1)
-low_more n m (AStruct number place) le h = low_place_more n m (Some place) le h
+low_more n m (AStruct number place) le h = low_place_more n m (For place) le h
 
 -- bounds are no code
 noted_low : (b : Option PointerBounds) (v : core.Expression) → expression_stack (noted b v) ≡ expression_stack v
@@ -107,8 +112,12 @@ noted_low b (core.Order comparison left right site) = refl
 noted_low b (core.Allocate count element bounds) = refl
 noted_low b (core.Cast pointer bounds) = refl
 
+noted_if_low : (b : Option PointerBounds) (v : core.Expression) → expression_stack (noted_if b v) ≡ expression_stack v
+noted_if_low None v = refl
+noted_if_low (Some p) v = noted_low (Some p) v
+
 with_bounds_low : (n : ℕ) (s : Scope) (site : Site) (t : Typed) → Low n t → Low n (with_bounds s.structs site t)
-with_bounds_low n s site (Value type zero value place) h = let first = h.0 in (omega (arith, noted_low (bounds_at s.structs type site) value), h.1)
+with_bounds_low n s site (Value type zero value place) h = let first = h.0 in (omega (arith, noted_if_low (bounds_at s.structs type site) value), h.1)
 with_bounds_low n s site (AStruct number place) h = h
 
 bounded_low : (n : ℕ) (s : Scope) (site : Site) (v : Verdict Typed) → Promises (Low n) v → Promises (Low n) (bounded s site v)
@@ -132,10 +141,11 @@ local_low n k Char h = (h, tt)
 local_low n k (Struct number) h = tt
 local_low n k (Pointer m d t) h = (h, tt)
 
-name_low : (n : ℕ) (x : Named) → 2 ≤ n → Low n (name_typed x)
-name_low n (Local k t) h = local_low n k t (omega arith)
-name_low n (Object k t) h = at_place_low n t (core.Direct k 0) (omega arith)
-name_low n Nothing h = (omega arith, tt)
+name_low : (n : ℕ) (structs : List Structure) (x : Named) (site : Site) → 2 ≤ n → Low n (name_typed structs x site)
+name_low n structs (Local k t) site h = local_low n k t (omega arith)
+name_low n structs (Object k t) site h = at_place_low n t (core.Direct k 0) (omega arith)
+name_low n structs (Array k t length) site h = (omega arith, tt)
+name_low n structs Nothing site h = (omega arith, tt)
 
 member_place_low : (n : ℕ) (p : core.Place) (offset : ℕ) (site : Site) → 2 ≤ n → place_stack p ≤ n → place_stack (member_place p offset site) ≤ n
 member_place_low n (core.Direct object first) offset site two h = omega (arith, offset_low (first + offset))
@@ -146,21 +156,24 @@ pointer_low n t (core.Direct object offset) site h = (h, tt)
 pointer_low n t (core.Through pointer index offset before) site h = (h, tt)
 
 address_low : (n : ℕ) (a : Typed) (site : Site) (span : Span) → Low n a → Promises (Low n) (address a site span)
-address_low n (Value type zero value None) site span h = tt
-address_low n (Value type zero value (Some (OfLocal k))) site span h = tt
-address_low n (Value type zero value (Some (OfCell p))) site span h = pointer_low n type p site h.1
+address_low n (Value type zero value ForNothing) site span h = tt
+address_low n (Value type zero value ForArray) site span h = tt
+address_low n (Value type zero value (For (OfLocal k))) site span h = tt
+address_low n (Value type zero value (For (OfCell p))) site span h = pointer_low n type p site h.1
 address_low n (AStruct number (OfLocal k)) site span h = tt
 address_low n (AStruct number (OfCell p)) site span h = pointer_low n (Struct number) p site h
 
-pointed_low : (n : ℕ) (t : CType) (value : core.Expression) (site : Site) (span : Span) → 2 ≤ n → IsLow n value → Promises (Low n) (pointed_at t value site span)
-pointed_low n Int value site span two h = tt
-pointed_low n Char value site span two h = tt
-pointed_low n (Struct number) value site span two h = tt
-pointed_low n (Pointer m k t) value site span two h = at_place_low n t (core.Through value core.First 0 site) (omega arith)
+pointed_low : (n : ℕ) (t : CType) (value : core.Expression) (site : Site) (span : Span) → 6 ≤ n → IsLow n value → Promises (Low n) (pointed_at t value site span)
+pointed_low n Int value site span six h = tt
+pointed_low n Char value site span six h = tt
+pointed_low n (Struct number) value site span six h = tt
+pointed_low n (Pointer m kinds.One t) value site span six h = at_place_low n t (core.Through value core.First 0 site) (omega arith)
+pointed_low n (Pointer m kinds.Array t) value site span six h = elements_promise (Low n) value span _ (at_place_low n t (first_element value site) (omega arith))
+pointed_low n (Pointer m kinds.Nt t) value site span six h = tt
 
-dereferenced_low : (n : ℕ) (a : Typed) (site : Site) (span : Span) → 2 ≤ n → Low n a → Promises (Low n) (dereferenced a site span)
-dereferenced_low n (Value type zero value place) site span two h = pointed_low n type value site span two h.0
-dereferenced_low n (AStruct number place) site span two h = tt
+dereferenced_low : (n : ℕ) (a : Typed) (site : Site) (span : Span) → 6 ≤ n → Low n a → Promises (Low n) (dereferenced a site span)
+dereferenced_low n (Value type zero value place) site span six h = pointed_low n type value site span six h.0
+dereferenced_low n (AStruct number place) site span six h = tt
 
 member_at_low : (n : ℕ) (s : Scope) (struct : ℕ) (p : core.Place) (name : ℕ) (site : Site) (span : Span) → 2 ≤ n → place_stack p ≤ n → Promises (Low n) (member_at s struct p name site span)
 member_at_low n s struct p name site span two h = by (member_from 0 (members_named s struct) (members_of s.structs struct) name) refl
@@ -174,18 +187,25 @@ dotted_low n s (Value type zero value place) name site span two h = tt
 dotted_low n s (AStruct number (OfLocal k)) name site span two h = member_at_low n s number (core.Through (core.Local k None) core.First 0 site) name site span two (omega arith)
 dotted_low n s (AStruct number (OfCell p)) name site span two h = member_at_low n s number p name site span two h
 
-pointed_by_low : (n : ℕ) (s : Scope) (t : CType) (value : core.Expression) (name : ℕ) (site : Site) (span : Span) → 2 ≤ n → IsLow n value → Promises (Low n) (pointed_by s t value name site span)
-pointed_by_low n s Int value name site span two h = tt
-pointed_by_low n s Char value name site span two h = tt
-pointed_by_low n s (Struct number) value name site span two h = tt
-pointed_by_low n s (Pointer m k Int) value name site span two h = tt
-pointed_by_low n s (Pointer m k Char) value name site span two h = tt
-pointed_by_low n s (Pointer m k (Pointer m' k' t)) value name site span two h = tt
-pointed_by_low n s (Pointer m k (Struct number)) value name site span two h = member_at_low n s number (core.Through value core.First 0 site) name site span two (omega arith)
+pointed_by_low : (n : ℕ) (s : Scope) (t : CType) (value : core.Expression) (name : ℕ) (site : Site) (span : Span) → 6 ≤ n → IsLow n value → Promises (Low n) (pointed_by s t value name site span)
+pointed_by_low n s Int value name site span six h = tt
+pointed_by_low n s Char value name site span six h = tt
+pointed_by_low n s (Struct number) value name site span six h = tt
+pointed_by_low n s (Pointer m kinds.One Int) value name site span six h = tt
+pointed_by_low n s (Pointer m kinds.One Char) value name site span six h = tt
+pointed_by_low n s (Pointer m kinds.One (Pointer m' k' t)) value name site span six h = tt
+pointed_by_low n s (Pointer m kinds.One (Struct number)) value name site span six h = member_at_low n s number (core.Through value core.First 0 site) name site span (omega arith) (omega arith)
+pointed_by_low n s (Pointer m kinds.Array Int) value name site span six h = tt
+pointed_by_low n s (Pointer m kinds.Array Char) value name site span six h = tt
+pointed_by_low n s (Pointer m kinds.Array (Pointer m' k' t)) value name site span six h = tt
+pointed_by_low n s (Pointer m kinds.Array (Struct number)) value name site span six h =
+    passing_promises (Low n) (Low n) (member_at s number (first_element value site) name site span) _ (member_at_low n s number (first_element value site) name site span (omega arith) (omega arith))
+    (λ t low. elements_promise (Low n) value span (Passes t) low)
+pointed_by_low n s (Pointer m kinds.Nt t) value name site span six h = tt
 
-arrowed_low : (n : ℕ) (s : Scope) (a : Typed) (name : ℕ) (site : Site) (span : Span) → 2 ≤ n → Low n a → Promises (Low n) (arrowed s a name site span)
-arrowed_low n s (Value type zero value place) name site span two h = pointed_by_low n s type value name site span two h.0
-arrowed_low n s (AStruct number place) name site span two h = tt
+arrowed_low : (n : ℕ) (s : Scope) (a : Typed) (name : ℕ) (site : Site) (span : Span) → 6 ≤ n → Low n a → Promises (Low n) (arrowed s a name site span)
+arrowed_low n s (Value type zero value place) name site span six h = pointed_by_low n s type value name site span six h.0
+arrowed_low n s (AStruct number place) name site span six h = tt
 
 -- ---- operators
 
@@ -197,12 +217,12 @@ pub scalar_of_low : {A : Type 0} (Q : A → Type 0) (n : ℕ) (a : Typed) (span 
 scalar_of_low Q n (Value type zero value place) span next h more = more value h.0
 scalar_of_low Q n (AStruct number place) span next h more = tt
 
-unary_low : (n : ℕ) (operator : UnaryOperator) (a : Typed) (site : Site) (span : Span) → 2 ≤ n → Low n a → Promises (Low n) (unary_typed operator a site span)
-unary_low n unary.Deref a site span two h = dereferenced_low n a site span two h
-unary_low n unary.AddressOf a site span two h = address_low n a site span h
-unary_low n unary.Negate a site span two h = number_of_low (Low n) n a span (λ v. number (core.Negate v site)) h (λ v low. (low, tt))
-unary_low n unary.Not a site span two h = scalar_of_low (Low n) n a span (λ v. number (core.Not v)) h (λ v low. (low, tt))
-unary_low n unary.Complement a site span two h = number_of_low (Low n) n a span (λ v. number (core.Complement v)) h (λ v low. (low, tt))
+unary_low : (n : ℕ) (operator : UnaryOperator) (a : Typed) (site : Site) (span : Span) → 6 ≤ n → Low n a → Promises (Low n) (unary_typed operator a site span)
+unary_low n unary.Deref a site span six h = dereferenced_low n a site span six h
+unary_low n unary.AddressOf a site span six h = address_low n a site span h
+unary_low n unary.Negate a site span six h = number_of_low (Low n) n a span (λ v. number (core.Negate v site)) h (λ v low. (low, tt))
+unary_low n unary.Not a site span six h = scalar_of_low (Low n) n a span (λ v. number (core.Not v)) h (λ v low. (low, tt))
+unary_low n unary.Complement a site span six h = number_of_low (Low n) n a span (λ v. number (core.Complement v)) h (λ v low. (low, tt))
 
 pub two_low : {A : Type 0} (Q : A → Type 0) (n : ℕ) (a b : Typed) (span : Span) (next : core.Expression → core.Expression → Verdict A) → Low n a → Low n b → ((v w : core.Expression) → IsLow n v → IsLow n w → Promises Q (next v w)) → Promises Q (two_numbers a b span next)
 two_low Q n a b span next ha hb more = number_of_low Q n a span _ ha (λ v low. number_of_low Q n b span _ hb (λ w low'. more v w low low'))
@@ -210,8 +230,17 @@ two_low Q n a b span next ha hb more = number_of_low Q n a span _ ha (λ v low. 
 arithmetic_low : (n : ℕ) (operator : Operator) (a b : Typed) (site : Site) (span : Span) → Low n a → Low n b → Promises (Low (n + 1)) (two_numbers a b span (arithmetic operator site))
 arithmetic_low n operator a b site span ha hb = two_low (Low (n + 1)) n a b span (arithmetic operator site) ha hb (λ v w low low'. (omega arith, tt))
 
-sum_low : (n : ℕ) (operator : Operator) (a b : Typed) (site : Site) (span : Span) → Low n a → Low n b → Promises (Low (n + 1)) (summands a b span (arithmetic operator site))
-sum_low n operator a b site span ha hb = needs_promises (Low (n + 1)) (not (is_pointer_value a || is_pointer_value b)) E19 span _ (λ x. arithmetic_low n operator a b site span ha hb)
+summed_low : (n : ℕ) (s : Scope) (direction : Direction) (a b : Typed) (site : Site) (span : Span) → 6 ≤ n → Low n a → Low n b → Promises (Low (n + 1)) (summed s direction a b site span)
+summed_low n s direction (Value (Pointer m k t) zero pointer place) b site span six ha hb =
+    let low = ha.0 in
+    number_of_low (Low (n + 1)) n b span (λ w. plain (Pointer m k t) (core.Sum pointer direction w site (sum_node s.locals direction pointer w site))) hb (λ w low'. (omega arith, tt))
+summed_low n s direction (Value Int zero value place) b site span six ha hb = arithmetic_low n (operator_along direction) (Value Int zero value place) b site span ha hb
+summed_low n s direction (Value Char zero value place) b site span six ha hb = arithmetic_low n (operator_along direction) (Value Char zero value place) b site span ha hb
+summed_low n s direction (Value (Struct k) zero value place) b site span six ha hb = tt
+summed_low n s direction (AStruct k place) b site span six ha hb = tt
+
+sum_low : (n : ℕ) (s : Scope) (direction : Direction) (a b : Typed) (site : Site) (span : Span) → 6 ≤ n → Low n a → Low n b → Promises (Low (n + 1)) (sum_typed s direction a b site span)
+sum_low n s direction a b site span six ha hb = apart_promises (Low (n + 1)) a b span _ (summed_low n s direction a b site span six ha hb)
 
 truths_low : (n : ℕ) (of : core.Expression → core.Expression → core.Expression) (a b : Typed) (span : Span) → Low n a → Low n b → ((v w : core.Expression) → IsLow n v → IsLow n w → IsLow (n + 1) (of v w)) → Promises (Low (n + 1)) (two_scalars a b span (λ v w. number (of v w)))
 truths_low n of a b span ha hb h = scalar_of_low (Low (n + 1)) n a span _ ha (λ v low. scalar_of_low (Low (n + 1)) n b span _ hb (λ w low'. (h v w low low', tt)))
@@ -244,30 +273,39 @@ order_low n comparison (Value t z v p) (Value u y w q) span ha hb = ordered_low 
 order_low n comparison (Value t z v p) (AStruct k q) span ha hb = tt
 order_low n comparison (AStruct k p) b span ha hb = tt
 
-binary_low : (n : ℕ) (operator : BinaryOperator) (a b : Typed) (site : Site) (span : Span) → 2 ≤ n → Low n a → Low n b → Promises (Low (n + 1)) (binary_typed operator a b site span)
-binary_low n binary.Or a b site span two ha hb = truths_low n core.OrElse a b span ha hb (λ v w low low'. omega arith)
-binary_low n binary.And a b site span two ha hb = truths_low n core.AndAlso a b span ha hb (λ v w low low'. omega arith)
-binary_low n binary.BitOr a b site span two ha hb = arithmetic_low n (operators.Bitwise bits.Or) a b site span ha hb
-binary_low n binary.BitXor a b site span two ha hb = arithmetic_low n (operators.Bitwise bits.Xor) a b site span ha hb
-binary_low n binary.BitAnd a b site span two ha hb = arithmetic_low n (operators.Bitwise bits.And) a b site span ha hb
-binary_low n binary.Equal a b site span two ha hb = passing_promises (IsLow (n + 1)) (Low (n + 1)) (equated a b span) number (equal_low n a b span two ha hb) (λ v low. (low, tt))
-binary_low n binary.NotEqual a b site span two ha hb = passing_promises (IsLow (n + 1)) (Low (n + 1)) (equated a b span) (λ v. number (core.Not v)) (equal_low n a b span two ha hb) (λ v low. (low, tt))
-binary_low n binary.Less a b site span two ha hb = order_low n comparisons.Less a b span ha hb
-binary_low n binary.LessEqual a b site span two ha hb = order_low n comparisons.LessEqual a b span ha hb
-binary_low n binary.Greater a b site span two ha hb = order_low n comparisons.Greater a b span ha hb
-binary_low n binary.GreaterEqual a b site span two ha hb = order_low n comparisons.GreaterEqual a b span ha hb
-binary_low n binary.ShiftLeft a b site span two ha hb = arithmetic_low n (operators.Arithmetic arithmetics.ShiftLeft) a b site span ha hb
-binary_low n binary.ShiftRight a b site span two ha hb = arithmetic_low n (operators.Arithmetic arithmetics.ShiftRight) a b site span ha hb
-binary_low n binary.Add a b site span two ha hb = sum_low n (operators.Arithmetic arithmetics.Add) a b site span ha hb
-binary_low n binary.Subtract a b site span two ha hb = sum_low n (operators.Arithmetic arithmetics.Subtract) a b site span ha hb
-binary_low n binary.Multiply a b site span two ha hb = arithmetic_low n (operators.Arithmetic arithmetics.Multiply) a b site span ha hb
-binary_low n binary.Divide a b site span two ha hb = arithmetic_low n (operators.Arithmetic arithmetics.Divide) a b site span ha hb
-binary_low n binary.Remainder a b site span two ha hb = arithmetic_low n (operators.Arithmetic arithmetics.Remainder) a b site span ha hb
+binary_low : (n : ℕ) (s : Scope) (operator : BinaryOperator) (a b : Typed) (site : Site) (span : Span) → 6 ≤ n → Low n a → Low n b → Promises (Low (n + 1)) (binary_typed s operator a b site span)
+binary_low n s binary.Or a b site span six ha hb = truths_low n core.OrElse a b span ha hb (λ v w low low'. omega arith)
+binary_low n s binary.And a b site span six ha hb = truths_low n core.AndAlso a b span ha hb (λ v w low low'. omega arith)
+binary_low n s binary.BitOr a b site span six ha hb = arithmetic_low n (operators.Bitwise bits.Or) a b site span ha hb
+binary_low n s binary.BitXor a b site span six ha hb = arithmetic_low n (operators.Bitwise bits.Xor) a b site span ha hb
+binary_low n s binary.BitAnd a b site span six ha hb = arithmetic_low n (operators.Bitwise bits.And) a b site span ha hb
+binary_low n s binary.Equal a b site span six ha hb = passing_promises (IsLow (n + 1)) (Low (n + 1)) (equated a b span) number (equal_low n a b span (omega arith) ha hb) (λ v low. (low, tt))
+binary_low n s binary.NotEqual a b site span six ha hb = passing_promises (IsLow (n + 1)) (Low (n + 1)) (equated a b span) (λ v. number (core.Not v)) (equal_low n a b span (omega arith) ha hb) (λ v low. (low, tt))
+binary_low n s binary.Less a b site span six ha hb = order_low n comparisons.Less a b span ha hb
+binary_low n s binary.LessEqual a b site span six ha hb = order_low n comparisons.LessEqual a b span ha hb
+binary_low n s binary.Greater a b site span six ha hb = order_low n comparisons.Greater a b span ha hb
+binary_low n s binary.GreaterEqual a b site span six ha hb = order_low n comparisons.GreaterEqual a b span ha hb
+binary_low n s binary.ShiftLeft a b site span six ha hb = arithmetic_low n (operators.Arithmetic arithmetics.ShiftLeft) a b site span ha hb
+binary_low n s binary.ShiftRight a b site span six ha hb = arithmetic_low n (operators.Arithmetic arithmetics.ShiftRight) a b site span ha hb
+binary_low n s binary.Add a b site span six ha hb = sum_low n s directions.Forward a b site span six ha hb
+binary_low n s binary.Subtract a b site span six ha hb = sum_low n s directions.Backward a b site span six ha hb
+binary_low n s binary.Multiply a b site span six ha hb = arithmetic_low n (operators.Arithmetic arithmetics.Multiply) a b site span ha hb
+binary_low n s binary.Divide a b site span six ha hb = arithmetic_low n (operators.Arithmetic arithmetics.Divide) a b site span ha hb
+binary_low n s binary.Remainder a b site span six ha hb = arithmetic_low n (operators.Arithmetic arithmetics.Remainder) a b site span ha hb
 
-indexed_low : (n : ℕ) (a b : Typed) (span : Span) → Promises (Low n) (indexed a b span)
-indexed_low n (Value t z v p) (Value u y w q) span = needs_promises (Low n) (is_pointer t && is_number u) E13 span (breaks E19 span) (λ x. tt)
-indexed_low n (Value t z v p) (AStruct k q) span = tt
-indexed_low n (AStruct k p) b span = tt
+element_low : (n : ℕ) (t : CType) (pointer number : core.Expression) (site : Site) (span : Span) → 6 ≤ n → IsLow n pointer → IsLow n number → Promises (Low (n + 1)) (element_at t pointer number site span)
+element_low n Int pointer number site span six hp hn = tt
+element_low n Char pointer number site span six hp hn = tt
+element_low n (Struct k) pointer number site span six hp hn = tt
+element_low n (Pointer m kinds.One t) pointer number site span six hp hn = tt
+element_low n (Pointer m kinds.Array t) pointer number site span six hp hn =
+    elements_promise (Low (n + 1)) pointer span _ (at_place_low (n + 1) t (core.Through pointer (core.Element number) 0 site) (omega arith))
+element_low n (Pointer m kinds.Nt t) pointer number site span six hp hn = tt
+
+indexed_low : (n : ℕ) (a b : Typed) (site : Site) (span : Span) → 6 ≤ n → Low n a → Low n b → Promises (Low (n + 1)) (indexed a b site span)
+indexed_low n (Value t z v p) (Value u y w q) site span six ha hb = needs_promises (Low (n + 1)) (is_pointer t && is_number u) E13 span _ (λ x. element_low n t v w site span six ha.0 hb.0)
+indexed_low n (Value t z v p) (AStruct k q) site span six ha hb = tt
+indexed_low n (AStruct k p) b site span six ha hb = tt
 
 -- ---- conversions and calls
 
@@ -343,7 +381,8 @@ module _ (s : Scope) (few : AllByRecursion HasFew s.functions) where
       needs_promises (LowCall (n + 16)) (length f.parameters == length arguments) E14 span _
       (λ many. crossing_promises (LowCall (n + 16)) (is_import f) arguments _
       (passing_promises (λ (values : core.Arguments). arguments_stack values ≤ n + length f.parameters) (LowCall (n + 16)) (arguments_as arguments f.parameters) _ (arguments_low n arguments f.parameters one all)
-      (λ values h. let least = named_has HasFew s.functions name f few found in call_low (n + 16) f.result (declared_callee s f site) values site s.structs (omega arith) (omega arith))))
+      (λ values h. let least = named_has HasFew s.functions name f few found in
+      all_met_promise (LowCall (n + 16)) s.flow arguments f.parameters _ (call_low (n + 16) f.result (declared_callee s f site) values site s.structs (omega arith) (omega arith)))))
 
   -- ---- the walk
 
@@ -353,7 +392,7 @@ module _ (s : Scope) (few : AllByRecursion HasFew s.functions) where
     typed_low at (e.Number value span) n h = needs_promises (Low n) (nat_lt value (2 ^ 31)) E04 span _ (λ low. (omega arith, tt))
     typed_low at (e.Character value span) n h = needs_promises (Low n) (nat_lt value (2 ^ 31)) E04 span _ (λ low. (omega arith, tt))
     typed_low at (e.Text bytes span) n h = tt
-    typed_low at (e.Name name) n h = bounded_low n s (site_at at name.span) (passing (named s name.number) (λ x. Passes (name_typed x))) (passing_promises (λ (x : Named). Unit {0}) (Low n) (named s name.number) _ (anything_promised (named s name.number)) (λ x _. name_low n x (omega arith)))
+    typed_low at (e.Name name) n h = bounded_low n s (site_at at name.span) (passing (named s name.number) (λ x. Passes (name_typed s.structs x (site_at at name.span)))) (passing_promises (λ (x : Named). Unit {0}) (Low n) (named s name.number) _ (anything_promised (named s name.number)) (λ x _. name_low n s.structs x (site_at at name.span) (omega arith)))
     typed_low at (e.Call callee arguments span) n h =
         let parts = expressions_reach arguments in
         let higher = around_higher span.from parts in
@@ -371,8 +410,17 @@ module _ (s : Scope) (few : AllByRecursion HasFew s.functions) where
     typed_low at (e.Malloc word type size span) n h = tt
     typed_low at (e.Calloc word type count size span) n h = tt
     typed_low at (e.Index base index span) n h =
-        passing_promises (λ (t : Typed). Unit {0}) (Low n) (typed at s base) _ (anything_promised (typed at s base))
-        (λ a _. passing_promises (λ (t : Typed). Unit {0}) (Low n) (typed at s index) _ (anything_promised (typed at s index)) (λ b _. indexed_low n a b span))
+        let first = expression_reach base in
+        let second = expression_reach index in
+        let higher = around_higher span.from (first beside second) in
+        let one = beside_first first second in
+        let two = beside_second first second in
+        let m = 17 * (first beside second).height + 6 in
+        let room : m + 1 ≤ n = omega arith in
+        bounded_low n s (site_at at span) (passing (typed at s base) (λ a. passing (typed at s index) (λ b. indexed a b (site_at at span) span)))
+        (passing_promises (Low m) (Low n) (typed at s base) _ (typed_low at base m (omega arith))
+        (λ a ha. passing_promises (Low m) (Low n) (typed at s index) _ (typed_low at index m (omega arith))
+        (λ b hb. promised_so (Low (m + 1)) (Low n) (indexed a b (site_at at span) span) (indexed_low m a b (site_at at span) span (omega arith) ha hb) (λ t. low_more (m + 1) n t room))))
     typed_low at (e.Dot base member span) n h =
         let higher = around_higher span.from (expression_reach base) in
         bounded_low n s (site_at at span) (passing (typed at s base) (λ a. dotted s a member.number (site_at at span) span)) (passing_promises (Low n) (Low n) (typed at s base) _ (typed_low at base n (omega arith)) (λ a low. dotted_low n s a member.number (site_at at span) span (omega arith) low))
@@ -388,11 +436,11 @@ module _ (s : Scope) (few : AllByRecursion HasFew s.functions) where
         let higher = around_higher span.from (first beside second) in
         let one = beside_first first second in
         let two = beside_second first second in
-        let m = 17 * (first beside second).height + 2 in
+        let m = 17 * (first beside second).height + 6 in
         let room : m + 1 ≤ n = omega arith in
         passing_promises (Low m) (Low n) (typed at s left) _ (typed_low at left m (omega arith))
         (λ a ha. passing_promises (Low m) (Low n) (typed at s right) _ (typed_low at right m (omega arith))
-        (λ b hb. promised_so (Low (m + 1)) (Low n) (binary_typed operator a b (site_at at span) span) (binary_low m operator a b (site_at at span) span (omega arith) ha hb) (λ t. low_more (m + 1) n t room)))
+        (λ b hb. promised_so (Low (m + 1)) (Low n) (binary_typed s operator a b (site_at at span) span) (binary_low m s operator a b (site_at at span) span (omega arith) ha hb) (λ t. low_more (m + 1) n t room)))
 
     all_low : (at : Places) (xs : Expressions) (n : ℕ) → 17 * (expressions_reach xs).height ≤ n → Promises (AllLow n) (all_typed at s xs)
     all_low at e.NoMore n h = tt

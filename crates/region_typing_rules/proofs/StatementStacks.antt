@@ -1,9 +1,10 @@
 -- The statements of a core take few words of the stack, by the height of the tree that they come from.
 use Rattle.std.proofs.Common.{ℕ, ◌+◌, ◌*◌, ◌≤◌, true, List, [], ◌∷◌, length, Option, Some, None, subst, arith}
 use Rattle.std.specs.Prelude.{nat_lt, not, ◌||◌}
+use Rattle.bounds_flow.specs.Flows.{Knowledge}
 use Rattle.std.specs.List.{AllByRecursion}
 use Rattle.ckc_text.specs.declared.place.Span.{Span}
-use Rattle.ckc_text.specs.declared.code.Code.TheVariants.{E08, E13, E15, E19, E30}
+use Rattle.ckc_text.specs.declared.code.Code.TheVariants.{E08, E13, E15, E30}
 use Rattle.ckc_tree.specs.declared.stmt.StoreOperator.{StoreOperator}
 use Rattle.ckc_tree.specs.declared.stmt.StoreOperator.TheVariants as stores
 use Rattle.ckc_tree.specs.Types.{TypeTree}
@@ -20,12 +21,12 @@ use Rattle.ckc_core.specs.Core as core
 use Rattle.ckc_core.specs.Stacks.{expression_stack, statement_stack, statements_stack}
 use Rattle.region_typing_rules.specs.Verdicts.{Verdict, Passes}
 use Rattle.region_typing_rules.specs.Scopes.{Scope}
-use Rattle.region_typing_rules.specs.Types.{is_pointer, is_scalar, without_stars, base_type}
-use Rattle.region_typing_rules.specs.Expressions.{Places, Typed, Value, AStruct, Called, Gives, GivesNothing, Lvalue, OfLocal, OfCell, site_at, typed, call_typed, is_pointer_value}
+use Rattle.region_typing_rules.specs.Types.{is_scalar, without_stars, base_type}
+use Rattle.region_typing_rules.specs.Expressions.{Places, Typed, Value, AStruct, Called, Gives, GivesNothing, Lvalue, OfLocal, OfCell, ForNothing, ForArray, For, site_at, typed, call_typed}
 use Rattle.region_typing_rules.specs.Statements.{Walked, store, update, assigned, set_to, updated, stored, step_of, one, assignment, assigning, zero_value, with_local, initialised, declarator, declarators, declaration, at_alternative, before_step, in_loop, is_unchecked, condition, optional_condition, optional_step, first_part, alone, returned, returned_nothing, return, statement, statements}
 use Rattle.region_typing_rules.specs.Knowing.{when, at_loop}
 use Rattle.region_typing_rules.proofs.Assigning.{assigning_promises, declared_promises}
-use Rattle.region_typing_rules.proofs.Verdicts.{Promises, passing_promises, needs_promises, anything_promised, promised_so, both_promise}
+use Rattle.region_typing_rules.proofs.Verdicts.{Promises, passing_promises, needs_promises, anything_promised, promised_so, both_promise, apart_promises, met_promises}
 use Rattle.region_typing_rules.proofs.Growth.{Grows, GrowsTo, IsNamedIn, named_further, base_named, alternative_grows, step_grows, declarator_grows, first_grows, statement_grows}
 use Rattle.region_typing_rules.proofs.Stacks.{beside_first, beside_second, around_higher, Low, LowPlace, LowCall, IsLow, HasFew, scalar_of_low, two_low, converted_low, typed_low, call_typed_low}
 
@@ -34,38 +35,39 @@ IsLowStatement n x = statement_stack x ≤ n
 
 -- ---- assignments, whose parts take n words, and which take two more
 
-assigned_low : (Q : core.Statement → Type 0) (n : ℕ) (target : Typed) (span : Span) (next : CType → Lvalue → Verdict core.Statement) → Low n target → ((type : CType) (place : Lvalue) → LowPlace n (Some place) → Promises Q (next type place)) → Promises Q (assigned target span next)
-assigned_low Q n (Value type zero value None) span next h more = tt
-assigned_low Q n (Value type zero value (Some place)) span next h more = more type place h.1
+assigned_low : (Q : core.Statement → Type 0) (n : ℕ) (target : Typed) (span : Span) (next : CType → Lvalue → Verdict core.Statement) → Low n target → ((type : CType) (place : Lvalue) → LowPlace n (For place) → Promises Q (next type place)) → Promises Q (assigned target span next)
+assigned_low Q n (Value type zero value ForNothing) span next h more = tt
+assigned_low Q n (Value type zero value ForArray) span next h more = tt
+assigned_low Q n (Value type zero value (For place)) span next h more = more type place h.1
 assigned_low Q n (AStruct number place) span next h more = tt
 
-store_low : (n : ℕ) (place : Lvalue) (type : CType) (value : core.Expression) → LowPlace n (Some place) → IsLow n value → IsLowStatement (n + 2) (store place type value)
+store_low : (n : ℕ) (place : Lvalue) (type : CType) (value : core.Expression) → LowPlace n (For place) → IsLow n value → IsLowStatement (n + 2) (store place type value)
 store_low n (OfLocal k) type value h low = omega arith
 store_low n (OfCell (core.Direct object offset)) type value h low = omega arith
 store_low n (OfCell (core.Through pointer core.First offset site)) type value h low = omega arith
 store_low n (OfCell (core.Through pointer (core.Element number) offset site)) type value h low = omega arith
 
-update_low : (n : ℕ) (place : Lvalue) (type : CType) (operator : Operator) (value : core.Expression) (site : Site) → LowPlace n (Some place) → IsLow n value → IsLowStatement (n + 2) (update place type operator value site)
+update_low : (n : ℕ) (place : Lvalue) (type : CType) (operator : Operator) (value : core.Expression) (site : Site) → LowPlace n (For place) → IsLow n value → IsLowStatement (n + 2) (update place type operator value site)
 update_low n (OfLocal k) type operator value site h low = omega arith
 update_low n (OfCell (core.Direct object offset)) type operator value site h low = omega arith
 update_low n (OfCell (core.Through pointer index offset before)) type operator value site h low = omega arith
 
-set_low : (n : ℕ) (target right : Typed) (span : Span) → 1 ≤ n → Low n target → Low n right → Promises (IsLowStatement (n + 2)) (set_to target right span)
-set_low n target right span least ht hr =
-    assigned_low (IsLowStatement (n + 2)) n target span _ ht (λ type place h. converted_low (IsLowStatement (n + 2)) n right type span _ least hr (λ v low. store_low n place type v h low))
+set_low : (n : ℕ) (f : Knowledge) (target right : Typed) (span : Span) → 1 ≤ n → Low n target → Low n right → Promises (IsLowStatement (n + 2)) (set_to f target right span)
+set_low n f target right span least ht hr =
+    assigned_low (IsLowStatement (n + 2)) n target span _ ht
+    (λ type place h. converted_low (IsLowStatement (n + 2)) n right type span _ least hr (λ v low. met_promises (IsLowStatement (n + 2)) f right type span _ (store_low n place type v h low)))
 
 updated_low : (n : ℕ) (at : Places) (operator : Operator) (target right : Typed) (span : Span) → Low n target → Low n right → Promises (IsLowStatement (n + 2)) (updated at operator target right span)
-updated_low n at operator (Value type zero value None) right span ht hr = tt
-updated_low n at operator (Value type zero value (Some place)) right span ht hr =
-    needs_promises (IsLowStatement (n + 2)) (not (is_pointer type || is_pointer_value right)) E19 span _
-    (λ apart. two_low (IsLowStatement (n + 2)) n (Value type zero value (Some place)) right span (λ old v. Passes (update place type operator v (site_at at span))) ht hr
-    (λ old v low low'. update_low n place type operator v (site_at at span) ht.1 low'))
-updated_low n at operator (AStruct number place) right span ht hr = tt
+updated_low n at operator target right span ht hr =
+    assigned_low (IsLowStatement (n + 2)) n target span _ ht
+    (λ type place h. apart_promises (IsLowStatement (n + 2)) target right span _
+    (two_low (IsLowStatement (n + 2)) n target right span (λ old v. Passes (update place type operator v (site_at at span))) ht hr
+    (λ old v low low'. update_low n place type operator v (site_at at span) h low')))
 
-stored_low : (n : ℕ) (at : Places) (operator : StoreOperator) (target right : Typed) (span : Span) → 1 ≤ n → Low n target → Low n right → Promises (IsLowStatement (n + 2)) (stored at operator target right span)
-stored_low n at stores.Set target right span least ht hr = set_low n target right span least ht hr
-stored_low n at stores.Add target right span least ht hr = updated_low n at (operators.Arithmetic arithmetics.Add) target right span ht hr
-stored_low n at stores.Subtract target right span least ht hr = updated_low n at (operators.Arithmetic arithmetics.Subtract) target right span ht hr
+stored_low : (n : ℕ) (at : Places) (f : Knowledge) (operator : StoreOperator) (target right : Typed) (span : Span) → 1 ≤ n → Low n target → Low n right → Promises (IsLowStatement (n + 2)) (stored at f operator target right span)
+stored_low n at f stores.Set target right span least ht hr = set_low n f target right span least ht hr
+stored_low n at f stores.Add target right span least ht hr = updated_low n at (operators.Arithmetic arithmetics.Add) target right span ht hr
+stored_low n at f stores.Subtract target right span least ht hr = updated_low n at (operators.Arithmetic arithmetics.Subtract) target right span ht hr
 
 zero_low : (t : CType) → expression_stack (zero_value t) ≤ 1
 zero_low Int = omega arith
@@ -91,7 +93,7 @@ module _ (at : Places) where
       let m = 17 * (assigned_reach (trees.Store operator target value span)).height + 1 in
       passing_promises (Low m) (IsLowStatement n) (typed at s target) _ (typed_low s few at target m (omega arith))
       (λ a ha. passing_promises (Low m) (IsLowStatement n) (typed at s value) _ (typed_low s few at value m (omega arith))
-      (λ b hb. promised_so (IsLowStatement (m + 2)) (IsLowStatement n) (stored at operator a b span) (stored_low m at operator a b span (omega arith) ha hb) (λ x low. omega arith)))
+      (λ b hb. promised_so (IsLowStatement (m + 2)) (IsLowStatement n) (stored at s.flow operator a b span) (stored_low m at s.flow operator a b span (omega arith) ha hb) (λ x low. omega arith)))
   assignment_low s few (trees.Step operator side target span) n h =
       let m = 17 * (expression_reach target).height + 1 in
       passing_promises (Low m) (IsLowStatement n) (typed at s target) _ (typed_low s few at target m (omega arith))
@@ -119,7 +121,7 @@ module _ (at : Places) where
   initialised_low : (s : Scope) → HaveFew s → (o : Option Initializer) (t : CType) (k : ℕ) (span : Span) (n : ℕ) → 17 * (optional_initializer_reach o).height + 1 ≤ n → Promises (IsLowStatement n) (initialised at s o t k span)
   initialised_low s few None t k span n h = omega arith
   initialised_low s few (Some (trees.Value value)) t k span n h =
-      passing_promises (Low n) (IsLowStatement n) (typed at s value) _ (typed_low s few at value n (omega arith)) (λ x low. converted_low (IsLowStatement n) n x t span _ (omega arith) low (λ v low'. low'))
+      passing_promises (Low n) (IsLowStatement n) (typed at s value) _ (typed_low s few at value n (omega arith)) (λ x low. converted_low (IsLowStatement n) n x t span _ (omega arith) low (λ v low'. met_promises (IsLowStatement n) s.flow x t span _ low'))
   initialised_low s few (Some (trees.Constants constants list)) t k span n h = tt
 
   declarator_low : (s : Scope) → HaveFew s → (base : TypeTree) (type : CType) (span : Span) (d : Declarator) (n : ℕ) → 17 * (declarator_reach d).height + 1 ≤ n → Promises (BecomesLow n) (declarator at s base type span d)
@@ -155,9 +157,9 @@ module _ (at : Places) where
 
   -- ---- results
 
-  returned_low : (n : ℕ) (o : Option CType) (t : Typed) (span : Span) → 1 ≤ n → Low n t → Promises (IsLowStatement n) (returned o t span)
-  returned_low n None t span least h = tt
-  returned_low n (Some type) t span least h = converted_low (IsLowStatement n) n t type span _ least h (λ v low. low)
+  returned_low : (n : ℕ) (f : Knowledge) (o : Option CType) (t : Typed) (span : Span) → 1 ≤ n → Low n t → Promises (IsLowStatement n) (returned f o t span)
+  returned_low n f None t span least h = tt
+  returned_low n f (Some type) t span least h = converted_low (IsLowStatement n) n t type span _ least h (λ v low. met_promises (IsLowStatement n) f t type span _ low)
 
   nothing_low : (n : ℕ) (o : Option CType) (span : Span) → Promises (IsLowStatement n) (returned_nothing o span)
   nothing_low n None span = omega arith
@@ -165,7 +167,7 @@ module _ (at : Places) where
 
   return_low : (s : Scope) → HaveFew s → (o : Option Expression) (span : Span) (n : ℕ) → 17 * (optional_expression_reach o).height + 1 ≤ n → Promises (IsLowStatement n) (return at s o span)
   return_low s few None span n h = nothing_low n s.result span
-  return_low s few (Some x) span n h = passing_promises (Low n) (IsLowStatement n) (typed at s x) _ (typed_low s few at x n (omega arith)) (λ t low. returned_low n s.result t span (omega arith) low)
+  return_low s few (Some x) span n h = passing_promises (Low n) (IsLowStatement n) (typed at s x) _ (typed_low s few at x n (omega arith)) (λ t low. returned_low n s.flow s.result t span (omega arith) low)
 
   -- ---- statements
 

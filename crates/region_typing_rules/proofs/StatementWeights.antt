@@ -2,7 +2,7 @@
 use Rattle.std.proofs.Common.{◌≡◌, ℕ, ◌+◌, ◌*◌, ◌<◌, ◌≤◌, true, List, [], ◌∷◌, length, Option, Some, None, arith}
 use Rattle.std.specs.Prelude.{nat_lt, not, ◌||◌}
 use Rattle.ckc_text.specs.declared.place.Span.{Span}
-use Rattle.ckc_text.specs.declared.code.Code.TheVariants.{E08, E13, E15, E19, E30}
+use Rattle.ckc_text.specs.declared.code.Code.TheVariants.{E08, E13, E15, E30}
 use Rattle.ckc_tree.specs.declared.stmt.StoreOperator.{StoreOperator}
 use Rattle.ckc_tree.specs.declared.stmt.StoreOperator.TheVariants as stores
 use Rattle.ckc_tree.specs.Types.{TypeTree}
@@ -10,6 +10,7 @@ use Rattle.ckc_tree.specs.Expressions.{Expression, expression_span}
 use Rattle.ckc_tree.specs.Statements as trees
 use Rattle.ckc_tree.specs.Statements.{Initializer, Declarator, Declaration, Assignment, ForInitial, Statement, Statements}
 use Rattle.ckc_tree.specs.Weights as tree
+use Rattle.bounds_flow.specs.Flows.{Knowledge}
 use Rattle.pointer_modes.specs.Types.{CType, Int, Char, Struct, Pointer}
 use Rattle.ckc_core.specs.declared.program.Site.{Site}
 use Rattle.act_words.specs.declared.operator.Operator.{Operator}
@@ -19,12 +20,12 @@ use Rattle.ckc_core.specs.Core as core
 use Rattle.ckc_core.specs.Weights.{expression_weight, statement_weight, statements_weight}
 use Rattle.region_typing_rules.specs.Verdicts.{Verdict, Passes}
 use Rattle.region_typing_rules.specs.Scopes.{Scope}
-use Rattle.region_typing_rules.specs.Types.{is_pointer, is_scalar, without_stars, base_type}
-use Rattle.region_typing_rules.specs.Expressions.{Places, Typed, Value, AStruct, Called, Gives, GivesNothing, Lvalue, OfLocal, OfCell, site_at, typed, call_typed, is_pointer_value}
+use Rattle.region_typing_rules.specs.Types.{is_scalar, without_stars, base_type}
+use Rattle.region_typing_rules.specs.Expressions.{Places, Typed, Value, AStruct, Called, Gives, GivesNothing, Lvalue, OfLocal, OfCell, ForNothing, ForArray, For, site_at, typed, call_typed}
 use Rattle.region_typing_rules.specs.Statements.{Walked, store, update, assigned, set_to, updated, stored, step_of, one, assignment, zero_value, with_local, initialised, declarator, declarators, declaration, at_alternative, before_step, in_loop, is_unchecked, condition, optional_condition, optional_step, first_part, alone, returned, returned_nothing, return, statement, statements}
 use Rattle.region_typing_rules.specs.Knowing.{when, at_loop}
 use Rattle.region_typing_rules.proofs.Assigning.{assigning_promises, declared_promises}
-use Rattle.region_typing_rules.proofs.Verdicts.{Promises, passing_promises, needs_promises, anything_promised, promised_so}
+use Rattle.region_typing_rules.proofs.Verdicts.{Promises, passing_promises, needs_promises, anything_promised, promised_so, apart_promises, met_promises}
 use Rattle.region_typing_rules.proofs.Weights.{Light, LightPlace, LightCall, IsLight, node_there, scalar_of_light, two_light, converted_light, typed_light, call_typed_light}
 
 abbrev IsLightStatement : ℕ → core.Statement → Type 0
@@ -35,36 +36,37 @@ BecomesLight n w = statement_weight w.0 ≤ n
 
 -- ---- assignments
 
-assigned_light : (Q : core.Statement → Type 0) (n : ℕ) (target : Typed) (span : Span) (next : CType → Lvalue → Verdict core.Statement) → Light n target → ((type : CType) (place : Lvalue) → LightPlace n (Some place) → Promises Q (next type place)) → Promises Q (assigned target span next)
-assigned_light Q n (Value type zero value None) span next h more = tt
-assigned_light Q n (Value type zero value (Some place)) span next h more = more type place h.1
+assigned_light : (Q : core.Statement → Type 0) (n : ℕ) (target : Typed) (span : Span) (next : CType → Lvalue → Verdict core.Statement) → Light n target → ((type : CType) (place : Lvalue) → LightPlace n (For place) → Promises Q (next type place)) → Promises Q (assigned target span next)
+assigned_light Q n (Value type zero value ForNothing) span next h more = tt
+assigned_light Q n (Value type zero value ForArray) span next h more = tt
+assigned_light Q n (Value type zero value (For place)) span next h more = more type place h.1
 assigned_light Q n (AStruct number place) span next h more = tt
 
-store_light : (n m : ℕ) (place : Lvalue) (type : CType) (value : core.Expression) → LightPlace n (Some place) → IsLight (m + 1) value → IsLightStatement (n + m + 1) (store place type value)
+store_light : (n m : ℕ) (place : Lvalue) (type : CType) (value : core.Expression) → LightPlace n (For place) → IsLight (m + 1) value → IsLightStatement (n + m + 1) (store place type value)
 store_light n m (OfLocal k) type value h light = omega arith
 store_light n m (OfCell p) type value h light = omega arith
 
-update_light : (n m : ℕ) (place : Lvalue) (type : CType) (operator : Operator) (value : core.Expression) (site : Site) → LightPlace n (Some place) → IsLight m value → IsLightStatement (n + m + 1) (update place type operator value site)
+update_light : (n m : ℕ) (place : Lvalue) (type : CType) (operator : Operator) (value : core.Expression) (site : Site) → LightPlace n (For place) → IsLight m value → IsLightStatement (n + m + 1) (update place type operator value site)
 update_light n m (OfLocal k) type operator value site h light = omega arith
 update_light n m (OfCell (core.Direct object offset)) type operator value site h light = omega arith
 update_light n m (OfCell (core.Through pointer index offset before)) type operator value site h light = omega arith
 
-set_light : (n m : ℕ) (target right : Typed) (span : Span) → 2 ≤ m → Light n target → Light m right → Promises (IsLightStatement (n + m + 1)) (set_to target right span)
-set_light n m target right span two ht hr =
-    assigned_light (IsLightStatement (n + m + 1)) n target span _ ht (λ type place h. converted_light (IsLightStatement (n + m + 1)) m right type span _ two hr (λ v light. store_light n m place type v h light))
+set_light : (n m : ℕ) (f : Knowledge) (target right : Typed) (span : Span) → 2 ≤ m → Light n target → Light m right → Promises (IsLightStatement (n + m + 1)) (set_to f target right span)
+set_light n m f target right span two ht hr =
+    assigned_light (IsLightStatement (n + m + 1)) n target span _ ht
+    (λ type place h. converted_light (IsLightStatement (n + m + 1)) m right type span _ two hr (λ v light. met_promises (IsLightStatement (n + m + 1)) f right type span _ (store_light n m place type v h light)))
 
 updated_light : (n m : ℕ) (at : Places) (operator : Operator) (target right : Typed) (span : Span) → Light n target → Light m right → Promises (IsLightStatement (n + m + 1)) (updated at operator target right span)
-updated_light n m at operator (Value type zero value None) right span ht hr = tt
-updated_light n m at operator (Value type zero value (Some place)) right span ht hr =
-    needs_promises (IsLightStatement (n + m + 1)) (not (is_pointer type || is_pointer_value right)) E19 span _
-    (λ apart. two_light (IsLightStatement (n + m + 1)) n m (Value type zero value (Some place)) right span (λ old v. Passes (update place type operator v (site_at at span))) ht hr
-    (λ old v light light'. update_light n m place type operator v (site_at at span) ht.1 light'))
-updated_light n m at operator (AStruct number place) right span ht hr = tt
+updated_light n m at operator target right span ht hr =
+    assigned_light (IsLightStatement (n + m + 1)) n target span _ ht
+    (λ type place h. apart_promises (IsLightStatement (n + m + 1)) target right span _
+    (two_light (IsLightStatement (n + m + 1)) n m target right span (λ old v. Passes (update place type operator v (site_at at span))) ht hr
+    (λ old v light light'. update_light n m place type operator v (site_at at span) h light')))
 
-stored_light : (n m : ℕ) (at : Places) (operator : StoreOperator) (target right : Typed) (span : Span) → 2 ≤ m → Light n target → Light m right → Promises (IsLightStatement (n + m + 1)) (stored at operator target right span)
-stored_light n m at stores.Set target right span two ht hr = set_light n m target right span two ht hr
-stored_light n m at stores.Add target right span two ht hr = updated_light n m at (operators.Arithmetic arithmetics.Add) target right span ht hr
-stored_light n m at stores.Subtract target right span two ht hr = updated_light n m at (operators.Arithmetic arithmetics.Subtract) target right span ht hr
+stored_light : (n m : ℕ) (at : Places) (f : Knowledge) (operator : StoreOperator) (target right : Typed) (span : Span) → 2 ≤ m → Light n target → Light m right → Promises (IsLightStatement (n + m + 1)) (stored at f operator target right span)
+stored_light n m at f stores.Set target right span two ht hr = set_light n m f target right span two ht hr
+stored_light n m at f stores.Add target right span two ht hr = updated_light n m at (operators.Arithmetic arithmetics.Add) target right span ht hr
+stored_light n m at f stores.Subtract target right span two ht hr = updated_light n m at (operators.Arithmetic arithmetics.Subtract) target right span ht hr
 
 zero_light : (t : CType) → expression_weight (zero_value t) ≡ 1
 zero_light Int = omega arith
@@ -84,7 +86,7 @@ module _ (at : Places) where
       let all = 5 * tree.assignment_weight (trees.Store operator target value span) in
       passing_promises (Light n) (IsLightStatement all) (typed at s target) _ (typed_light at s target)
       (λ a ha. passing_promises (Light m) (IsLightStatement all) (typed at s value) _ (typed_light at s value)
-      (λ b hb. promised_so (IsLightStatement (n + m + 1)) (IsLightStatement all) (stored at operator a b span) (stored_light n m at operator a b span (omega (arith, node_there value)) ha hb) (λ x light. omega arith)))
+      (λ b hb. promised_so (IsLightStatement (n + m + 1)) (IsLightStatement all) (stored at s.flow operator a b span) (stored_light n m at s.flow operator a b span (omega (arith, node_there value)) ha hb) (λ x light. omega arith)))
   assignment_light s (trees.Step operator side target span) =
       let n = 5 * tree.expression_weight target in
       let all = 5 * tree.assignment_weight (trees.Step operator side target span) in
@@ -111,7 +113,7 @@ module _ (at : Places) where
   initialised_light s (Some (trees.Value value)) t k span =
       let n = 5 * tree.expression_weight value in
       passing_promises (Light n) (IsLightStatement (n + 1)) (typed at s value) _ (typed_light at s value)
-      (λ x light. converted_light (IsLightStatement (n + 1)) n x t span _ (omega (arith, node_there value)) light (λ v light'. omega arith))
+      (λ x light. converted_light (IsLightStatement (n + 1)) n x t span _ (omega (arith, node_there value)) light (λ v light'. met_promises (IsLightStatement (n + 1)) s.flow x t span _ (omega arith)))
   initialised_light s (Some (trees.Constants constants list)) t k span = tt
 
   -- with one node to spare
@@ -146,9 +148,9 @@ module _ (at : Places) where
 
   -- ---- results
 
-  returned_light : (n : ℕ) (o : Option CType) (t : Typed) (span : Span) → 2 ≤ n → Light n t → Promises (IsLightStatement (n + 1)) (returned o t span)
-  returned_light n None t span two h = tt
-  returned_light n (Some type) t span two h = converted_light (IsLightStatement (n + 1)) n t type span _ two h (λ v light. omega arith)
+  returned_light : (n : ℕ) (f : Knowledge) (o : Option CType) (t : Typed) (span : Span) → 2 ≤ n → Light n t → Promises (IsLightStatement (n + 1)) (returned f o t span)
+  returned_light n f None t span two h = tt
+  returned_light n f (Some type) t span two h = converted_light (IsLightStatement (n + 1)) n t type span _ two h (λ v light. met_promises (IsLightStatement (n + 1)) f t type span _ (omega arith))
 
   nothing_light : (o : Option CType) (span : Span) → Promises (IsLightStatement 5) (returned_nothing o span)
   nothing_light None span = omega arith
@@ -159,7 +161,7 @@ module _ (at : Places) where
   return_light s (Some x) span =
       let n = 5 * tree.expression_weight x in
       passing_promises (Light n) (IsLightStatement (n + 5)) (typed at s x) _ (typed_light at s x)
-      (λ t light. promised_so (IsLightStatement (n + 1)) (IsLightStatement (n + 5)) (returned s.result t span) (returned_light n s.result t span (omega (arith, node_there x)) light) (λ v light'. omega arith))
+      (λ t light. promised_so (IsLightStatement (n + 1)) (IsLightStatement (n + 5)) (returned s.flow s.result t span) (returned_light n s.flow s.result t span (omega (arith, node_there x)) light) (λ v light'. omega arith))
 
   -- ---- statements
 

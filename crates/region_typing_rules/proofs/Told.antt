@@ -81,7 +81,7 @@ pointer_is types (core.Order comparison left right site) p h = absurd (cc)
 pointer_is types (core.Allocate count element bounds) p h = absurd (cc)
 pointer_is types (core.Cast pointer bounds) p h = absurd (cc)
 
-null_is : (e : core.Expression) → is_null e ≡ true → e ≡ core.Null
+pub null_is : (e : core.Expression) → is_null e ≡ true → e ≡ core.Null
 null_is (core.Number number) h = absurd (cc)
 null_is core.Null h = refl
 null_is (core.Local x bounds) h = absurd (cc)

@@ -6,30 +6,33 @@ use Rattle.std.specs.List.{AllByRecursion}
 use Rattle.std.proofs.lemmas.List.Elements.{All-from_recursion}
 use Rattle.ckc_tree.specs.Statements.{Assignment, Statement}
 use Rattle.pointer_modes.specs.Types.{CType, Int, Char, Struct, Pointer, Structure}
-use Rattle.act_words.specs.Touches.{Asked, Got, Ended, spend_tick}
+use Rattle.act_words.specs.Touches.{spend_tick}
 use Rattle.bounds_flow.specs.Flows.{at_head}
 use Rattle.bounds_flow_meaning.specs.Holding.{AreDeclared, Fits, HaveTypes, IsValid, types_of}
 use Rattle.bounds_flow_meaning.specs.Laws.{ChangesOnly, IsAmong}
 use Rattle.bounds_flow_meaning.proofs.AllSteps.{flows_hold}
 use Rattle.ckc_core.specs.Outcome.{Gives, and_then}
 use Rattle.ckc_core.specs.Core as core
-use Rattle.ckc_core.specs.States.{Value, Local, State, in_world}
+use Rattle.ckc_core.specs.States.{Value, Local, State}
 use Rattle.ckc_core.specs.Steps.{Result, Flow, Next, Broke, Continued, Returned, truth, asked, behind_turn, choose, is_char, on_next}
-use Rattle.ckc_core.specs.Meaning.{Knot, Setting, effect, knot, value}
+use Rattle.ckc_core.specs.Meaning.{Knot, Setting, effect, value}
 use Rattle.region_typing_rules.specs.Scopes.{Scope}
 use Rattle.region_typing_rules.specs.Readings.{told}
 use Rattle.region_typing_rules.specs.Knowing.{numbers_marked, step_marked, marked, at_loop, when}
 use Rattle.region_typing_rules.specs.Statements.{behind_block, behind_loop, before_step, in_loop}
-use Rattle.region_typing_rules.specs.KnownIsSo.{WhereGiven, IsAlike, FitsAlike, IsKnown, IsOnWay, IsSo, IsBetween, IsWalk, HasLocals}
+use Rattle.region_typing_rules.specs.KnownIsSo.{WhereGiven, IsAlike, FitsAlike, IsKnown, IsOnWay, IsSo, IsBetween, IsWalk}
 use Rattle.region_typing_rules.proofs.Verdicts.{Extends}
-use Rattle.region_typing_rules.proofs.Keeping.{IsAfter, after_here}
+use Rattle.region_typing_rules.proofs.Keeping.{IsAfter}
 use Rattle.region_typing_rules.proofs.Moving.{AssignsOnly, IsMovedTo, moved_on, moved_after, effect_moves, knots_move}
-use Rattle.region_typing_rules.proofs.Terms.{so_on, so_both}
-use Rattle.region_typing_rules.proofs.Alike.{alike_here, has_same, has_after, fits_after}
+use Rattle.region_typing_rules.proofs.Alike.{alike_here, fits_after}
 use Rattle.region_typing_rules.proofs.Told.{told_fits}
 use Rattle.region_typing_rules.proofs.Between.{between_told}
-use Rattle.region_typing_rules.proofs.Assigns.{OnNext}
-use Rattle.region_typing_rules.proofs.Ways.{extends_length, has_before, fits_further, way_further, on_first, on_others, walk_block, walk_head, known_block, leaving_low}
+use Rattle.region_typing_rules.specs.Typed.{Frame, HasType, IsScalar}
+use Rattle.region_typing_rules.proofs.Worlds.{Anything, tick_answers}
+use Rattle.region_typing_rules.proofs.Sure.{sure_both, sure_further}
+use Rattle.region_typing_rules.proofs.Soundness.{EndsAs, Goes, IsKept, IsNext, OfType, Runs, asked_runs, lowered_runs, raised_runs, runs_both, runs_on, runs_then, typed_goes}
+use Rattle.region_typing_rules.proofs.Declaring.{IsAt, Knots, few_vars, has_of, running, ticking}
+use Rattle.region_typing_rules.proofs.Ways.{extends_length, fits_further, way_further, on_first, on_others, walk_block, walk_head, known_block, leaving_low}
 
 -- ---- the locals before a loop, with those of a later state that a flow can't tell
 
@@ -184,20 +187,46 @@ module _ (structs : List Structure) (vars : ℕ) (g : Scope) (w : IsWalk vars g)
 -- ---- turns
 
 -- behind the tick of a turn
-pub asked_so : {A : Type 0} (Q : Flow → State → Type 0) (o : Asked A) (s : State) (next : A → State → Result Flow) → ((v : A) (t : State) → IsAfter s t → WhereGiven Q (next v t)) → WhereGiven Q (asked o s next)
-asked_so Q (Got v world) s next more = more v (in_world world s) (after_here s)
-asked_so Q (Ended ending world) s next more = tt
+module _ (frame : Frame) (types : List CType) (all_scalar : AllByRecursion IsScalar types) (vars budget sandbox trusted : ℕ) where
+  abbrev structs' : List Structure
+  structs' = frame.structs
 
-pub chosen_so : (Q : Flow → State → Type 0) (test : Bool) (first second : Result Flow) → (test ≡ true → WhereGiven Q first) → (test ≡ false → WhereGiven Q second) → WhereGiven Q (choose test first second)
-chosen_so Q true first second h k = h refl
-chosen_so Q false first second h k = k refl
+  abbrev K : ℕ → Knot
+  K n = ticking frame types all_scalar vars budget sandbox trusted n
 
-module _ (structs : List Structure) (audited : Bool) (setting : Setting) (vars : ℕ) where
-  abbrev turning : ℕ → Knot
-  turning n = knot audited setting n
+  abbrev here : Setting
+  here = running frame types all_scalar vars budget sandbox trusted
+
+  abbrev AllKnots : ℕ → Type 0
+  AllKnots n = Knots frame types all_scalar vars budget sandbox trusted n
+
+  abbrev Stands : ℕ → ℕ → Scope → State → Type 0
+  Stands n low g s = IsAt frame types all_scalar vars budget sandbox trusted n low g s
+
+  abbrev Reached : Scope → Type 0
+  Reached g = Extends g.locals types
+
+  -- how a statement ends, and what is known there
+  abbrev pub EndsIn : Scope → Scope → Flow → State → Type 0
+  EndsIn g h flow t = EndsAs frame g.result g.in_loop flow t × IsSo structs' h flow t
+
+  pub chosen_runs : (n low : ℕ) (Q : Flow → State → Type 0) (test : Bool) (first second : Result Flow) → (test ≡ true → Runs frame budget n low types Q first) → (test ≡ false → Runs frame budget n low types Q second) → Runs frame budget n low types Q (choose test first second)
+  chosen_runs n low Q true first second h k = h refl
+  chosen_runs n low Q false first second h k = k refl
+
+  -- what a condition comes to, and what it tells
+  pub tested_goes : (n low : ℕ) → AllKnots n → (g : Scope) (w : IsWalk vars g) → Reached g → (c : core.Expression) (t : CType) → HasType frame types g c t → (s : State) → Stands n low g s
+      → Goes frame budget n low types s (λ v u. FitsAlike structs' (length g.locals) (told g.locals c (truth v) g.flow) u) (value true here (K n) c s)
+  tested_goes n low knots g w reaches c t typed s at =
+      sure_further (λ v u. (OfType frame t v u × IsAfter s u × IsKept frame budget n low types u) × (IsAfter s u × FitsAlike structs' (length g.locals) (told g.locals c (truth v) g.flow) u))
+      (λ v u. FitsAlike structs' (length g.locals) (told g.locals c (truth v) g.flow) u × IsAfter s u × IsKept frame budget n low types u) (value true here (K n) c s)
+      (sure_both (λ v u. OfType frame t v u × IsAfter s u × IsKept frame budget n low types u) (λ v u. IsAfter s u × FitsAlike structs' (length g.locals) (told g.locals c (truth v) g.flow) u) (value true here (K n) c s)
+      (typed_goes frame budget n sandbox trusted (K n) (knots n (omega arith)) low types g w.between.flow reaches typed s (at.known, at.kept))
+      (told_fits true here (K n) (knots_move true here n).calls structs' g.locals c g.flow w.between.flow (few_vars frame types all_scalar vars budget sandbox trusted g w) s (has_of frame types all_scalar vars budget sandbox trusted n low g s reaches at.kept) at.known))
+      (λ v u x. (x.1.1, x.0.1, x.0.2))
 
   module _ (g : Scope) (walk : IsWalk vars g) (body : Statement) (step : Option Assignment) (many : length (step_marked g.visible step (marked (length g.locals) g.visible body (replicate (length g.locals) false))) ≡ length g.locals)
-      (c : core.Expression) (x y : core.Statement) (inside last : Scope) (inside_walk : IsWalk vars inside) (last_walk : IsWalk vars last)
+      (c : core.Expression) (ct : CType) (x y : core.Statement) (inside last : Scope) (inside_walk : IsWalk vars inside) (last_walk : IsWalk vars last)
       (inside_more : Extends g.locals inside.locals) (last_more : Extends inside.locals last.locals) (last_breaks : last.breaks ≡ inside.breaks) where
     abbrev head : Scope
     head = at_loop body step g
@@ -206,16 +235,19 @@ module _ (structs : List Structure) (audited : Bool) (setting : Setting) (vars :
     marks = step_marked g.visible step (marked (length g.locals) g.visible body (replicate (length g.locals) false))
 
     abbrev changes : ℕ → Bool
-    changes = may structs vars g walk marks many
+    changes = may structs' vars g walk marks many
 
-    module _ (x_only : AssignsOnly changes x) (y_only : AssignsOnly changes y)
-        (x_runs : (n : ℕ) (s : State) → HasLocals inside.locals s → IsKnown structs (in_loop (when c true head)) s → WhereGiven (IsSo structs inside) (effect audited setting (turning n) x s))
-        (y_runs : (n : ℕ) (s : State) → HasLocals last.locals s → IsKnown structs (before_step g inside) s → WhereGiven (OnNext (IsKnown structs last)) (effect audited setting (turning n) y s)) where
+    module _ (x_only : AssignsOnly changes x) (y_only : AssignsOnly changes y) (reaches : Reached last) (c_typed : HasType frame types head c ct)
+        (x_runs : (n : ℕ) → AllKnots n → (low : ℕ) (s : State) → Stands n low (in_loop (when c true head)) s → Runs frame budget n low types (λ flow t. EndsAs frame g.result true flow t × IsSo structs' inside flow t) (effect true here (K n) x s))
+        (y_runs : (n : ℕ) → AllKnots n → (low : ℕ) (s : State) → Stands n low (before_step g inside) s → Runs frame budget n low types (λ flow t. IsNext flow t × IsKnown structs' last t) (effect true here (K n) y s)) where
       abbrev Q : Flow → State → Type 0
-      Q = IsSo structs (behind_loop g head c last)
+      Q = EndsIn g (behind_loop g head c last)
 
       all_more : Extends g.locals last.locals
       all_more k t e = last_more k t (inside_more k t e)
+
+      head_reaches : Extends head.locals types
+      head_reaches k t e = reaches k t (all_more k t e)
 
       le_inside : length g.locals ≤ length inside.locals
       le_inside = extends_length g.locals inside.locals inside_more
@@ -226,94 +258,90 @@ module _ (structs : List Structure) (audited : Bool) (setting : Setting) (vars :
       le_all : length g.locals ≤ length last.locals
       le_all = let a = le_inside in let b = le_last in omega (arith, a, b)
 
+      head_walk : IsWalk vars head
+      head_walk = walk_head vars body step g walk
+
       out_between : IsBetween vars (told g.locals c false head.flow)
-      out_between = between_told g.locals vars c false head.flow walk.few (walk_head vars body step g walk).between
+      out_between = between_told g.locals vars c false head.flow walk.few head_walk.between
 
       -- out of the loop, by its condition
-      leaves : (t : State) → FitsAlike structs (length g.locals) (told g.locals c false head.flow) t → Q Next t
-      leaves t h =
-          on_first structs vars (length last.locals) t (length g.locals) (length last.locals - length g.locals) last.breaks (told g.locals c false head.flow) out_between last_walk.breaks
-          (fits_further structs (length g.locals) (length last.locals) (told g.locals c false head.flow) t le_all h)
+      leaves : (t : State) → FitsAlike structs' (length g.locals) (told g.locals c false head.flow) t → Q Next t
+      leaves t h = (
+        tt,
+        on_first structs' vars (length last.locals) t (length g.locals) (length last.locals - length g.locals) last.breaks (told g.locals c false head.flow) out_between last_walk.breaks
+            (fits_further structs' (length g.locals) (length last.locals) (told g.locals c false head.flow) t le_all h),
+      )
 
       -- and by a `break`
-      breaks_out : (t : State) → IsOnWay structs (length inside.locals) inside.breaks t → Q Next t
-      breaks_out t h =
-          on_others structs vars (length last.locals) t (length g.locals) (length last.locals - length g.locals) last.breaks (told g.locals c false head.flow) out_between last_walk.breaks (leaving_low structs vars g last last_walk le_all)
-          (subst (λ o. IsOnWay structs (length last.locals) o t) (sym last_breaks) (way_further structs (length inside.locals) (length last.locals) inside.breaks t le_last h))
+      breaks_out : (t : State) → IsOnWay structs' (length inside.locals) inside.breaks t → Q Next t
+      breaks_out t h = (
+        tt,
+        on_others structs' vars (length last.locals) t (length g.locals) (length last.locals - length g.locals) last.breaks (told g.locals c false head.flow) out_between last_walk.breaks (leaving_low structs' vars g last last_walk le_all)
+            (subst (λ o. IsOnWay structs' (length last.locals) o t) (sym last_breaks) (way_further structs' (length inside.locals) (length last.locals) inside.breaks t le_last h)),
+      )
 
       -- on to the step, behind the body or by a `continue`
-      steps_on : (t : State) → IsKnown structs inside t → IsKnown structs (before_step g inside) t
+      steps_on : (t : State) → IsKnown structs' inside t → IsKnown structs' (before_step g inside) t
       steps_on t h =
-          on_first structs vars (length inside.locals) t (length g.locals) (length inside.locals - length g.locals) inside.continues (behind_block g inside).flow (walk_block vars g inside inside_walk).between inside_walk.continues
-          (known_block structs vars g inside inside_walk le_inside t h)
+          on_first structs' vars (length inside.locals) t (length g.locals) (length inside.locals - length g.locals) inside.continues (behind_block g inside).flow (walk_block vars g inside inside_walk).between inside_walk.continues
+          (known_block structs' vars g inside inside_walk le_inside t h)
 
-      continues_on : (t : State) → IsOnWay structs (length inside.locals) inside.continues t → IsKnown structs (before_step g inside) t
+      continues_on : (t : State) → IsOnWay structs' (length inside.locals) inside.continues t → IsKnown structs' (before_step g inside) t
       continues_on t h =
-          on_others structs vars (length inside.locals) t (length g.locals) (length inside.locals - length g.locals) inside.continues (behind_block g inside).flow (walk_block vars g inside inside_walk).between inside_walk.continues
-          (leaving_low structs vars g inside inside_walk le_inside) h
+          on_others structs' vars (length inside.locals) t (length g.locals) (length inside.locals - length g.locals) inside.continues (behind_block g inside).flow (walk_block vars g inside inside_walk).between inside_walk.continues
+          (leaving_low structs' vars g inside inside_walk le_inside) h
 
-      abbrev Turns : Knot → State → Type 0
-      Turns k s = (t : State) → IsMovedTo changes s t → HasLocals last.locals t → WhereGiven Q (k.turn c x y t)
+      -- further turns, from states that agree with this one on what the loop doesn't assign
+      abbrev Turns : ℕ → State → Type 0
+      Turns n s = (low : ℕ) (t : State) → suc budget ≤ low + n → IsMovedTo changes s t → IsKept frame budget n low types t → Runs frame budget n low types Q ((K n).turn c x y t)
 
-      moves : (n : ℕ) (z : core.Statement) (s : State) → AssignsOnly changes z → WhereGiven (λ (flow : Flow) (t : State). IsMovedTo changes s t) (effect audited setting (turning n) z s)
-      moves n z s only = effect_moves audited setting (turning n) (knots_move audited setting n) changes z s only
+      moves : (n : ℕ) (z : core.Statement) (s : State) → AssignsOnly changes z → WhereGiven (λ (flow : Flow) (t : State). IsMovedTo changes s t) (effect true here (K n) z s)
+      moves n z s only = effect_moves true here (K n) (knots_move true here n) changes z s only
 
-      has_moved : (s t : State) → IsMovedTo changes s t → HasLocals last.locals s → HasLocals last.locals t
-      has_moved s t moved has = has_same last.locals s t moved.same has
+      step_on : (n low : ℕ) (s t : State) → AllKnots n → suc budget ≤ low + n → Turns n s → IsMovedTo changes s t → Stands n low (before_step g inside) t
+          → Runs frame budget n low types Q (and_then (effect true here (K n) y t) (on_next ((K n).turn c x y)))
+      step_on n low s t knots enough turns moved at =
+          runs_then frame budget n low types (λ flow u. (IsNext flow u × IsKnown structs' last u) × IsMovedTo changes t u) Q (effect true here (K n) y t) (on_next ((K n).turn c x y))
+          (runs_both frame budget n low types (λ flow u. IsNext flow u × IsKnown structs' last u) (λ flow u. IsMovedTo changes t u) (effect true here (K n) y t) (y_runs n knots low t at) (moves n y t y_only))
+          (λ flow u k kept. subst (λ flow. Runs frame budget n low types Q (on_next ((K n).turn c x y) flow u)) (sym k.0.0) (turns low u enough (moved_on changes s t u moved k.1) kept))
 
-      -- the step, and a further turn
-      step_on : (n : ℕ) (s t : State) → Turns (turning n) s → IsMovedTo changes s t → HasLocals last.locals t → IsKnown structs (before_step g inside) t
-          → WhereGiven Q (and_then (effect audited setting (turning n) y t) (on_next ((turning n).turn c x y)))
-      step_on n s t turns moved has h =
-          so_on (λ flow u. IsMovedTo changes t u × OnNext (IsKnown structs last) flow u) Q (effect audited setting (turning n) y t) (on_next ((turning n).turn c x y))
-          (so_both (λ flow u. IsMovedTo changes t u) (OnNext (IsKnown structs last)) (effect audited setting (turning n) y t) (moves n y t y_only) (y_runs n t has h)) by
+      body_on : (n low : ℕ) (s t : State) → AllKnots n → suc budget ≤ low + n → Turns n s → IsMovedTo changes s t → Stands n low (in_loop (when c true head)) t
+          → Runs frame budget n low types Q (and_then (effect true here (K n) x t) (behind_turn (λ u. and_then (effect true here (K n) y u) (on_next ((K n).turn c x y)))))
+      body_on n low s t knots enough turns moved at =
+          runs_then frame budget n low types (λ flow u. (EndsAs frame g.result true flow u × IsSo structs' inside flow u) × IsMovedTo changes t u) Q (effect true here (K n) x t) _
+          (runs_both frame budget n low types (λ flow u. EndsAs frame g.result true flow u × IsSo structs' inside flow u) (λ flow u. IsMovedTo changes t u) (effect true here (K n) x t) (x_runs n knots low t at) (moves n x t x_only)) by
         where
-          by : (flow : Flow) (u : State) → IsMovedTo changes t u × OnNext (IsKnown structs last) flow u → WhereGiven Q (on_next ((turning n).turn c x y) flow u)
-          by Next u k = turns u (moved_on changes s t u moved k.0) (has_moved t u k.0 has)
-          by Broke u k = absurd k.1
-          by Continued u k = absurd k.1
-          by (Returned v) u k = absurd k.1
-
-      body_on : (n : ℕ) (s t : State) → Turns (turning n) s → IsMovedTo changes s t → HasLocals last.locals t → IsKnown structs (in_loop (when c true head)) t
-          → WhereGiven Q (and_then (effect audited setting (turning n) x t) (behind_turn (λ u. and_then (effect audited setting (turning n) y u) (on_next ((turning n).turn c x y)))))
-      body_on n s t turns moved has h =
-          so_on (λ flow u. IsMovedTo changes t u × IsSo structs inside flow u) Q (effect audited setting (turning n) x t) _
-          (so_both (λ flow u. IsMovedTo changes t u) (IsSo structs inside) (effect audited setting (turning n) x t) (moves n x t x_only) (x_runs n t (has_before inside.locals last.locals t last_more has) h)) by
-        where
-          by : (flow : Flow) (u : State) → IsMovedTo changes t u × IsSo structs inside flow u → WhereGiven Q (behind_turn (λ u. and_then (effect audited setting (turning n) y u) (on_next ((turning n).turn c x y))) flow u)
-          by Next u k = step_on n s u turns (moved_on changes s t u moved k.0) (has_moved t u k.0 has) (steps_on u k.1)
-          by Broke u k = breaks_out u k.1
-          by Continued u k = step_on n s u turns (moved_on changes s t u moved k.0) (has_moved t u k.0 has) (continues_on u k.1)
-          by (Returned v) u k = tt
+          by : (flow : Flow) (u : State) → (EndsAs frame g.result true flow u × IsSo structs' inside flow u) × IsMovedTo changes t u → IsKept frame budget n low types u
+              → Runs frame budget n low types Q (behind_turn (λ u. and_then (effect true here (K n) y u) (on_next ((K n).turn c x y))) flow u)
+          by Next u k kept = step_on n low s u knots enough turns (moved_on changes s t u moved k.1) (record { kept = kept; known = steps_on u k.0.1 })
+          by Broke u k kept = (breaks_out u k.0.1, kept)
+          by Continued u k kept = step_on n low s u knots enough turns (moved_on changes s t u moved k.1) (record { kept = kept; known = continues_on u k.0.1 })
+          by (Returned v) u k kept = ((k.0.0, tt), kept)
 
       -- one turn, where further ones are so
-      turn_on : (n : ℕ) (s t : State) → Turns (turning n) s → IsKnown structs g s → IsMovedTo changes s t → HasLocals last.locals t → WhereGiven Q (effect audited setting (turning n) (core.Loop c x y) t)
-      turn_on n s t turns known moved has =
-          so_on (λ v u. IsAfter t u × FitsAlike structs (length g.locals) (told g.locals c (truth v) head.flow) u) Q (value audited setting (turning n) c t) _
-          (told_fits audited setting (turning n) (knots_move audited setting n).calls structs g.locals c head.flow head_walk.between.flow (omega (arith, few, size)) t (has_before g.locals last.locals t all_more has) (head_known structs vars g walk marks many s t known moved)) by
+      turn_on : (n low : ℕ) (s t : State) → AllKnots n → Turns n s → IsKnown structs' g s → IsMovedTo changes s t → IsKept frame budget n low types t → Runs frame budget n low types Q (effect true here (K n) (core.Loop c x y) t)
+      turn_on n low s t knots turns known moved kept =
+          runs_on frame budget n low types t (λ v u. FitsAlike structs' (length g.locals) (told g.locals c (truth v) head.flow) u) Q (value true here (K n) c t) _
+          (tested_goes n low knots head head_walk head_reaches c ct c_typed t (record { kept = kept; known = head_known structs' vars g walk marks many s t known moved })) by
         where
-          head_walk : IsWalk vars head
-          head_walk = walk_head vars body step g walk
-
-          few : length g.locals ≤ vars
-          few = walk.few
-
-          size : head.flow.vars ≡ vars
-          size = head_walk.between.size
-
           true_flow : IsBetween vars (told g.locals c true head.flow)
           true_flow = between_told g.locals vars c true head.flow walk.few head_walk.between
 
-          by : (v : Value) (u : State) → IsAfter t u × FitsAlike structs (length g.locals) (told g.locals c (truth v) head.flow) u
-              → WhereGiven Q (choose (truth v) (asked (spend_tick setting.budget u.world) u (λ _ r. and_then (effect audited setting (turning n) x r) (behind_turn (λ u. and_then (effect audited setting (turning n) y u) (on_next ((turning n).turn c x y)))))) (Gives Next u))
-          by v u k =
-              chosen_so Q (truth v) _ (Gives Next u)
-              (λ e. asked_so Q (spend_tick setting.budget u.world) u _ (λ _ r after. body_on n s r turns
-              (moved_on changes s u r (moved_on changes s t u moved (moved_after changes t u k.0)) (moved_after changes u r after))
-              (has_after last.locals u r after (has_after last.locals t u k.0 has))
-              (fits_after structs (length g.locals) (told g.locals c true head.flow) u r true_flow.flow after (subst (λ b. FitsAlike structs (length g.locals) (told g.locals c b head.flow) u) e k.1))))
-              (λ e. leaves u (subst (λ b. FitsAlike structs (length g.locals) (told g.locals c b head.flow) u) e k.1))
+          by : (v : Value) (u : State) → IsAfter t u → FitsAlike structs' (length g.locals) (told g.locals c (truth v) head.flow) u → IsKept frame budget n low types u
+              → Runs frame budget n low types Q (choose (truth v) (asked (spend_tick budget u.world) u (λ _ r. and_then (effect true here (K n) x r) (behind_turn (λ u. and_then (effect true here (K n) y u) (on_next ((K n).turn c x y)))))) (Gives Next u))
+          by v u after k u_kept =
+              chosen_runs n low Q (truth v) _ (Gives Next u)
+              (λ e. lowered_runs frame budget n low types Q _ u_kept.enough
+              (asked_runs frame budget n low (suc low) types Anything Q (spend_tick budget u.world) u _ (tick_answers budget low u.world u_kept.world) (let few = u_kept.enough in omega arith) u_kept
+              (λ _ r later _ r_kept. body_on n (suc low) s r knots (let few = u_kept.enough in omega arith) turns
+              (moved_on changes s u r (moved_on changes s t u moved (moved_after changes t u after)) (moved_after changes u r later))
+              (record { kept = r_kept; known = fits_after structs' (length g.locals) (told g.locals c true head.flow) u r true_flow.flow later (subst (λ b. FitsAlike structs' (length g.locals) (told g.locals c b head.flow) u) e k) }))))
+              (λ e. (leaves u (subst (λ b. FitsAlike structs' (length g.locals) (told g.locals c b head.flow) u) e k), u_kept))
 
-      pub loop_on : (n : ℕ) (s t : State) → IsKnown structs g s → IsMovedTo changes s t → HasLocals last.locals t → WhereGiven Q (effect audited setting (turning n) (core.Loop c x y) t)
-      loop_on zero s t known moved has = turn_on zero s t (λ u moved' has'. tt) known moved has
-      loop_on (suc n) s t known moved has = turn_on (suc n) s t (λ u moved' has'. loop_on n s u known moved' has') known moved has
+      pub loop_on : (n low : ℕ) (s t : State) → AllKnots n → IsKnown structs' g s → IsMovedTo changes s t → IsKept frame budget n low types t → Runs frame budget n low types Q (effect true here (K n) (core.Loop c x y) t)
+      loop_on zero low s t knots known moved kept = turn_on zero low s t knots (λ low' u few moved' kept'. let w = kept'.world in absurd (omega (arith, few, w.2, w.3))) known moved kept
+      loop_on (suc n) low s t knots known moved kept =
+          turn_on (suc n) low s t knots
+          (λ low' u few moved' kept'. raised_runs frame budget (suc n) n low' types Q (effect true here (K n) (core.Loop c x y) u) kept'.enough
+          (loop_on n low' s u (λ m le. knots m (omega (arith, le))) known moved' (record { grown = kept'.grown; cells = kept'.cells; locals = kept'.locals; world = kept'.world; enough = omega (arith, few) })))
+          known moved kept

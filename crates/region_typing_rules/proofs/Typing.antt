@@ -29,12 +29,13 @@ use Rattle.region_typing_rules.specs.Expressions.{Places, side_number}
 use Rattle.region_typing_rules.specs.Items.{Walk, walked, start}
 use Rattle.region_typing_rules.specs.Cores.{body_of, core_of}
 use Rattle.region_typing_rules.proofs.Sides.{trusted_functions, sides_of, sides_parted}
-use Rattle.region_typing_rules.specs.Typed.{IsFunction, IsTyped}
+use Rattle.region_typing_rules.specs.Typed.{IsTyped}
+use Rattle.region_typing_rules.proofs.Safe.{IsSafe, IsSafeProgram, functions_typed}
 use Rattle.region_typing_rules.specs.Lowerable.{IsRoomy, IsSmall, IsSmallCore}
 use Rattle.region_typing_rules.specs.NeverStuck.{HasCore}
 use Rattle.region_typing_rules.proofs.Verdicts.{Promises}
 use Rattle.region_typing_rules.proofs.Signatures.{bytes_equal, trusted_there, named_self}
-use Rattle.region_typing_rules.proofs.Walks.{IsWell, body_suits, functions_typed, objects_typed, functions_small, imports_small, frame}
+use Rattle.region_typing_rules.proofs.Walks.{IsWell, body_suits, functions_safe, objects_typed, functions_small, imports_small, frame}
 use Rattle.region_typing_rules.proofs.Items.{IsNamedMain, main_name, Passed, items_promise}
 
 -- a program whose names have a meaning has a `main`
@@ -50,31 +51,34 @@ main_there t h = by (has_main t) (all_mentioned (tree_mentions t) at_file_level)
 no_parameters : (f : core.Function) → f.parameters ≤ length f.locals → take f.parameters f.locals ≡ [] → f.parameters ≡ 0
 no_parameters f few none = omega (arith, length-take-le f.parameters f.locals few, ap length none)
 
-typed_walk : (height entry : ℕ) (a w : Walk) → Passed height entry a true w → IsTyped (sides_of entry w)
-typed_walk height entry a w h =
+safe_walk : (height entry : ℕ) (a w : Walk) → Passed height entry a true w → IsSafeProgram (sides_of entry w)
+safe_walk height entry a w h =
     let well = h.follows.well in
     let main = h.main refl in
     let m = main.signature in
     let there = trusted_there w.bodies w.scope.functions entry m 0 main.named main.trusted in
     let number : there.index ≡ side_number false w.scope.functions entry 0 = let e = there.counted in omega arith in
     let found = subst (λ n. slice_get (trusted_functions w.bodies w.scope.functions) n ≡ Some (body_of w.bodies m)) number there.found in
-    let functions = functions_typed height entry w well h.follows.settled w.scope.functions well.declared in
+    let functions = functions_safe height entry w well h.follows.settled w.scope.functions well.declared in
     let suits = body_suits height w.scope w.bodies m well.bodies (subst (λ x. function_named w.scope.functions x ≡ Some m) (named_self w.scope.functions entry m main.named) main.named) in
-    let it = of_element (IsFunction (frame height entry w well h.follows.settled)) (trusted_functions w.bodies w.scope.functions) _ (body_of w.bodies m) functions found in
+    let it = of_element (IsSafe (frame height entry w well h.follows.settled)) (trusted_functions w.bodies w.scope.functions) _ (body_of w.bodies m) functions found in
     record {
-      structs = w.scope.structs;
-      objects = objects_typed height entry w well h.follows.settled w.objects well.start;
+      typed = record {
+        structs = w.scope.structs;
+        objects = objects_typed height entry w well h.follows.settled w.objects well.start;
+        functions = functions_typed (frame height entry w well h.follows.settled) (trusted_functions w.bodies w.scope.functions) functions;
+        main = (body_of w.bodies m, found, no_parameters (body_of w.bodies m) it.typed.parameters (suits.parameters ∙ main.none), suits.result ∙ main.int);
+      };
       functions = functions;
-      main = (body_of w.bodies m, found, no_parameters (body_of w.bodies m) it.parameters (suits.parameters ∙ main.none), suits.result ∙ main.int);
     }
 
 -- at the start nothing is known
 start_well : (height : ℕ) (given : Given) → IsWell height (start given)
 start_well height given = record { closed = record { tagged = omega arith; of_members = λ n. tt; of_functions = tt; of_variables = tt; of_locals = tt }; few = λ n. omega arith; scalars = λ n. tt; start = tt; declared = tt; bodies = tt; roomy = tt; bytes = omega arith; room = omega arith }
 
-walked_typed : (height entry : ℕ) (a : Walk) (v : Verdict Walk) (c : Core) → Promises (Passed height entry a true) v → passing v (λ w. Passes (core_of entry w)) ≡ Passes c → IsTyped (parted c)
-walked_typed height entry a (Passes w) c h e = let same : core_of entry w ≡ c = cc in subst IsTyped (sides_parted entry w ∙ ap parted same) (typed_walk height entry a w h)
-walked_typed height entry a (Stops stop) c h e = absurd (cc)
+walked_safe : (height entry : ℕ) (a : Walk) (v : Verdict Walk) (c : Core) → Promises (Passed height entry a true) v → passing v (λ w. Passes (core_of entry w)) ≡ Passes c → IsSafeProgram (parted c)
+walked_safe height entry a (Passes w) c h e = let same : core_of entry w ≡ c = cc in subst IsSafeProgram (sides_parted entry w ∙ ap parted same) (safe_walk height entry a w h)
+walked_safe height entry a (Stops stop) c h e = absurd (cc)
 
 -- numbers change nothing of `main`, and give its name
 module _ (of : Numbers) where
@@ -132,8 +136,11 @@ whole_walk at t c h =
     subst (λ b. Promises (Passed (height t) (entry_of t) (start_of t) b) (walked at n)) found
     (items_promise (height t) (entry_of t) at n.tree.items (start_of t) n.tree.items (named_mains of t.items) forms (omega (arith, high)) (start_well (height t) (given_in n.names)) tt)
 
+pub safe : (at : Places) (t : Tree) (c : Core) → HasCore at t c → IsSafeProgram (parted c)
+safe at t c h = walked_safe (height t) (entry_of t) (start_of t) (walked at (named_of t)) c (whole_walk at t c h) h.rules
+
 pub typed : (at : Places) (t : Tree) (c : Core) → HasCore at t c → IsTyped (parted c)
-typed at t c h = walked_typed (height t) (entry_of t) (start_of t) (walked at (named_of t)) c (whole_walk at t c h) h.rules
+typed at t c h = (safe at t c h).typed
 
 -- ---- what can be lowered
 
@@ -152,7 +159,7 @@ small_more n m le (f ∷ functions) all = (record { few_parameters = all.0.few_p
 small_walk : (h : ℕ) → h ≤ 200 → (entry : ℕ) (a w : Walk) → Passed h entry a true w → IsSmallCore (sides_of entry w)
 small_walk h le entry a w passed =
     let well = passed.follows.well in
-    let main = (typed_walk h entry a w passed).main in
+    let main = (safe_walk h entry a w passed).typed.main in
     let functions = functions_small h entry w well passed.follows.settled w.scope.functions well.declared in
     record {
       cells = All-from_recursion (λ (cells : List Initial). All IsRoomy cells × (0 < length cells)) w.objects (roomy_each w.objects well.roomy);

@@ -16,7 +16,8 @@ use Rattle.ckc_core.specs.States.{Value, Number, Null, At, Shape, State, shape, 
 use Rattle.ckc_core.specs.Bounds.{Ends, with_ends, block_size, lie_within, is_valid}
 use Rattle.ckc_core.specs.Meaning.{sound_if, audit}
 use Rattle.region_typing_rules.specs.Expressions.{bounds_at}
-use Rattle.region_typing_rules.specs.Typed.{IsPlace, HasValue}
+use Rattle.bounds_flow_meaning.specs.Rows.{IsPlace}
+use Rattle.region_typing_rules.specs.Typed.{HasValue}
 use Rattle.region_typing_rules.proofs.Values.{mapped_from}
 
 -- a pointer with its ends is the pointer
@@ -51,7 +52,7 @@ module _ (structs : List Structure) (site : Site) (s : State) where
   one_bounds target = record { bounds = record { base = None; lo = constant (pos 0); hi = constant (pos 1) }; size = size_of structs target; site = site }
 
   -- a place at which a value stands is valid, and so are the ends of the value
-  place_valid : (target : CType) (block byte : ℕ) → IsPlace structs (shapes s.blocks) target block byte → is_valid (one_bounds target) (At block byte) s ≡ true
+  pub place_valid : (target : CType) (block byte : ℕ) → IsPlace structs (shapes s.blocks) target block byte → is_valid (one_bounds target) (At block byte) s ≡ true
   place_valid target block byte h =
       let b = mapped_from shape s.blocks block h.shape h.found in
       let room = subst (λ (x : Shape). byte + size_of structs target ≤ sum x.strides) (sym b.2) h.row.room in

@@ -17,7 +17,9 @@ use Rattle.ckc_core.specs.States.{Value, Number, Null, At, Cell, Block, Local, S
 use Rattle.ckc_core.specs.Steps.{fit, is_zero, is_last, leaves_zero, locals_for}
 use Rattle.ckc_core.proofs.Elements.{of_element}
 use Rattle.region_typing_rules.specs.Types.{is_number}
-use Rattle.region_typing_rules.specs.Typed.{Slot, slots, slots_from, Stands, HasRow, IsPlace, HasValue, IsScalar}
+use Rattle.bounds_flow_meaning.proofs.Rows.{place_grown}
+use Rattle.bounds_flow_meaning.specs.Rows.{Slot, slots, slots_from, Stands, HasRow, IsPlace}
+use Rattle.region_typing_rules.specs.Typed.{HasValue, IsScalar}
 
 -- ---- types
 
@@ -38,11 +40,6 @@ same_refl (Struct n) = grind (arith, nat_tests)
 same_refl (Pointer m k t) = rw (mode_refl m, kind_refl k) (same_refl t)
 
 -- ---- lists
-
-still_there : {X : Type 0} (xs more : List X) (k : ℕ) (x : X) → slice_get xs k ≡ Some x → slice_get (xs ++ more) k ≡ Some x
-still_there [] more k x h = absurd (cc)
-still_there (y ∷ xs) more zero x h = h
-still_there (y ∷ xs) more (suc k) x h = still_there xs more k x h
 
 pub mapped_from : {X Y : Type 0} (f : X → Y) (xs : List X) (k : ℕ) (y : Y) → slice_get (map f xs) k ≡ Some y → (x : X) × (slice_get xs k ≡ Some x) × (f x ≡ y)
 mapped_from f [] k y h = absurd (cc)
@@ -217,11 +214,6 @@ module _ (structs : List Structure) where
   pub member_place : (b : List Shape) (n block first k offset : ℕ) (t : CType) → IsScalar t → IsPlace structs b (Struct n) block first → slice_get (slots structs (Struct n)) k ≡ Some (record { type = t; offset = offset }) → IsPlace structs b t block (first + offset)
   member_place b n block first k offset t scalar h found = record { shape = h.shape; found = h.found; row = member_row h.shape n first k offset t scalar h.row found }
 
-  -- a place is still there where blocks are added
-  pub place_grown : (a b : List Shape) → Grows a b → (t : CType) (block byte : ℕ) → IsPlace structs a t block byte → IsPlace structs b t block byte
-  place_grown a b more t block byte h =
-      record { shape = h.shape; found = ap (λ x. slice_get x block) more.1 ∙ still_there a more.0 block h.shape h.found; row = h.row }
-
   -- what stands first at a place
   first_slot : (row : List Slot) → 0 < length row → (slot : Slot) × (slice_get row 0 ≡ Some slot)
   first_slot [] h = absurd (omega arith)
@@ -257,7 +249,9 @@ module _ (structs : List Structure) where
   value_grown a b more (Struct n) v h = absurd h
   value_grown a b more (Pointer m k t) (Number z) h = absurd h
   value_grown a b more (Pointer m k t) Null h = tt
-  value_grown a b more (Pointer m k t) (At block byte) h = place_grown a b more t block byte h
+  value_grown a b more (Pointer m kinds.One t) (At block byte) h = place_grown structs a b more t block byte h
+  value_grown a b more (Pointer m kinds.Array t) (At block byte) h = tt
+  value_grown a b more (Pointer m kinds.Nt t) (At block byte) h = tt
 
   module _ (b : List Shape) where
     -- ---- values

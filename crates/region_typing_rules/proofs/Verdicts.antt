@@ -1,9 +1,15 @@
 -- What verdicts promise of the values that they pass on.
 use Rattle.std.proofs.Common.{◌≡◌, ℕ, zero, suc, Bool, true, false, List, [], ◌∷◌, ◌++◌, length, Some, refl}
-use Rattle.std.specs.Prelude.{slice_get}
+use Rattle.std.specs.Prelude.{slice_get, not, ◌||◌, is_some}
 use Rattle.ckc_text.specs.declared.code.Code.{Code}
 use Rattle.ckc_text.specs.declared.place.Span.{Span}
+use Rattle.ckc_text.specs.declared.code.Code.TheVariants.{E17, E18, E19}
+use Rattle.bounds_flow.specs.Flows.{Knowledge}
+use Rattle.pointer_modes.specs.Types.{CType}
+use Rattle.ckc_core.specs.Core as core
+use Rattle.ckc_core.specs.Meaning.{bounds_of}
 use Rattle.region_typing_rules.specs.Verdicts.{Verdict, Passes, Stops, passing, needs}
+use Rattle.region_typing_rules.specs.Expressions.{Typed, Value, AStruct, with_elements, is_single_value, lacks_bounds, without_ptr, asked_of, meets, bounds_met, arguments_met}
 
 -- what is so of the value where no rule is broken
 abbrev pub Promises : {A : Type 0} → (A → Type 0) → Verdict A → Type 0
@@ -56,3 +62,21 @@ promised_so P Q (Stops stop) h more = tt
 pub all_promised : {A K : Type 0} (P : K → A → Type 0) (v : Verdict A) → ((k : K) → Promises (P k) v) → Promises (λ (x : A). (k : K) → P k x) v
 all_promised P (Passes value) h = h
 all_promised P (Stops stop) h = tt
+
+-- ---- rules that ask for bounds, and give none
+
+pub elements_promise : {A : Type 0} (Q : A → Type 0) (value : core.Expression) (span : Span) (next : Verdict A) → Promises Q next → Promises Q (with_elements value span next)
+elements_promise Q value span next h = needs_promises Q (is_some (bounds_of value)) E18 span next (λ yes. h)
+
+pub apart_promises : {A : Type 0} (Q : A → Type 0) (a b : Typed) (span : Span) (next : Verdict A) → Promises Q next → Promises Q (without_ptr a b span next)
+apart_promises Q a b span next h =
+    needs_promises Q (not (is_single_value a || is_single_value b)) E19 span _ (λ yes. needs_promises Q (not (lacks_bounds a || lacks_bounds b)) E18 span next (λ known. h))
+
+pub met_promises : {A : Type 0} (Q : A → Type 0) (f : Knowledge) (t : Typed) (to : CType) (span : Span) (next : Verdict A) → Promises Q next → Promises Q (bounds_met f t to span next)
+met_promises Q f (Value type null value place) to span next h = needs_promises Q (null || meets f value (asked_of type to)) E17 span next (λ yes. h)
+met_promises Q f (AStruct number place) to span next h = h
+
+pub all_met_promise : {A : Type 0} (Q : A → Type 0) (f : Knowledge) (ts : List (Typed × Span)) (types : List CType) (next : Verdict A) → Promises Q next → Promises Q (arguments_met f ts types next)
+all_met_promise Q f [] types next h = h
+all_met_promise Q f (t ∷ ts) [] next h = h
+all_met_promise Q f (t ∷ ts) (type ∷ types) next h = met_promises Q f t.0 type t.1 _ (all_met_promise Q f ts types next h)

@@ -1,26 +1,30 @@
 -- What holds of a walk behind each item.
-use Rattle.std.proofs.Common.{◌≡◌, ℕ, zero, suc, ◌*◌, ◌<◌, ◌≤◌, Bool, true, false, List, [], ◌∷◌, ◌++◌, take, length, Some, refl, sym, ap, ◌∙◌, subst, arith}
+use Rattle.std.proofs.Common.{◌≡◌, ℕ, zero, suc, ◌*◌, ◌<◌, ◌≤◌, Bool, true, false, List, [], ◌∷◌, ◌++◌, take, length, Option, Some, None, refl, sym, ap, ◌∙◌, subst, arith}
 use Rattle.std.specs.Prelude.{◌==◌, slice_get}
 use Rattle.std.specs.List.{AllByRecursion}
 use Rattle.std.proofs.Math.Seq.{take-length}
 use Rattle.pointer_modes.specs.Types.{Member, Structure, members_of}
+use Rattle.pointer_modes.specs.Layout.{size_of}
 use Rattle.ckc_core.specs.Programs.{Initial, Import}
 use Rattle.ckc_core.specs.Core as core
 use Rattle.ckc_core.specs.States.{shape, object_block}
 use Rattle.ckc_core.specs.Stacks.{statements_stack}
 use Rattle.region_typing_rules.specs.Verdicts.{picked}
-use Rattle.region_typing_rules.specs.Scopes.{Scope, Signature, Variable, function_named}
+use Rattle.region_typing_rules.specs.Scopes.{Scope, Signature, FileVariable, function_named}
 use Rattle.region_typing_rules.specs.Expressions.{is_import, side_number}
-use Rattle.region_typing_rules.specs.Items.{Defined, Walk}
+use Rattle.region_typing_rules.specs.Items.{Defined, Walk, count_of}
 use Rattle.region_typing_rules.specs.Cores.{body_of}
 use Rattle.region_typing_rules.proofs.Sides.{trusted_functions, tainted_functions, sides_of}
 use Rattle.region_typing_rules.specs.Typed as rules
-use Rattle.region_typing_rules.specs.Typed.{Frame, HasRow, IsScalar, IsFunction, IsInitial}
+use Rattle.bounds_flow_meaning.specs.Rows.{HasRow}
+use Rattle.region_typing_rules.specs.Typed.{Frame, AreRows, IsScalar, IsInitial}
+use Rattle.region_typing_rules.proofs.Safe.{IsSafe}
 use Rattle.region_typing_rules.specs.Lowerable.{objects_size, IsRoomy, IsSmall}
 use Rattle.region_typing_rules.proofs.Verdicts.{Extends}
 use Rattle.region_typing_rules.proofs.Known.{IsClosed}
-use Rattle.region_typing_rules.proofs.Knowledge.{IsTrusted, IsTainted, KnowsFile}
-use Rattle.region_typing_rules.proofs.Layouts.{IsStart, earlier_members, row_kept}
+use Rattle.region_typing_rules.proofs.Knowledge.{IsTrusted, IsTainted, IsVariable, KnowsFile}
+use Rattle.region_typing_rules.proofs.Layouts.{IsStart, earlier_members}
+use Rattle.region_typing_rules.proofs.Copies.{rows_kept}
 use Rattle.region_typing_rules.proofs.Signatures.{named_self, named_has, numbers_equal, trusted_there, tainted_there, IsDeclared}
 
 -- ---- scopes that grow at file level
@@ -59,20 +63,26 @@ known_before g a b closed h known = record {
 
 -- ---- walks
 
--- the cells of each variable stand as its slots
-abbrev pub AreSettled : List Structure → List Variable → List (List Initial) → Type 0
+-- the cells of a variable are those of as many values of its type as it has
+pub record IsSettled (structs : List Structure) (v : FileVariable) (cells : List Initial) : Type 0 where
+  pub some : 0 < count_of v.length
+  pub few : count_of v.length ≤ 8192
+  pub rows : AreRows structs (shape (object_block cells)) v.type (count_of v.length)
+
+-- and so are those of each variable
+abbrev pub AreSettled : List Structure → List FileVariable → List (List Initial) → Type 0
 AreSettled structs [] [] = Unit {0}
 AreSettled structs [] (o ∷ objects) = ⊥
 AreSettled structs (v ∷ variables) [] = ⊥
-AreSettled structs (v ∷ variables) (o ∷ objects) = HasRow structs (shape (object_block o)) 0 v.type × AreSettled structs variables objects
+AreSettled structs (v ∷ variables) (o ∷ objects) = IsSettled structs v o × AreSettled structs variables objects
 
--- a body of a declared function has types, wherever what was known is known
+-- a body of a declared function has types and is never stuck, wherever what was known is known
 pub record IsBody (height : ℕ) (s : Scope) (b : Defined) : Type 0 where
   pub signature : Signature
   pub named : function_named s.functions b.name ≡ Some signature
   pub parameters : take b.function.parameters b.function.locals ≡ signature.parameters
   pub result : b.function.result ≡ signature.result
-  pub typed : (g : Frame) → KnowsFile g s → IsFunction g b.function
+  pub safe : (g : Frame) → KnowsFile g s → IsSafe g b.function
   pub few_parameters : b.function.parameters ≤ 16
   pub few_locals : length b.function.locals ≤ 256
   pub low : statements_stack b.function.body ≤ 17 * height
@@ -89,16 +99,19 @@ pub record IsWell (height : ℕ) (w : Walk) : Type 0 where
   pub bytes : objects_size w.objects ≤ w.taken
   pub room : w.taken ≤ 32768
 
-pub settled_later : (a b : List Structure) (variables : List Variable) (objects : List (List Initial)) → Extends a b → AreSettled a variables objects → AreSettled b variables objects
+pub settled_later : (a b : List Structure) (variables : List FileVariable) (objects : List (List Initial)) → Extends a b → AreSettled a variables objects → AreSettled b variables objects
 settled_later a b [] [] ext h = tt
 settled_later a b [] (o ∷ objects) ext h = absurd h
 settled_later a b (v ∷ variables) [] ext h = absurd h
-settled_later a b (v ∷ variables) (o ∷ objects) ext h = (row_kept a b (shape (object_block o)) 0 v.type ext h.0, settled_later a b variables objects ext h.1)
+settled_later a b (v ∷ variables) (o ∷ objects) ext h = (
+  record { some = h.0.some; few = h.0.few; rows = rows_kept a b (shape (object_block o)) v.type (count_of v.length) ext h.0.rows },
+  settled_later a b variables objects ext h.1,
+)
 
 pub bodies_later : (height : ℕ) (a b : Scope) (bodies : List Defined) → IsClosed a → FileGrows a b → AllByRecursion (IsBody height a) bodies → AllByRecursion (IsBody height b) bodies
 bodies_later height a b [] closed h all = tt
 bodies_later height a b (x ∷ bodies) closed h all = (
-  record { signature = all.0.signature; named = h.functions x.name all.0.signature all.0.named; parameters = all.0.parameters; result = all.0.result; typed = λ g known. all.0.typed g (known_before g a b closed h known); few_parameters = all.0.few_parameters; few_locals = all.0.few_locals; low = all.0.low },
+  record { signature = all.0.signature; named = h.functions x.name all.0.signature all.0.named; parameters = all.0.parameters; result = all.0.result; safe = λ g known. all.0.safe g (known_before g a b closed h known); few_parameters = all.0.few_parameters; few_locals = all.0.few_locals; low = all.0.low },
   bodies_later height a b bodies closed h all.1,
 )
 
@@ -108,11 +121,21 @@ all_append P (y ∷ xs) x all h = (all.0, all_append P xs x all.1 h)
 
 -- ---- the program behind the whole walk
 
-settled_there : (structs : List Structure) (variables : List Variable) (objects : List (List Initial)) (k : ℕ) (v : Variable) → AreSettled structs variables objects → slice_get variables k ≡ Some v → (cells : List Initial) × (slice_get objects k ≡ Some cells) × HasRow structs (shape (object_block cells)) 0 v.type
+settled_there : (structs : List Structure) (variables : List FileVariable) (objects : List (List Initial)) (k : ℕ) (v : FileVariable) → AreSettled structs variables objects → slice_get variables k ≡ Some v → (cells : List Initial) × (slice_get objects k ≡ Some cells) × IsSettled structs v cells
 settled_there structs [] objects k v h e = absurd (cc)
 settled_there structs (x ∷ variables) [] k v h e = absurd h
-settled_there structs (x ∷ variables) (o ∷ objects) zero v h e = let same : x ≡ v = cc in (o, refl, subst (λ (y : Variable). HasRow structs (shape (object_block o)) 0 y.type) same h.0)
+settled_there structs (x ∷ variables) (o ∷ objects) zero v h e = let same : x ≡ v = cc in (o, refl, subst (λ (y : FileVariable). IsSettled structs y o) same h.0)
 settled_there structs (x ∷ variables) (o ∷ objects) (suc k) v h e = settled_there structs variables objects k v h.1 e
+
+-- the object of a variable is there
+variable_there : (g : Frame) (number : ℕ) (v : FileVariable) (cells : List Initial) → slice_get g.program.objects number ≡ Some cells → IsSettled g.structs v cells → IsVariable g v.type v.length number
+variable_there g number v cells found settled = by v.length settled.some settled.few settled.rows
+  where
+    by : (length : Option ℕ) → 0 < count_of length → count_of length ≤ 8192 → AreRows g.structs (shape (object_block cells)) v.type (count_of length) → IsVariable g v.type length number
+    by None some few rows =
+        let first : 0 * size_of g.structs v.type ≡ 0 = omega arith in
+        record { cells = cells; found = found; row = subst (λ byte. HasRow g.structs (shape (object_block cells)) byte v.type) first (rows 0 (omega arith)) }
+    by (Some n) some few rows = record { cells = cells; found = found; some = some; few = few; rows = rows }
 
 -- the body that is found is one of the function
 pub record Suits (b : core.Function) (f : Signature) : Type 0 where
@@ -172,25 +195,25 @@ module _ (height entry : ℕ) (w : Walk) (well : IsWell height w) (settled : Are
     closed = well.closed;
     few_members = well.few;
     scalar_members = well.scalars;
-    variables = λ k v e. let there = settled_there w.scope.structs w.scope.variables w.objects k v settled e in record { cells = there.0; found = there.1; row = there.2 };
+    variables = λ k v e. let there = settled_there w.scope.structs w.scope.variables w.objects k v settled e in variable_there frame k v there.0 there.1 there.2;
     trusted = trusted_known;
     tainted = tainted_known;
   }
 
   -- each function has types
-  body_typed : (bodies : List Defined) (f : Signature) → AllByRecursion (IsBody height w.scope) bodies → IsDeclared f → IsFunction frame (body_of bodies f)
-  body_typed [] f all declared = record { parameters = omega arith; locals = declared.scalars; result = declared.result; body = rules.no_more }
-  body_typed (b ∷ bodies) f all declared = chosen (f.name == b.name) (all.0.typed frame known) (body_typed bodies f all.1 declared)
+  body_safe : (bodies : List Defined) (f : Signature) → AllByRecursion (IsBody height w.scope) bodies → IsDeclared f → IsSafe frame (body_of bodies f)
+  body_safe [] f all declared = record { typed = record { parameters = omega arith; locals = declared.scalars; result = declared.result; body = rules.no_more }; runs = λ budget sandbox trusted n knots low s kept. (tt, kept) }
+  body_safe (b ∷ bodies) f all declared = chosen (f.name == b.name) (all.0.safe frame known) (body_safe bodies f all.1 declared)
     where
-      chosen : (test : Bool) → IsFunction frame b.function → IsFunction frame (body_of bodies f) → IsFunction frame (picked test b.function (body_of bodies f))
+      chosen : (test : Bool) → IsSafe frame b.function → IsSafe frame (body_of bodies f) → IsSafe frame (picked test b.function (body_of bodies f))
       chosen true h again = h
       chosen false h again = again
 
-  pub functions_typed : (functions : List Signature) → AllByRecursion IsDeclared functions → AllByRecursion (IsFunction frame) (trusted_functions w.bodies functions)
-  functions_typed [] all = tt
-  functions_typed (f ∷ functions) all = chosen (is_import f) (body_typed w.bodies f well.bodies all.0) (functions_typed functions all.1)
+  pub functions_safe : (functions : List Signature) → AllByRecursion IsDeclared functions → AllByRecursion (IsSafe frame) (trusted_functions w.bodies functions)
+  functions_safe [] all = tt
+  functions_safe (f ∷ functions) all = chosen (is_import f) (body_safe w.bodies f well.bodies all.0) (functions_safe functions all.1)
     where
-      chosen : (test : Bool) → IsFunction frame (body_of w.bodies f) → AllByRecursion (IsFunction frame) (trusted_functions w.bodies functions) → AllByRecursion (IsFunction frame) (picked test (trusted_functions w.bodies functions) (body_of w.bodies f ∷ trusted_functions w.bodies functions))
+      chosen : (test : Bool) → IsSafe frame (body_of w.bodies f) → AllByRecursion (IsSafe frame) (trusted_functions w.bodies functions) → AllByRecursion (IsSafe frame) (picked test (trusted_functions w.bodies functions) (body_of w.bodies f ∷ trusted_functions w.bodies functions))
       chosen true h rest = rest
       chosen false h rest = (h, rest)
 
@@ -206,7 +229,7 @@ module _ (height entry : ℕ) (w : Walk) (well : IsWell height w) (settled : Are
   -- each function is small enough to be lowered, and each import to be called
   body_small : (bodies : List Defined) (f : Signature) → AllByRecursion (IsBody height w.scope) bodies → IsDeclared f → IsSmall (17 * height) (body_of bodies f)
   body_small [] f all declared = let few = declared.few in record { few_parameters = few; held = omega arith; few_locals = omega arith; low = omega arith }
-  body_small (b ∷ bodies) f all declared = chosen (f.name == b.name) (record { few_parameters = all.0.few_parameters; held = (all.0.typed frame known).parameters; few_locals = all.0.few_locals; low = all.0.low }) (body_small bodies f all.1 declared)
+  body_small (b ∷ bodies) f all declared = chosen (f.name == b.name) (record { few_parameters = all.0.few_parameters; held = (all.0.safe frame known).typed.parameters; few_locals = all.0.few_locals; low = all.0.low }) (body_small bodies f all.1 declared)
     where
       chosen : (test : Bool) → IsSmall (17 * height) b.function → IsSmall (17 * height) (body_of bodies f) → IsSmall (17 * height) (picked test b.function (body_of bodies f))
       chosen true h again = h

@@ -1,8 +1,8 @@
 -- The expressions of a core have few nodes, by how many the tree has that they come from.
 use Rattle.std.proofs.Common.{◌≡◌, ℕ, ◌+◌, ◌*◌, ◌<◌, ◌≤◌, ◌^◌, Bool, true, false, List, [], ◌∷◌, length, Option, Some, None, refl, arith}
-use Rattle.std.specs.Prelude.{◌==◌, nat_lt, not, ◌&&◌, ◌||◌}
+use Rattle.std.specs.Prelude.{◌==◌, nat_lt, ◌&&◌}
 use Rattle.ckc_text.specs.declared.place.Span.{Span}
-use Rattle.ckc_text.specs.declared.code.Code.TheVariants.{E04, E13, E14, E19}
+use Rattle.ckc_text.specs.declared.code.Code.TheVariants.{E04, E13, E14}
 use Rattle.ckc_tree.specs.declared.expr.UnaryOperator.{UnaryOperator}
 use Rattle.ckc_tree.specs.declared.expr.UnaryOperator.TheVariants as unary
 use Rattle.ckc_tree.specs.declared.expr.BinaryOperator.{BinaryOperator}
@@ -10,6 +10,7 @@ use Rattle.ckc_tree.specs.declared.expr.BinaryOperator.TheVariants as binary
 use Rattle.ckc_tree.specs.Expressions as e
 use Rattle.ckc_tree.specs.Expressions.{Expression, Expressions}
 use Rattle.ckc_tree.specs.Weights as tree
+use Rattle.pointer_modes.specs.declared.ctype.Kind.TheVariants as kinds
 use Rattle.pointer_modes.specs.Types.{CType, Int, Char, Struct, Pointer, Structure, members_of}
 use Rattle.pointer_modes.specs.Layout.{cells_of}
 use Rattle.ckc_core.specs.declared.program.Site.{Site}
@@ -21,26 +22,29 @@ use Rattle.act_words.specs.declared.operator.Comparison.{Comparison}
 use Rattle.act_words.specs.declared.operator.Comparison.TheVariants as comparisons
 use Rattle.ckc_core.specs.declared.program.Callee.{Callee}
 use Rattle.ckc_core.specs.declared.program.PointerBounds.{PointerBounds}
+use Rattle.ckc_core.specs.declared.program.Direction.{Direction}
+use Rattle.ckc_core.specs.declared.program.Direction.TheVariants as directions
 use Rattle.ckc_core.specs.Core as core
 use Rattle.ckc_core.specs.Weights.{expression_weight, arguments_weight, place_weight, statement_weight}
 use Rattle.ckc_names_rules.specs.declared.given.Given.{Given}
-use Rattle.region_typing_rules.specs.Verdicts.{Verdict, Passes, passing, breaks}
-use Rattle.region_typing_rules.specs.Scopes.{Scope, Signature, Named, Local, Object, Nothing, named, function_named, members_named}
+use Rattle.region_typing_rules.specs.Verdicts.{Verdict, Passes, passing}
+use Rattle.region_typing_rules.specs.Scopes.{Scope, Signature, Named, Local, Object, Array, Nothing, named, function_named, members_named}
 use Rattle.region_typing_rules.specs.Types.{type_named, is_number, is_pointer, are_comparable, converts}
-use Rattle.region_typing_rules.specs.Expressions.{Places, Lvalue, OfLocal, OfCell, Typed, Value, AStruct, Called, Gives, GivesNothing, site_at, bounds_at, noted, with_bounds, bounded, number, at_place, local_typed, name_typed, member_place, member_from, offset_among, member_at, dotted, pointed_by, arrowed, pointed_at, dereferenced, pointer_to, address, number_of, scalar_of, unary_typed, is_pointer_value, two_numbers, two_scalars, summands, as_pointer, equated_values, equated, ordered_values, ordered, arithmetic, binary_typed, indexed, in_type, converted, arguments_as, is_import, call_of, declared_callee, first_of, writes, predefined_call, called, with_result, typed, all_typed, call_typed}
+use Rattle.region_typing_rules.specs.Expressions.{Places, OfLocal, OfCell, Standing, ForNothing, ForArray, For, Typed, Value, AStruct, Called, Gives, GivesNothing, site_at, bounds_at, noted, noted_if, with_bounds, sum_node, bounded, plain, number, at_place, local_typed, name_typed, member_place, member_from, offset_among, member_at, dotted, first_element, pointed_by, arrowed, pointed_at, dereferenced, pointer_to, address, number_of, scalar_of, unary_typed, two_numbers, two_scalars, operator_along, summed, sum_typed, as_pointer, equated_values, equated, ordered_values, ordered, arithmetic, binary_typed, element_at, indexed, in_type, converted, arguments_as, is_import, call_of, declared_callee, first_of, writes, predefined_call, called, with_result, typed, all_typed, call_typed}
 use Rattle.region_typing_rules.proofs.Knowledge.{crossing_promises}
-use Rattle.region_typing_rules.proofs.Verdicts.{Promises, passing_promises, needs_promises, anything_promised, promised_so}
+use Rattle.region_typing_rules.proofs.Verdicts.{Promises, passing_promises, needs_promises, anything_promised, promised_so, elements_promise, apart_promises, all_met_promise}
 
 -- ---- what an expression is has fewer nodes
 
-abbrev pub LightPlace : ℕ → Option Lvalue → Type 0
-LightPlace n None = Unit {0}
-LightPlace n (Some (OfLocal k)) = Unit {0}
-LightPlace n (Some (OfCell p)) = place_weight p < n
+abbrev pub LightPlace : ℕ → Standing → Type 0
+LightPlace n ForNothing = Unit {0}
+LightPlace n ForArray = Unit {0}
+LightPlace n (For (OfLocal k)) = Unit {0}
+LightPlace n (For (OfCell p)) = place_weight p < n
 
 abbrev pub Light : ℕ → Typed → Type 0
 Light n (Value type zero value place) = (expression_weight value < n) × LightPlace n place
-Light n (AStruct number place) = LightPlace n (Some place)
+Light n (AStruct number place) = LightPlace n (For place)
 
 abbrev pub LightCall : ℕ → Called → Type 0
 LightCall n (Gives type value) = expression_weight value < n
@@ -49,14 +53,15 @@ LightCall n (GivesNothing call) = statement_weight call < n
 abbrev pub IsLight : ℕ → core.Expression → Type 0
 IsLight n v = expression_weight v < n
 
-light_place_more : (n m : ℕ) (place : Option Lvalue) → n ≤ m → LightPlace n place → LightPlace m place
-light_place_more n m None le h = tt
-light_place_more n m (Some (OfLocal k)) le h = tt
-light_place_more n m (Some (OfCell p)) le h = omega arith
+light_place_more : (n m : ℕ) (place : Standing) → n ≤ m → LightPlace n place → LightPlace m place
+light_place_more n m ForNothing le h = tt
+light_place_more n m ForArray le h = tt
+light_place_more n m (For (OfLocal k)) le h = tt
+light_place_more n m (For (OfCell p)) le h = omega arith
 
 light_more : (n m : ℕ) (t : Typed) → n ≤ m → Light n t → Light m t
 light_more n m (Value type zero value place) le h = let first = h.0 in (omega arith, light_place_more n m place le h.1)
-light_more n m (AStruct number place) le h = light_place_more n m (Some place) le h
+light_more n m (AStruct number place) le h = light_place_more n m (For place) le h
 
 -- bounds are no nodes
 noted_light : (b : Option PointerBounds) (v : core.Expression) → expression_weight (noted b v) ≡ expression_weight v
@@ -81,8 +86,12 @@ noted_light b (core.Order comparison left right site) = refl
 noted_light b (core.Allocate count element bounds) = refl
 noted_light b (core.Cast pointer bounds) = refl
 
+noted_if_light : (b : Option PointerBounds) (v : core.Expression) → expression_weight (noted_if b v) ≡ expression_weight v
+noted_if_light None v = refl
+noted_if_light (Some p) v = noted_light (Some p) v
+
 with_bounds_light : (n : ℕ) (s : Scope) (site : Site) (t : Typed) → Light n t → Light n (with_bounds s.structs site t)
-with_bounds_light n s site (Value type zero value place) h = let first = h.0 in (omega (arith, noted_light (bounds_at s.structs type site) value), h.1)
+with_bounds_light n s site (Value type zero value place) h = let first = h.0 in (omega (arith, noted_if_light (bounds_at s.structs type site) value), h.1)
 with_bounds_light n s site (AStruct number place) h = h
 
 bounded_light : (n : ℕ) (s : Scope) (site : Site) (v : Verdict Typed) → Promises (Light n) v → Promises (Light n) (bounded s site v)
@@ -102,10 +111,11 @@ local_light n k Char h = (h, tt)
 local_light n k (Struct number) h = tt
 local_light n k (Pointer m d t) h = (h, tt)
 
-name_light : (n : ℕ) (x : Named) → 2 < n → Light n (name_typed x)
-name_light n (Local k t) h = local_light n k t (omega arith)
-name_light n (Object k t) h = at_place_light n t (core.Direct k 0) (omega arith)
-name_light n Nothing h = (omega arith, tt)
+name_light : (n : ℕ) (structs : List Structure) (x : Named) (site : Site) → 2 < n → Light n (name_typed structs x site)
+name_light n structs (Local k t) site h = local_light n k t (omega arith)
+name_light n structs (Object k t) site h = at_place_light n t (core.Direct k 0) (omega arith)
+name_light n structs (Array k t length) site h = (omega arith, tt)
+name_light n structs Nothing site h = (omega arith, tt)
 
 member_weight : (p : core.Place) (offset : ℕ) (site : Site) → place_weight (member_place p offset site) ≡ place_weight p
 member_weight (core.Direct object first) offset site = refl
@@ -116,19 +126,22 @@ pointer_light n t (core.Direct object offset) site h = (h, tt)
 pointer_light n t (core.Through pointer index offset before) site h = (h, tt)
 
 address_light : (n : ℕ) (a : Typed) (site : Site) (span : Span) → Light n a → Promises (Light n) (address a site span)
-address_light n (Value type zero value None) site span h = tt
-address_light n (Value type zero value (Some (OfLocal k))) site span h = tt
-address_light n (Value type zero value (Some (OfCell p))) site span h = pointer_light n type p site h.1
+address_light n (Value type zero value ForNothing) site span h = tt
+address_light n (Value type zero value ForArray) site span h = tt
+address_light n (Value type zero value (For (OfLocal k))) site span h = tt
+address_light n (Value type zero value (For (OfCell p))) site span h = pointer_light n type p site h.1
 address_light n (AStruct number (OfLocal k)) site span h = tt
 address_light n (AStruct number (OfCell p)) site span h = pointer_light n (Struct number) p site h
 
-pointed_light : (n : ℕ) (t : CType) (value : core.Expression) (site : Site) (span : Span) → IsLight n value → Promises (Light (n + 2)) (pointed_at t value site span)
+pointed_light : (n : ℕ) (t : CType) (value : core.Expression) (site : Site) (span : Span) → IsLight n value → Promises (Light (n + 3)) (pointed_at t value site span)
 pointed_light n Int value site span h = tt
 pointed_light n Char value site span h = tt
 pointed_light n (Struct number) value site span h = tt
-pointed_light n (Pointer m k t) value site span h = at_place_light (n + 2) t (core.Through value core.First 0 site) (omega arith)
+pointed_light n (Pointer m kinds.One t) value site span h = at_place_light (n + 3) t (core.Through value core.First 0 site) (omega arith)
+pointed_light n (Pointer m kinds.Array t) value site span h = elements_promise (Light (n + 3)) value span _ (at_place_light (n + 3) t (first_element value site) (omega arith))
+pointed_light n (Pointer m kinds.Nt t) value site span h = tt
 
-dereferenced_light : (n : ℕ) (a : Typed) (site : Site) (span : Span) → Light n a → Promises (Light (n + 2)) (dereferenced a site span)
+dereferenced_light : (n : ℕ) (a : Typed) (site : Site) (span : Span) → Light n a → Promises (Light (n + 3)) (dereferenced a site span)
 dereferenced_light n (Value type zero value place) site span h = pointed_light n type value site span h.0
 dereferenced_light n (AStruct number place) site span h = tt
 
@@ -146,16 +159,23 @@ dotted_light n s (Value type zero value place) name site span two h = tt
 dotted_light n s (AStruct number (OfLocal k)) name site span two h = member_at_light (n + 2) s number (core.Through (core.Local k None) core.First 0 site) name site span (omega arith)
 dotted_light n s (AStruct number (OfCell p)) name site span two h = member_at_light (n + 2) s number p name site span (omega arith)
 
-pointed_by_light : (n : ℕ) (s : Scope) (t : CType) (value : core.Expression) (name : ℕ) (site : Site) (span : Span) → IsLight n value → Promises (Light (n + 2)) (pointed_by s t value name site span)
+pointed_by_light : (n : ℕ) (s : Scope) (t : CType) (value : core.Expression) (name : ℕ) (site : Site) (span : Span) → IsLight n value → Promises (Light (n + 3)) (pointed_by s t value name site span)
 pointed_by_light n s Int value name site span h = tt
 pointed_by_light n s Char value name site span h = tt
 pointed_by_light n s (Struct number) value name site span h = tt
-pointed_by_light n s (Pointer m k Int) value name site span h = tt
-pointed_by_light n s (Pointer m k Char) value name site span h = tt
-pointed_by_light n s (Pointer m k (Pointer m' k' t)) value name site span h = tt
-pointed_by_light n s (Pointer m k (Struct number)) value name site span h = member_at_light (n + 2) s number (core.Through value core.First 0 site) name site span (omega arith)
+pointed_by_light n s (Pointer m kinds.One Int) value name site span h = tt
+pointed_by_light n s (Pointer m kinds.One Char) value name site span h = tt
+pointed_by_light n s (Pointer m kinds.One (Pointer m' k' t)) value name site span h = tt
+pointed_by_light n s (Pointer m kinds.One (Struct number)) value name site span h = member_at_light (n + 3) s number (core.Through value core.First 0 site) name site span (omega arith)
+pointed_by_light n s (Pointer m kinds.Array Int) value name site span h = tt
+pointed_by_light n s (Pointer m kinds.Array Char) value name site span h = tt
+pointed_by_light n s (Pointer m kinds.Array (Pointer m' k' t)) value name site span h = tt
+pointed_by_light n s (Pointer m kinds.Array (Struct number)) value name site span h =
+    passing_promises (Light (n + 3)) (Light (n + 3)) (member_at s number (first_element value site) name site span) _ (member_at_light (n + 3) s number (first_element value site) name site span (omega arith))
+    (λ t light. elements_promise (Light (n + 3)) value span (Passes t) light)
+pointed_by_light n s (Pointer m kinds.Nt t) value name site span h = tt
 
-arrowed_light : (n : ℕ) (s : Scope) (a : Typed) (name : ℕ) (site : Site) (span : Span) → Light n a → Promises (Light (n + 2)) (arrowed s a name site span)
+arrowed_light : (n : ℕ) (s : Scope) (a : Typed) (name : ℕ) (site : Site) (span : Span) → Light n a → Promises (Light (n + 3)) (arrowed s a name site span)
 arrowed_light n s (Value type zero value place) name site span h = pointed_by_light n s type value name site span h.0
 arrowed_light n s (AStruct number place) name site span h = tt
 
@@ -169,12 +189,12 @@ pub scalar_of_light : {A : Type 0} (Q : A → Type 0) (n : ℕ) (a : Typed) (spa
 scalar_of_light Q n (Value type zero value place) span next h more = more value h.0
 scalar_of_light Q n (AStruct number place) span next h more = tt
 
-unary_light : (n : ℕ) (operator : UnaryOperator) (a : Typed) (site : Site) (span : Span) → Light n a → Promises (Light (n + 2)) (unary_typed operator a site span)
+unary_light : (n : ℕ) (operator : UnaryOperator) (a : Typed) (site : Site) (span : Span) → Light n a → Promises (Light (n + 3)) (unary_typed operator a site span)
 unary_light n unary.Deref a site span h = dereferenced_light n a site span h
-unary_light n unary.AddressOf a site span h = promised_so (Light n) (Light (n + 2)) (address a site span) (address_light n a site span h) (λ t. light_more n (n + 2) t (omega arith))
-unary_light n unary.Negate a site span h = number_of_light (Light (n + 2)) n a span (λ v. number (core.Negate v site)) h (λ v light. (omega arith, tt))
-unary_light n unary.Not a site span h = scalar_of_light (Light (n + 2)) n a span (λ v. number (core.Not v)) h (λ v light. (omega arith, tt))
-unary_light n unary.Complement a site span h = number_of_light (Light (n + 2)) n a span (λ v. number (core.Complement v)) h (λ v light. (omega arith, tt))
+unary_light n unary.AddressOf a site span h = promised_so (Light n) (Light (n + 3)) (address a site span) (address_light n a site span h) (λ t. light_more n (n + 3) t (omega arith))
+unary_light n unary.Negate a site span h = number_of_light (Light (n + 3)) n a span (λ v. number (core.Negate v site)) h (λ v light. (omega arith, tt))
+unary_light n unary.Not a site span h = scalar_of_light (Light (n + 3)) n a span (λ v. number (core.Not v)) h (λ v light. (omega arith, tt))
+unary_light n unary.Complement a site span h = number_of_light (Light (n + 3)) n a span (λ v. number (core.Complement v)) h (λ v light. (omega arith, tt))
 
 pub two_light : {A : Type 0} (Q : A → Type 0) (n m : ℕ) (a b : Typed) (span : Span) (next : core.Expression → core.Expression → Verdict A) → Light n a → Light m b → ((v w : core.Expression) → IsLight n v → IsLight m w → Promises Q (next v w)) → Promises Q (two_numbers a b span next)
 two_light Q n m a b span next ha hb more = number_of_light Q n a span _ ha (λ v light. number_of_light Q m b span _ hb (λ w light'. more v w light light'))
@@ -183,11 +203,20 @@ module _ (n m : ℕ) (a b : Typed) (span : Span) (ha : Light n a) (hb : Light m 
   arithmetic_light : (operator : Operator) (site : Site) → Promises (Light (n + m + 2)) (two_numbers a b span (arithmetic operator site))
   arithmetic_light operator site = two_light (Light (n + m + 2)) n m a b span (arithmetic operator site) ha hb (λ v w light light'. (omega arith, tt))
 
-  sum_light : (operator : Operator) (site : Site) → Promises (Light (n + m + 2)) (summands a b span (arithmetic operator site))
-  sum_light operator site = needs_promises (Light (n + m + 2)) (not (is_pointer_value a || is_pointer_value b)) E19 span _ (λ x. arithmetic_light operator site)
-
   truths_light : (of : core.Expression → core.Expression → core.Expression) → ((v w : core.Expression) → expression_weight (of v w) ≡ 1 + expression_weight v + expression_weight w) → Promises (Light (n + m + 2)) (two_scalars a b span (λ v w. number (of v w)))
   truths_light of h = scalar_of_light (Light (n + m + 2)) n a span _ ha (λ v light. scalar_of_light (Light (n + m + 2)) m b span _ hb (λ w light'. (omega (arith, h v w), tt)))
+
+summed_light : (n m : ℕ) (s : Scope) (direction : Direction) (a b : Typed) (site : Site) (span : Span) → Light n a → Light m b → Promises (Light (n + m + 2)) (summed s direction a b site span)
+summed_light n m s direction (Value (Pointer mode k t) zero pointer place) b site span ha hb =
+    let light = ha.0 in
+    number_of_light (Light (n + m + 2)) m b span (λ w. plain (Pointer mode k t) (core.Sum pointer direction w site (sum_node s.locals direction pointer w site))) hb (λ w light'. (omega arith, tt))
+summed_light n m s direction (Value Int zero value place) b site span ha hb = arithmetic_light n m (Value Int zero value place) b span ha hb (operator_along direction) site
+summed_light n m s direction (Value Char zero value place) b site span ha hb = arithmetic_light n m (Value Char zero value place) b span ha hb (operator_along direction) site
+summed_light n m s direction (Value (Struct k) zero value place) b site span ha hb = tt
+summed_light n m s direction (AStruct k place) b site span ha hb = tt
+
+sum_light : (n m : ℕ) (s : Scope) (direction : Direction) (a b : Typed) (site : Site) (span : Span) → Light n a → Light m b → Promises (Light (n + m + 2)) (sum_typed s direction a b site span)
+sum_light n m s direction a b site span ha hb = apart_promises (Light (n + m + 2)) a b span _ (summed_light n m s direction a b site span ha hb)
 
 equated_values_light : (n m : ℕ) (t : CType) (z : Bool) (v : core.Expression) (u : CType) (y : Bool) (w : core.Expression) (span : Span) → IsLight n v → IsLight m w → Promises (IsLight (n + m + 1)) (equated_values t z v u y w span)
 equated_values_light n m t z v u y w span hv hw = by (is_number t && is_number u) (are_comparable t u) (is_pointer t && y) (is_pointer u && z) refl refl refl refl
@@ -217,30 +246,39 @@ ordered_light n m comparison (Value t z v p) (Value u y w q) span ha hb = ordere
 ordered_light n m comparison (Value t z v p) (AStruct k q) span ha hb = tt
 ordered_light n m comparison (AStruct k p) b span ha hb = tt
 
-binary_light : (n m : ℕ) (operator : BinaryOperator) (a b : Typed) (site : Site) (span : Span) → 2 ≤ n → 2 ≤ m → Light n a → Light m b → Promises (Light (n + m + 2)) (binary_typed operator a b site span)
-binary_light n m binary.Or a b site span two two' ha hb = truths_light n m a b span ha hb core.OrElse (λ v w. refl)
-binary_light n m binary.And a b site span two two' ha hb = truths_light n m a b span ha hb core.AndAlso (λ v w. refl)
-binary_light n m binary.BitOr a b site span two two' ha hb = arithmetic_light n m a b span ha hb (operators.Bitwise bits.Or) site
-binary_light n m binary.BitXor a b site span two two' ha hb = arithmetic_light n m a b span ha hb (operators.Bitwise bits.Xor) site
-binary_light n m binary.BitAnd a b site span two two' ha hb = arithmetic_light n m a b span ha hb (operators.Bitwise bits.And) site
-binary_light n m binary.Equal a b site span two two' ha hb = passing_promises (IsLight (n + m + 1)) (Light (n + m + 2)) (equated a b span) number (equated_light n m a b span two two' ha hb) (λ v light. (omega arith, tt))
-binary_light n m binary.NotEqual a b site span two two' ha hb = passing_promises (IsLight (n + m + 1)) (Light (n + m + 2)) (equated a b span) (λ v. number (core.Not v)) (equated_light n m a b span two two' ha hb) (λ v light. (omega arith, tt))
-binary_light n m binary.Less a b site span two two' ha hb = ordered_light n m comparisons.Less a b span ha hb
-binary_light n m binary.LessEqual a b site span two two' ha hb = ordered_light n m comparisons.LessEqual a b span ha hb
-binary_light n m binary.Greater a b site span two two' ha hb = ordered_light n m comparisons.Greater a b span ha hb
-binary_light n m binary.GreaterEqual a b site span two two' ha hb = ordered_light n m comparisons.GreaterEqual a b span ha hb
-binary_light n m binary.ShiftLeft a b site span two two' ha hb = arithmetic_light n m a b span ha hb (operators.Arithmetic arithmetics.ShiftLeft) site
-binary_light n m binary.ShiftRight a b site span two two' ha hb = arithmetic_light n m a b span ha hb (operators.Arithmetic arithmetics.ShiftRight) site
-binary_light n m binary.Add a b site span two two' ha hb = sum_light n m a b span ha hb (operators.Arithmetic arithmetics.Add) site
-binary_light n m binary.Subtract a b site span two two' ha hb = sum_light n m a b span ha hb (operators.Arithmetic arithmetics.Subtract) site
-binary_light n m binary.Multiply a b site span two two' ha hb = arithmetic_light n m a b span ha hb (operators.Arithmetic arithmetics.Multiply) site
-binary_light n m binary.Divide a b site span two two' ha hb = arithmetic_light n m a b span ha hb (operators.Arithmetic arithmetics.Divide) site
-binary_light n m binary.Remainder a b site span two two' ha hb = arithmetic_light n m a b span ha hb (operators.Arithmetic arithmetics.Remainder) site
+binary_light : (n m : ℕ) (s : Scope) (operator : BinaryOperator) (a b : Typed) (site : Site) (span : Span) → 2 ≤ n → 2 ≤ m → Light n a → Light m b → Promises (Light (n + m + 2)) (binary_typed s operator a b site span)
+binary_light n m s binary.Or a b site span two two' ha hb = truths_light n m a b span ha hb core.OrElse (λ v w. refl)
+binary_light n m s binary.And a b site span two two' ha hb = truths_light n m a b span ha hb core.AndAlso (λ v w. refl)
+binary_light n m s binary.BitOr a b site span two two' ha hb = arithmetic_light n m a b span ha hb (operators.Bitwise bits.Or) site
+binary_light n m s binary.BitXor a b site span two two' ha hb = arithmetic_light n m a b span ha hb (operators.Bitwise bits.Xor) site
+binary_light n m s binary.BitAnd a b site span two two' ha hb = arithmetic_light n m a b span ha hb (operators.Bitwise bits.And) site
+binary_light n m s binary.Equal a b site span two two' ha hb = passing_promises (IsLight (n + m + 1)) (Light (n + m + 2)) (equated a b span) number (equated_light n m a b span two two' ha hb) (λ v light. (omega arith, tt))
+binary_light n m s binary.NotEqual a b site span two two' ha hb = passing_promises (IsLight (n + m + 1)) (Light (n + m + 2)) (equated a b span) (λ v. number (core.Not v)) (equated_light n m a b span two two' ha hb) (λ v light. (omega arith, tt))
+binary_light n m s binary.Less a b site span two two' ha hb = ordered_light n m comparisons.Less a b span ha hb
+binary_light n m s binary.LessEqual a b site span two two' ha hb = ordered_light n m comparisons.LessEqual a b span ha hb
+binary_light n m s binary.Greater a b site span two two' ha hb = ordered_light n m comparisons.Greater a b span ha hb
+binary_light n m s binary.GreaterEqual a b site span two two' ha hb = ordered_light n m comparisons.GreaterEqual a b span ha hb
+binary_light n m s binary.ShiftLeft a b site span two two' ha hb = arithmetic_light n m a b span ha hb (operators.Arithmetic arithmetics.ShiftLeft) site
+binary_light n m s binary.ShiftRight a b site span two two' ha hb = arithmetic_light n m a b span ha hb (operators.Arithmetic arithmetics.ShiftRight) site
+binary_light n m s binary.Add a b site span two two' ha hb = sum_light n m s directions.Forward a b site span ha hb
+binary_light n m s binary.Subtract a b site span two two' ha hb = sum_light n m s directions.Backward a b site span ha hb
+binary_light n m s binary.Multiply a b site span two two' ha hb = arithmetic_light n m a b span ha hb (operators.Arithmetic arithmetics.Multiply) site
+binary_light n m s binary.Divide a b site span two two' ha hb = arithmetic_light n m a b span ha hb (operators.Arithmetic arithmetics.Divide) site
+binary_light n m s binary.Remainder a b site span two two' ha hb = arithmetic_light n m a b span ha hb (operators.Arithmetic arithmetics.Remainder) site
 
-indexed_nothing : (Q : Typed → Type 0) (a b : Typed) (span : Span) → Promises Q (indexed a b span)
-indexed_nothing Q (Value t z v p) (Value u y w q) span = needs_promises Q (is_pointer t && is_number u) E13 span (breaks E19 span) (λ x. tt)
-indexed_nothing Q (Value t z v p) (AStruct k q) span = tt
-indexed_nothing Q (AStruct k p) b span = tt
+element_light : (n m : ℕ) (t : CType) (pointer number : core.Expression) (site : Site) (span : Span) → IsLight n pointer → IsLight m number → Promises (Light (n + m + 2)) (element_at t pointer number site span)
+element_light n m Int pointer number site span hp hn = tt
+element_light n m Char pointer number site span hp hn = tt
+element_light n m (Struct k) pointer number site span hp hn = tt
+element_light n m (Pointer mode kinds.One t) pointer number site span hp hn = tt
+element_light n m (Pointer mode kinds.Array t) pointer number site span hp hn =
+    elements_promise (Light (n + m + 2)) pointer span _ (at_place_light (n + m + 2) t (core.Through pointer (core.Element number) 0 site) (omega arith))
+element_light n m (Pointer mode kinds.Nt t) pointer number site span hp hn = tt
+
+indexed_light : (n m : ℕ) (a b : Typed) (site : Site) (span : Span) → Light n a → Light m b → Promises (Light (n + m + 2)) (indexed a b site span)
+indexed_light n m (Value t z v p) (Value u y w q) site span ha hb = needs_promises (Light (n + m + 2)) (is_pointer t && is_number u) E13 span _ (λ x. element_light n m t v w site span ha.0 hb.0)
+indexed_light n m (Value t z v p) (AStruct k q) site span ha hb = tt
+indexed_light n m (AStruct k p) b site span ha hb = tt
 
 -- ---- conversions and calls
 
@@ -329,7 +367,7 @@ called_light s xs (Some f) name arguments site span all =
     needs_promises (LightCall (n + 2)) (length f.parameters == length arguments) E14 span _
     (λ many. crossing_promises (LightCall (n + 2)) (is_import f) arguments _
     (passing_promises (AreLight xs) (LightCall (n + 2)) (arguments_as arguments f.parameters) _ (arguments_light xs arguments f.parameters all)
-    (λ values h. call_light n f.result (declared_callee s f site) values site s.structs h)))
+    (λ values h. all_met_promise (LightCall (n + 2)) s.flow arguments f.parameters _ (call_light n f.result (declared_callee s f site) values site s.structs h))))
 
 -- ---- the walk
 
@@ -339,7 +377,7 @@ mutual
   typed_light at s (e.Number value span) = needs_promises (Light 5) (nat_lt value (2 ^ 31)) E04 span _ (λ low. (omega arith, tt))
   typed_light at s (e.Character value span) = needs_promises (Light 5) (nat_lt value (2 ^ 31)) E04 span _ (λ low. (omega arith, tt))
   typed_light at s (e.Text bytes span) = tt
-  typed_light at s (e.Name name) = bounded_light 5 s (site_at at name.span) (passing (named s name.number) (λ x. Passes (name_typed x))) (passing_promises (λ (x : Named). Unit {0}) (Light 5) (named s name.number) _ (anything_promised (named s name.number)) (λ x _. name_light 5 x (omega arith)))
+  typed_light at s (e.Name name) = bounded_light 5 s (site_at at name.span) (passing (named s name.number) (λ x. Passes (name_typed s.structs x (site_at at name.span)))) (passing_promises (λ (x : Named). Unit {0}) (Light 5) (named s name.number) _ (anything_promised (named s name.number)) (λ x _. name_light 5 s.structs x (site_at at name.span) (omega arith)))
   typed_light at s (e.Call callee arguments span) =
       let n = 5 * tree.expressions_weight arguments in
       let all = 5 * tree.expression_weight (e.Call callee arguments span) in
@@ -354,9 +392,13 @@ mutual
   typed_light at s (e.Malloc word type size span) = tt
   typed_light at s (e.Calloc word type count size span) = tt
   typed_light at s (e.Index base index span) =
+      let n = 5 * tree.expression_weight base in
+      let m = 5 * tree.expression_weight index in
       let all = 5 * tree.expression_weight (e.Index base index span) in
-      passing_promises (λ (t : Typed). Unit {0}) (Light all) (typed at s base) _ (anything_promised (typed at s base))
-      (λ a _. passing_promises (λ (t : Typed). Unit {0}) (Light all) (typed at s index) _ (anything_promised (typed at s index)) (λ b _. indexed_nothing (Light all) a b span))
+      bounded_light all s (site_at at span) (passing (typed at s base) (λ a. passing (typed at s index) (λ b. indexed a b (site_at at span) span)))
+      (passing_promises (Light n) (Light all) (typed at s base) _ (typed_light at s base)
+      (λ a ha. passing_promises (Light m) (Light all) (typed at s index) _ (typed_light at s index)
+      (λ b hb. promised_so (Light (n + m + 2)) (Light all) (indexed a b (site_at at span) span) (indexed_light n m a b (site_at at span) span ha hb) (λ t. light_more (n + m + 2) all t (omega arith)))))
   typed_light at s (e.Dot base member span) =
       let n = 5 * tree.expression_weight base in
       let all = 5 * tree.expression_weight (e.Dot base member span) in
@@ -366,20 +408,20 @@ mutual
       let n = 5 * tree.expression_weight base in
       let all = 5 * tree.expression_weight (e.Arrow base member span) in
       bounded_light all s (site_at at span) (passing (typed at s base) (λ a. arrowed s a member.number (site_at at span) span)) (passing_promises (Light n) (Light all) (typed at s base) _ (typed_light at s base)
-      (λ a light. promised_so (Light (n + 2)) (Light all) (arrowed s a member.number (site_at at span) span) (arrowed_light n s a member.number (site_at at span) span light) (λ t. light_more (n + 2) all t (omega arith))))
+      (λ a light. promised_so (Light (n + 3)) (Light all) (arrowed s a member.number (site_at at span) span) (arrowed_light n s a member.number (site_at at span) span light) (λ t. light_more (n + 3) all t (omega arith))))
   typed_light at s (e.Unary operator operand span) =
       let n = 5 * tree.expression_weight operand in
       let all = 5 * tree.expression_weight (e.Unary operator operand span) in
       bounded_light all s (site_at at span) (passing (typed at s operand) (λ a. unary_typed operator a (site_at at span) span)) (passing_promises (Light n) (Light all) (typed at s operand) _ (typed_light at s operand)
-      (λ a light. promised_so (Light (n + 2)) (Light all) (unary_typed operator a (site_at at span) span) (unary_light n operator a (site_at at span) span light) (λ t. light_more (n + 2) all t (omega arith))))
+      (λ a light. promised_so (Light (n + 3)) (Light all) (unary_typed operator a (site_at at span) span) (unary_light n operator a (site_at at span) span light) (λ t. light_more (n + 3) all t (omega arith))))
   typed_light at s (e.Binary operator left right span) =
       let n = 5 * tree.expression_weight left in
       let m = 5 * tree.expression_weight right in
       let all = 5 * tree.expression_weight (e.Binary operator left right span) in
       passing_promises (Light n) (Light all) (typed at s left) _ (typed_light at s left)
       (λ a ha. passing_promises (Light m) (Light all) (typed at s right) _ (typed_light at s right)
-      (λ b hb. promised_so (Light (n + m + 2)) (Light all) (binary_typed operator a b (site_at at span) span)
-      (binary_light n m operator a b (site_at at span) span (omega (arith, node_there left)) (omega (arith, node_there right)) ha hb) (λ t. light_more (n + m + 2) all t (omega arith))))
+      (λ b hb. promised_so (Light (n + m + 2)) (Light all) (binary_typed s operator a b (site_at at span) span)
+      (binary_light n m s operator a b (site_at at span) span (omega (arith, node_there left)) (omega (arith, node_there right)) ha hb) (λ t. light_more (n + m + 2) all t (omega arith))))
 
   all_light : (at : Places) (s : Scope) (xs : Expressions) → Promises (AllLight xs) (all_typed at s xs)
   all_light at s e.NoMore = tt

@@ -1,8 +1,9 @@
 -- The rules of expressions, each with its name, in the order in which they are asked of a node behind its children.
-use Rattle.std.specs.Prelude.{ℕ, suc, ◌+◌, ◌^◌, nat_lt, Bool, true, false, not, ◌&&◌, ◌||◌, ◌==◌, List, [], ◌∷◌, length, Option, Some, None, pos}
+use Rattle.std.specs.Prelude.{ℕ, suc, ◌+◌, ◌^◌, nat_lt, Bool, true, false, not, ◌&&◌, ◌||◌, ◌==◌, List, [], ◌∷◌, length, pos}
+use Rattle.std.specs.Prelude.{Option, Some, None, is_none, is_some}
 use Rattle.ckc_text.specs.declared.place.Place.{Place}
 use Rattle.ckc_text.specs.declared.place.Span.{Span}
-use Rattle.ckc_text.specs.declared.code.Code.TheVariants.{E04, E10, E12, E13, E14, E19, E22, E24, E26}
+use Rattle.ckc_text.specs.declared.code.Code.TheVariants.{E04, E10, E12, E13, E14, E17, E18, E19, E22, E24, E26}
 use Rattle.ckc_tree.specs.declared.expr.UnaryOperator.{UnaryOperator}
 use Rattle.ckc_tree.specs.declared.expr.UnaryOperator.TheVariants as unary
 use Rattle.ckc_tree.specs.declared.expr.BinaryOperator.{BinaryOperator}
@@ -27,11 +28,18 @@ use Rattle.act_words.specs.declared.operator.Comparison.{Comparison}
 use Rattle.act_words.specs.declared.operator.Comparison.TheVariants as comparisons
 use Rattle.ckc_core.specs.declared.program.Callee.{Callee}
 use Rattle.ckc_core.specs.declared.program.Callee.TheVariants as callees
+use Rattle.ckc_core.specs.declared.program.Direction.{Direction}
+use Rattle.ckc_core.specs.declared.program.Direction.TheVariants as directions
 use Rattle.ckc_core.specs.declared.program.PointerBounds.{PointerBounds}
 use Rattle.ckc_core.specs.Core as core
+use Rattle.ckc_core.specs.Meaning.{bounds_of}
+use Rattle.bounds_exprs.specs.declared.term.Bounds.{Bounds}
 use Rattle.ckc_names_rules.specs.declared.given.Given.{Given}
+use Rattle.bounds_flow.specs.Flows.{Knowledge}
+use Rattle.bounds_flow.specs.Settling.{Finding, Meets, WasLost, Falls, bounds_find}
 use Rattle.region_typing_rules.specs.Verdicts.{Verdict, Passes, Unnamed, passing, needs, breaks, picked}
-use Rattle.region_typing_rules.specs.Scopes.{Scope, Signature, Named, Local, Object, Nothing, named, function_named, members_named}
+use Rattle.region_typing_rules.specs.Scopes.{Scope, Signature, Named, Local, Object, Array, Nothing, named, function_named, members_named}
+use Rattle.region_typing_rules.specs.Readings.{constant, sum_bounds, own_bounds, based_bounds, is_null}
 use Rattle.region_typing_rules.specs.Types.{type_named, is_number, is_pointer, is_checked_pointer, are_comparable, converts}
 
 -- where a value may be stored: a local, or a cell
@@ -39,10 +47,16 @@ pub data Lvalue : Type 0 where
   OfLocal : (local : ℕ) → Lvalue
   OfCell : (place : core.Place) → Lvalue
 
+-- what an expression stands for beside its value: nothing, the name of an array, or where a value may be stored
+pub data Standing : Type 0 where
+  ForNothing : Standing
+  ForArray : Standing
+  For : (place : Lvalue) → Standing
+
 -- what an expression is
 pub data Typed : Type 0 where
-  -- a value of a scalar type, which may be the constant 0, and may stand for a place
-  Value : (type : CType) (zero : Bool) (value : core.Expression) (place : Option Lvalue) → Typed
+  -- a value of a scalar type, which may be the constant 0, and what it stands for
+  Value : (type : CType) (zero : Bool) (value : core.Expression) (place : Standing) → Typed
   -- a struct, which is a parameter, or stands at a place
   AStruct : (number : ℕ) (place : Lvalue) → Typed
 
@@ -100,16 +114,43 @@ noted b (core.Order comparison left right site) = core.Order comparison left rig
 noted b (core.Allocate count element bounds) = core.Allocate count element b
 noted b (core.Cast pointer bounds) = core.Cast pointer b
 
+-- bounds that its type gives a value; where it gives none, the node has those that it was built with
+abbrev pub noted_if : Option PointerBounds → core.Expression → core.Expression
+noted_if None value = value
+noted_if (Some p) value = noted (Some p) value
+
 abbrev pub with_bounds : List Structure → Site → Typed → Typed
-with_bounds structs site (Value type zero value place) = Value type zero (noted (bounds_at structs type site) value) place
+with_bounds structs site (Value type zero value place) = Value type zero (noted_if (bounds_at structs type site) value) place
 with_bounds structs site (AStruct number place) = AStruct number place
+
+-- as many elements as a number, from the pointer on
+abbrev pub row_of : ℕ → Bounds
+row_of n = record { base = None; lo = constant_term (pos 0); hi = constant_term (pos n) }
+
+-- the bounds of one element
+abbrev pub one_element : Bounds
+one_element = row_of 1
+
+abbrev or_based : Option Bounds → Option Bounds → Option Bounds
+or_based None based = based
+or_based (Some b) based = Some b
+
+abbrev pub at_site : Site → Option PointerBounds → Option Bounds → Option PointerBounds
+at_site site None bounds = None
+at_site site (Some p) None = None
+at_site site (Some p) (Some b) = Some (record { bounds = b; size = p.size; site = site })
+
+-- the bounds of a sum: those without a base where there are any, and else those from a base
+abbrev pub sum_node : List CType → Direction → core.Expression → core.Expression → Site → Option PointerBounds
+sum_node types direction pointer number site =
+    at_site site (bounds_of pointer) (or_based (sum_bounds direction (constant types number) (own_bounds pointer)) (based_bounds pointer))
 
 -- an expression whose value may be a pointer, which begins at the site
 abbrev pub bounded : Scope → Site → Verdict Typed → Verdict Typed
 bounded s site verdict = passing verdict (λ t. Passes (with_bounds s.structs site t))
 
 abbrev pub plain : CType → core.Expression → Verdict Typed
-plain type value = Passes (Value type false value None)
+plain type value = Passes (Value type false value ForNothing)
 
 abbrev pub number : core.Expression → Verdict Typed
 number value = plain Int value
@@ -118,21 +159,28 @@ number value = plain Int value
 
 -- a scalar at a place is its value there, and a struct is the place
 abbrev pub at_place : CType → core.Place → Typed
-at_place Int place = Value Int false (core.Load Int place None) (Some (OfCell place))
-at_place Char place = Value Char false (core.Load Char place None) (Some (OfCell place))
-at_place (Pointer mode kind target) place = Value (Pointer mode kind target) false (core.Load (Pointer mode kind target) place None) (Some (OfCell place))
+at_place Int place = Value Int false (core.Load Int place None) (For (OfCell place))
+at_place Char place = Value Char false (core.Load Char place None) (For (OfCell place))
+at_place (Pointer mode kind target) place = Value (Pointer mode kind target) false (core.Load (Pointer mode kind target) place None) (For (OfCell place))
 at_place (Struct number) place = AStruct number (OfCell place)
 
 abbrev pub local_typed : ℕ → CType → Typed
-local_typed local Int = Value Int false (core.Local local None) (Some (OfLocal local))
-local_typed local Char = Value Char false (core.Local local None) (Some (OfLocal local))
-local_typed local (Pointer mode kind target) = Value (Pointer mode kind target) false (core.Local local None) (Some (OfLocal local))
+local_typed local Int = Value Int false (core.Local local None) (For (OfLocal local))
+local_typed local Char = Value Char false (core.Local local None) (For (OfLocal local))
+local_typed local (Pointer mode kind target) = Value (Pointer mode kind target) false (core.Local local None) (For (OfLocal local))
 local_typed local (Struct number) = AStruct number (OfLocal local)
 
-abbrev pub name_typed : Named → Typed
-name_typed (Local local type) = local_typed local type
-name_typed (Object object type) = at_place type (core.Direct object 0)
-name_typed Nothing = Value Int true (core.Number (pos 0)) None
+-- the name of an array is a pointer to its first element, with all of them
+abbrev pub array_typed : List Structure → ℕ → CType → ℕ → Site → Typed
+array_typed structs object type length site =
+    Value (Pointer modes.Checked kinds.Array type) false
+    (core.AddressOf (core.Direct object 0) (Some (record { bounds = row_of length; size = size_of structs type; site = site }))) ForArray
+
+abbrev pub name_typed : List Structure → Named → Site → Typed
+name_typed structs (Local local type) site = local_typed local type
+name_typed structs (Object object type) site = at_place type (core.Direct object 0)
+name_typed structs (Array object type length) site = array_typed structs object type length site
+name_typed structs Nothing site = Value Int true (core.Number (pos 0)) ForNothing
 
 -- so many bytes behind a place, where checks name another expression
 abbrev pub member_place : core.Place → ℕ → Site → core.Place
@@ -170,8 +218,19 @@ abbrev pub dotted : Scope → Typed → ℕ → Site → Span → Verdict Typed
 dotted s (Value type zero value place) name site span = breaks E13 span
 dotted s (AStruct number place) name site span = member_at s number (struct_place place site) name site span
 
+-- pointer-has-bounds: E18
+abbrev pub with_elements : {A : Type 0} → core.Expression → Span → Verdict A → Verdict A
+with_elements value span next = needs (is_some (bounds_of value)) E18 span next
+
+-- the element at which a pointer with bounds stands
+abbrev pub first_element : core.Expression → Site → core.Place
+first_element value site = core.Through value (core.Element (core.Number (pos 0))) 0 site
+
+-- a pointer is asked for its bounds behind the member
 abbrev pub pointed_by : Scope → CType → core.Expression → ℕ → Site → Span → Verdict Typed
-pointed_by s (Pointer mode kind (Struct number)) value name site span = member_at s number (core.Through value core.First 0 site) name site span
+pointed_by s (Pointer mode kinds.One (Struct number)) value name site span = member_at s number (core.Through value core.First 0 site) name site span
+pointed_by s (Pointer mode kinds.Array (Struct number)) value name site span =
+    passing (member_at s number (first_element value site) name site span) (λ t. with_elements value span (Passes t))
 pointed_by s _ value name site span = breaks E13 span
 
 -- member-of-struct: the left side of an arrow is a pointer to a struct (E13)
@@ -180,10 +239,11 @@ arrowed s (Value type zero value place) name site span = pointed_by s type value
 arrowed s (AStruct number place) name site span = breaks E13 span
 
 abbrev pub pointed_at : CType → core.Expression → Site → Span → Verdict Typed
-pointed_at (Pointer mode kind target) value site span = Passes (at_place target (core.Through value core.First 0 site))
+pointed_at (Pointer mode kinds.One target) value site span = Passes (at_place target (core.Through value core.First 0 site))
+pointed_at (Pointer mode kinds.Array target) value site span = with_elements value span (Passes (at_place target (first_element value site)))
 pointed_at _ value site span = breaks E13 span
 
--- operand-is-pointer: E13
+-- operand-is-pointer: E13. pointer-has-bounds: E18
 abbrev pub dereferenced : Typed → Site → Span → Verdict Typed
 dereferenced (Value type zero value place) site span = pointed_at type value site span
 dereferenced (AStruct number place) site span = breaks E13 span
@@ -195,17 +255,18 @@ checked_at (core.Through pointer index offset before) site = core.Through pointe
 
 -- a pointer to a place, whose check names the address
 abbrev pub pointer_to : CType → core.Place → Site → Typed
-pointer_to type p site = Value (Pointer modes.Checked kinds.One type) false (core.AddressOf (checked_at p site) None) None
+pointer_to type p site = Value (Pointer modes.Checked kinds.One type) false (core.AddressOf (checked_at p site) None) ForNothing
 
-abbrev pub address_at : CType → Option Lvalue → Site → Span → Verdict Typed
-address_at type None site span = breaks E12 span
-address_at type (Some (OfLocal local)) site span = breaks E22 span
-address_at type (Some (OfCell place)) site span = Passes (pointer_to type place site)
+abbrev pub address_at : CType → Standing → Site → Span → Verdict Typed
+address_at type ForNothing site span = breaks E12 span
+address_at type ForArray site span = breaks E22 span
+address_at type (For (OfLocal local)) site span = breaks E22 span
+address_at type (For (OfCell place)) site span = Passes (pointer_to type place site)
 
--- address-of-place: a variable, an element or a member (E12). address-allowed: no local (E22)
+-- address-of-place: a variable, an element or a member (E12). address-allowed: no local and no array (E22)
 abbrev pub address : Typed → Site → Span → Verdict Typed
 address (Value type zero value place) site span = address_at type place site span
-address (AStruct number place) site span = address_at (Struct number) (Some place) site span
+address (AStruct number place) site span = address_at (Struct number) (For place) site span
 
 -- ---- operators
 
@@ -226,13 +287,36 @@ unary_typed unary.Negate t site span = number_of t span (λ v. number (core.Nega
 unary_typed unary.Not t site span = scalar_of t span (λ v. number (core.Not v))
 unary_typed unary.Complement t site span = number_of t span (λ v. number (core.Complement v))
 
-abbrev pub is_pointer_value : Typed → Bool
-is_pointer_value (Value type zero value place) = is_pointer type
-is_pointer_value (AStruct number place) = false
+-- a pointer without bounds of its own
+abbrev pub is_single : CType → Bool
+is_single (Pointer mode kinds.One target) = true
+is_single (Pointer mode kinds.Array target) = false
+is_single (Pointer mode kinds.Nt target) = true
+is_single Int = false
+is_single Char = false
+is_single (Struct number) = false
 
--- no-arithmetic-on-ptr: E19
+-- a pointer that has its bounds at its node
+abbrev pub is_row : CType → Bool
+is_row (Pointer mode kinds.One target) = false
+is_row (Pointer mode kinds.Array target) = true
+is_row (Pointer mode kinds.Nt target) = false
+is_row Int = false
+is_row Char = false
+is_row (Struct number) = false
+
+abbrev pub is_single_value : Typed → Bool
+is_single_value (Value type zero value place) = is_single type
+is_single_value (AStruct number place) = false
+
+-- its bounds are unknown
+abbrev pub lacks_bounds : Typed → Bool
+lacks_bounds (Value type zero value place) = is_row type && is_none (bounds_of value)
+lacks_bounds (AStruct number place) = false
+
+-- no-arithmetic-on-ptr: E19. pointer-has-bounds: E18
 abbrev pub without_ptr : {A : Type 0} → Typed → Typed → Span → Verdict A → Verdict A
-without_ptr a b span next = needs (not (is_pointer_value a || is_pointer_value b)) E19 span next
+without_ptr a b span next = needs (not (is_single_value a || is_single_value b)) E19 span (needs (not (lacks_bounds a || lacks_bounds b)) E18 span next)
 
 -- operands-are-numbers: E13
 abbrev pub two_numbers : {A : Type 0} → Typed → Typed → Span → (core.Expression → core.Expression → Verdict A) → Verdict A
@@ -245,6 +329,19 @@ two_scalars a b span next = scalar_of a span (λ v. scalar_of b span (λ w. next
 -- the two numbers of a sum or a difference
 abbrev pub summands : {A : Type 0} → Typed → Typed → Span → (core.Expression → core.Expression → Verdict A) → Verdict A
 summands a b span next = without_ptr a b span (two_numbers a b span next)
+
+abbrev pub operator_along : Direction → Operator
+operator_along directions.Forward = operators.Arithmetic arithmetics.Add
+operator_along directions.Backward = operators.Arithmetic arithmetics.Subtract
+
+-- summands-are-numbers: both, or the second one beside a pointer (E13)
+abbrev pub summed : Scope → Direction → Typed → Typed → Site → Span → Verdict Typed
+summed s direction (Value (Pointer mode kind target) zero pointer place) b site span =
+    number_of b span (λ w. plain (Pointer mode kind target) (core.Sum pointer direction w site (sum_node s.locals direction pointer w site)))
+summed s direction a b site span = two_numbers a b span (λ v w. number (core.Arithmetic (operator_along direction) v w site))
+
+abbrev pub sum_typed : Scope → Direction → Typed → Typed → Site → Span → Verdict Typed
+sum_typed s direction a b site span = without_ptr a b span (summed s direction a b site span)
 
 -- the constant 0 as a pointer, where the other one is one
 abbrev pub as_pointer : Bool → core.Expression → core.Expression
@@ -283,38 +380,71 @@ ordered comparison _ _ span = breaks E13 span
 abbrev pub arithmetic : Operator → Site → core.Expression → core.Expression → Verdict Typed
 arithmetic operator site v w = number (core.Arithmetic operator v w site)
 
-abbrev pub binary_typed : BinaryOperator → Typed → Typed → Site → Span → Verdict Typed
-binary_typed binary.Or a b site span = two_scalars a b span (λ v w. number (core.OrElse v w))
-binary_typed binary.And a b site span = two_scalars a b span (λ v w. number (core.AndAlso v w))
-binary_typed binary.BitOr a b site span = two_numbers a b span (arithmetic (operators.Bitwise bits.Or) site)
-binary_typed binary.BitXor a b site span = two_numbers a b span (arithmetic (operators.Bitwise bits.Xor) site)
-binary_typed binary.BitAnd a b site span = two_numbers a b span (arithmetic (operators.Bitwise bits.And) site)
-binary_typed binary.Equal a b site span = passing (equated a b span) number
-binary_typed binary.NotEqual a b site span = passing (equated a b span) (λ v. number (core.Not v))
-binary_typed binary.Less a b site span = ordered comparisons.Less a b span
-binary_typed binary.LessEqual a b site span = ordered comparisons.LessEqual a b span
-binary_typed binary.Greater a b site span = ordered comparisons.Greater a b span
-binary_typed binary.GreaterEqual a b site span = ordered comparisons.GreaterEqual a b span
-binary_typed binary.ShiftLeft a b site span = two_numbers a b span (arithmetic (operators.Arithmetic arithmetics.ShiftLeft) site)
-binary_typed binary.ShiftRight a b site span = two_numbers a b span (arithmetic (operators.Arithmetic arithmetics.ShiftRight) site)
-binary_typed binary.Add a b site span = summands a b span (arithmetic (operators.Arithmetic arithmetics.Add) site)
-binary_typed binary.Subtract a b site span = summands a b span (arithmetic (operators.Arithmetic arithmetics.Subtract) site)
-binary_typed binary.Multiply a b site span = two_numbers a b span (arithmetic (operators.Arithmetic arithmetics.Multiply) site)
-binary_typed binary.Divide a b site span = two_numbers a b span (arithmetic (operators.Arithmetic arithmetics.Divide) site)
-binary_typed binary.Remainder a b site span = two_numbers a b span (arithmetic (operators.Arithmetic arithmetics.Remainder) site)
+abbrev pub binary_typed : Scope → BinaryOperator → Typed → Typed → Site → Span → Verdict Typed
+binary_typed s binary.Or a b site span = two_scalars a b span (λ v w. number (core.OrElse v w))
+binary_typed s binary.And a b site span = two_scalars a b span (λ v w. number (core.AndAlso v w))
+binary_typed s binary.BitOr a b site span = two_numbers a b span (arithmetic (operators.Bitwise bits.Or) site)
+binary_typed s binary.BitXor a b site span = two_numbers a b span (arithmetic (operators.Bitwise bits.Xor) site)
+binary_typed s binary.BitAnd a b site span = two_numbers a b span (arithmetic (operators.Bitwise bits.And) site)
+binary_typed s binary.Equal a b site span = passing (equated a b span) number
+binary_typed s binary.NotEqual a b site span = passing (equated a b span) (λ v. number (core.Not v))
+binary_typed s binary.Less a b site span = ordered comparisons.Less a b span
+binary_typed s binary.LessEqual a b site span = ordered comparisons.LessEqual a b span
+binary_typed s binary.Greater a b site span = ordered comparisons.Greater a b span
+binary_typed s binary.GreaterEqual a b site span = ordered comparisons.GreaterEqual a b span
+binary_typed s binary.ShiftLeft a b site span = two_numbers a b span (arithmetic (operators.Arithmetic arithmetics.ShiftLeft) site)
+binary_typed s binary.ShiftRight a b site span = two_numbers a b span (arithmetic (operators.Arithmetic arithmetics.ShiftRight) site)
+binary_typed s binary.Add a b site span = sum_typed s directions.Forward a b site span
+binary_typed s binary.Subtract a b site span = sum_typed s directions.Backward a b site span
+binary_typed s binary.Multiply a b site span = two_numbers a b span (arithmetic (operators.Arithmetic arithmetics.Multiply) site)
+binary_typed s binary.Divide a b site span = two_numbers a b span (arithmetic (operators.Arithmetic arithmetics.Divide) site)
+binary_typed s binary.Remainder a b site span = two_numbers a b span (arithmetic (operators.Arithmetic arithmetics.Remainder) site)
 
--- operand-is-pointer with a number for an index (E13), and no element of a `ptr` (E19)
-abbrev pub indexed : Typed → Typed → Span → Verdict Typed
-indexed (Value t z v p) (Value u y w q) span = needs (is_pointer t && is_number u) E13 span (breaks E19 span)
-indexed _ _ span = breaks E13 span
+abbrev pub element_at : CType → core.Expression → core.Expression → Site → Span → Verdict Typed
+element_at (Pointer mode kinds.Array target) pointer number site span =
+    with_elements pointer span (Passes (at_place target (core.Through pointer (core.Element number) 0 site)))
+element_at _ pointer number site span = breaks E19 span
+
+-- operand-is-pointer with a number for an index (E13), no element of a `ptr` (E19), and pointer-has-bounds (E18)
+abbrev pub indexed : Typed → Typed → Site → Span → Verdict Typed
+indexed (Value t z v p) (Value u y w q) site span = needs (is_pointer t && is_number u) E13 span (element_at t v w site span)
+indexed _ _ site span = breaks E13 span
 
 -- ---- conversions
+
+abbrev pub is_met : Finding → Bool
+is_met Meets = true
+is_met WasLost = false
+is_met (Falls asked) = false
 
 abbrev pub in_type : CType → Bool → core.Expression → core.Expression
 in_type Int zero value = value
 in_type Char zero value = core.LowByte value
 in_type (Struct number) zero value = value
 in_type (Pointer mode kind target) zero value = as_pointer zero value
+
+-- the bounds that a pointer is asked for, where it becomes one of another kind
+abbrev pub asked_as : Kind → Kind → Option Bounds
+asked_as kinds.Array kinds.One = Some one_element
+asked_as kinds.Nt kinds.One = Some one_element
+asked_as kinds.One kinds.One = None
+asked_as from kinds.Array = None
+asked_as from kinds.Nt = None
+
+abbrev pub asked_of : CType → CType → Option Bounds
+asked_of (Pointer mode from target) (Pointer mode' to target') = asked_as from to
+asked_of _ _ = None
+
+-- the bounds of a pointer, without a base or with one, are entailed to lie around those that are asked for; null meets any
+abbrev pub meets : Knowledge → core.Expression → Option Bounds → Bool
+meets f value None = true
+meets f value (Some asked) =
+    is_null value || (is_met (bounds_find f.facts asked (own_bounds value)) || is_met (bounds_find f.facts asked (based_bounds value)))
+
+-- bounds-are-met: E17
+abbrev pub bounds_met : {A : Type 0} → Knowledge → Typed → CType → Span → Verdict A → Verdict A
+bounds_met f (Value type zero value place) to span next = needs (zero || meets f value (asked_of type to)) E17 span next
+bounds_met f (AStruct number place) to span next = next
 
 -- a value as one of a type that it converts to (E13)
 abbrev pub converted : {A : Type 0} → Typed → CType → Span → (core.Expression → Verdict A) → Verdict A
@@ -376,16 +506,23 @@ abbrev pub call_of : List Structure → Option CType → Callee → core.Argumen
 call_of structs (Some type) callee arguments site = Gives type (core.Call callee arguments (bounds_at structs type site))
 call_of structs None callee arguments site = GivesNothing (core.CallAlone callee arguments)
 
+-- bounds-are-met, at each argument of a function that isn't tainted (E17)
+abbrev pub arguments_met : {A : Type 0} → Knowledge → List (Typed × Span) → List CType → Verdict A → Verdict A
+arguments_met f [] types next = next
+arguments_met f (argument ∷ arguments) [] next = next
+arguments_met f (argument ∷ arguments) (type ∷ types) next = bounds_met f argument.0 type argument.1 (arguments_met f arguments types next)
+
 -- a declared function as a callee
 abbrev pub declared_callee : Scope → Signature → Site → Callee
 declared_callee s f site = callee_of (is_import f) (side_number (is_import f) s.functions f.name 0) site
 
--- argument-count: E14. Then what crosses the boundary is asked of all arguments, and then their conversions
+-- argument-count: E14. Then what crosses the boundary is asked of all arguments, then their conversions, and then their bounds
 abbrev pub declared_call : Scope → Signature → List (Typed × Span) → Site → Span → Verdict Called
 declared_call s f arguments site span =
     needs (length f.parameters == length arguments) E14 span
     (crossing (is_import f) arguments
-    (passing (arguments_as arguments f.parameters) (λ values. Passes (call_of s.structs f.result (declared_callee s f site) values site))))
+    (passing (arguments_as arguments f.parameters) (λ values. arguments_met s.flow arguments f.parameters
+    (Passes (call_of s.structs f.result (declared_callee s f site) values site)))))
 
 abbrev pub first_of : (core.Expression → core.Statement) → core.Arguments → core.Statement
 first_of of core.Done = core.Nothing
@@ -418,17 +555,17 @@ with_result (GivesNothing call) span = breaks E13 span
 -- ---- the walk
 
 -- constant-has-31-bits: E04; the tokens of a source have no other
-abbrev pub constant : ℕ → Bool → Span → Verdict Typed
-constant value zero span = needs (nat_lt value (2 ^ 31)) E04 span (Passes (Value Int zero (core.Number (pos value)) None))
+abbrev pub constant_typed : ℕ → Bool → Span → Verdict Typed
+constant_typed value zero span = needs (nat_lt value (2 ^ 31)) E04 span (Passes (Value Int zero (core.Number (pos value)) ForNothing))
 
 abbrev mutual
   -- an expression: its children from left to right, and then its own rules. Strings, casts and allocations aren't forms of
   -- which rules speak here: no tree that is built has them
   pub typed : Places → Scope → Expression → Verdict Typed
-  typed at s (e.Number value span) = constant value (value == 0) span
-  typed at s (e.Character value span) = constant value false span
+  typed at s (e.Number value span) = constant_typed value (value == 0) span
+  typed at s (e.Character value span) = constant_typed value false span
   typed at s (e.Text bytes span) = breaks E13 span
-  typed at s (e.Name name) = bounded s (site_at at name.span) (passing (named s name.number) (λ n. Passes (name_typed n)))
+  typed at s (e.Name name) = bounded s (site_at at name.span) (passing (named s name.number) (λ n. Passes (name_typed s.structs n (site_at at name.span))))
   typed at s (e.Call callee arguments span) = passing (all_typed at s arguments)
       (λ ts. passing (called s (function_named s.functions callee.number) callee.number ts (site_at at span) span) (λ c. with_result c span))
   typed at s (e.SizeOf type span) = passing (type_named s type) (λ t. number (core.Number (pos (size_of s.structs t))))
@@ -436,12 +573,13 @@ abbrev mutual
   typed at s (e.BoundedCast word type operand bounds span) = breaks E13 span
   typed at s (e.Malloc word type size span) = breaks E13 span
   typed at s (e.Calloc word type count size span) = breaks E13 span
-  typed at s (e.Index base index span) = passing (typed at s base) (λ a. passing (typed at s index) (λ b. indexed a b span))
+  typed at s (e.Index base index span) =
+      bounded s (site_at at span) (passing (typed at s base) (λ a. passing (typed at s index) (λ b. indexed a b (site_at at span) span)))
   typed at s (e.Dot base member span) = bounded s (site_at at span) (passing (typed at s base) (λ a. dotted s a member.number (site_at at span) span))
   typed at s (e.Arrow base member span) = bounded s (site_at at span) (passing (typed at s base) (λ a. arrowed s a member.number (site_at at span) span))
   typed at s (e.Unary operator operand span) = bounded s (site_at at span) (passing (typed at s operand) (λ a. unary_typed operator a (site_at at span) span))
   typed at s (e.Binary operator left right span) =
-      passing (typed at s left) (λ a. passing (typed at s right) (λ b. binary_typed operator a b (site_at at span) span))
+      passing (typed at s left) (λ a. passing (typed at s right) (λ b. binary_typed s operator a b (site_at at span) span))
 
   -- arguments, each with its span
   pub all_typed : Places → Scope → Expressions → Verdict (List (Typed × Span))

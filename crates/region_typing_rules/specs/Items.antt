@@ -1,9 +1,9 @@
 -- The rules of what stands at file level.
 use Rattle.std.specs.Prelude.{ℕ, zero, suc, ◌+◌, ◌-◌, Bool, true, false, not, ◌&&◌, ◌||◌, ◌==◌, nat_lt, nat_le, List, [], ◌∷◌, ◌++◌, length, map}
-use Rattle.std.specs.Prelude.{Option, Some, None, is_some, pos, negsuc}
+use Rattle.std.specs.Prelude.{◌*◌, ◌^◌, Option, Some, None, is_some, option_map, pos, negsuc}
 use Rattle.std.proofs.Common.{ℤ}
 use Rattle.ckc_text.specs.declared.place.Span.{Span}
-use Rattle.ckc_text.specs.declared.code.Code.TheVariants.{E08, E10, E13, E15, E27}
+use Rattle.ckc_text.specs.declared.code.Code.TheVariants.{E04, E08, E10, E13, E15, E27}
 use Rattle.ckc_tree.specs.declared.expr.UnaryOperator.TheVariants as unary
 use Rattle.ckc_tree.specs.declared.item.FunctionKind.{FunctionKind}
 use Rattle.ckc_tree.specs.declared.item.FunctionKind.TheVariants as function_kinds
@@ -17,6 +17,10 @@ use Rattle.ckc_tree.specs.Expressions as e
 use Rattle.ckc_tree.specs.Expressions.{Expression}
 use Rattle.ckc_tree.specs.Statements as s
 use Rattle.ckc_tree.specs.Statements.{Initializer, Declarator, Statements}
+use Rattle.ckc_tree.specs.declared.stmt.ArrayForm.{ArrayForm}
+use Rattle.ckc_tree.specs.declared.stmt.Constant.{Constant}
+use Rattle.ckc_tree.specs.declared.stmt.Constant.TheVariants as constants
+use Rattle.ckc_tree.specs.declared.stmt.SignedConstant.{SignedConstant}
 use Rattle.ckc_tree.specs.Items as i
 use Rattle.ckc_tree.specs.Items.{ResultForm, Parameters, Item}
 use Rattle.flat_bytes.specs.Blocks.{rounded_up}
@@ -144,16 +148,29 @@ numbered_cells number (t ∷ ts) (stride ∷ strides) = record { type = t; strid
 abbrev pub cells_with : List Structure → CType → ℤ → List Initial
 cells_with structs t number = numbered_cells number (cell_types structs t) (strides_of structs t)
 
+-- the number that stands in a list
+abbrev pub unsigned_number : Constant → ℕ
+unsigned_number (constants.Number value) = value
+unsigned_number (constants.Character value) = value
+
+abbrev pub signed_number : SignedConstant → ℤ
+signed_number c = picked c.negative (negative (unsigned_number c.constant)) (pos (unsigned_number c.constant))
+
 -- an initialiser whose children were walked
 pub data Walked : Type 0 where
   Missing : Walked
   Written : (value : Expression) (typed : Typed) → Walked
-  Constants : Walked
+  Constants : (constants : List SignedConstant) → Walked
+
+-- constant-has-31-bits: E04, at the constant; the tokens of a source have no other
+abbrev pub small_constants : {A : Type 0} → List SignedConstant → Verdict A → Verdict A
+small_constants [] next = next
+small_constants (c ∷ cs) next = needs (nat_lt (unsigned_number c.constant) (2 ^ 31)) E04 c.span (small_constants cs next)
 
 abbrev pub initializer : Places → Scope → Option Initializer → Verdict Walked
 initializer at g None = Passes Missing
 initializer at g (Some (s.Value value)) = passing (typed at g value) (λ t. Passes (Written value t))
-initializer at g (Some (s.Constants constants span)) = Passes Constants
+initializer at g (Some (s.Constants constants span)) = small_constants constants (Passes (Constants constants))
 
 abbrev pub is_zero : Typed → Bool
 is_zero (Value type null value place) = null
@@ -170,15 +187,54 @@ written_cells given structs (Struct number) value t span = breaks E13 span
 written_cells given structs (Pointer mode kind target) value t span =
     needs (is_zero t) E13 span (Passes (cells_with structs (Pointer mode kind target) (pos 0)))
 
--- constant-initialiser: a signed number for a number, 0 or `NULL` for a pointer, and nothing for a struct; a list for an array alone (E13,
--- at the item)
-abbrev pub object_cells : Given → List Structure → CType → Walked → Span → Verdict (List Initial)
-object_cells given structs type Missing span = Passes (cells_with structs type (pos 0))
-object_cells given structs type (Written value t) span = written_cells given structs type value t span
-object_cells given structs type Constants span = breaks E13 span
+-- the cells of so many elements, each with zeros
+abbrev pub zeros_of : ℕ → List Structure → CType → List Initial
+zeros_of zero structs type = []
+zeros_of (suc n) structs type = cells_with structs type (pos 0) ++ zeros_of n structs type
 
-abbrev pub with_variable : ℕ → CType → Scope → Scope
-with_variable name type g = record g { variables = g.variables ++ record { name = name; type = type } ∷ [] }
+-- the cells of so many elements: of those that are listed, and then of zeros; more than there are elements have no cells
+abbrev pub cells_listed : List Structure → CType → (ℤ → ℤ) → ℕ → List SignedConstant → Option (List Initial)
+cells_listed structs type kept n [] = Some (zeros_of n structs type)
+cells_listed structs type kept zero (c ∷ cs) = None
+cells_listed structs type kept (suc n) (c ∷ cs) =
+    option_map (λ cells. cells_with structs type (kept (signed_number c)) ++ cells) (cells_listed structs type kept n cs)
+
+abbrev pub cells_or_break : Option (List Initial) → Span → Verdict (List Initial)
+cells_or_break None span = breaks E13 span
+cells_or_break (Some cells) span = Passes cells
+
+abbrev pub listed_cells : List Structure → CType → ℕ → List SignedConstant → Span → Verdict (List Initial)
+listed_cells structs Int length cs span = cells_or_break (cells_listed structs Int (λ z. z) length cs) span
+listed_cells structs Char length cs span = cells_or_break (cells_listed structs Char low_byte length cs) span
+listed_cells structs (Struct number) length cs span = breaks E13 span
+listed_cells structs (Pointer mode kind target) length cs span = breaks E13 span
+
+-- constant-initialiser: a signed number for a number, 0 or `NULL` for a pointer, and nothing for a struct; for an array of numbers a
+-- list of them, no longer than it is, and for another one nothing (E13, at the item)
+abbrev pub object_cells : Given → List Structure → CType → Option ℕ → Walked → Span → Verdict (List Initial)
+object_cells given structs type None Missing span = Passes (cells_with structs type (pos 0))
+object_cells given structs type None (Written value t) span = written_cells given structs type value t span
+object_cells given structs type None (Constants cs) span = breaks E13 span
+object_cells given structs type (Some length) Missing span = Passes (zeros_of length structs type)
+object_cells given structs type (Some length) (Written value t) span = breaks E13 span
+object_cells given structs type (Some length) (Constants cs) span = listed_cells structs type length cs span
+
+abbrev pub with_variable : ℕ → CType → Option ℕ → Scope → Scope
+with_variable name type length g = record g { variables = g.variables ++ record { name = name; type = type; length = length } ∷ [] }
+
+-- how many elements a declarator asks for, where it declares an array
+abbrev pub length_of : Declarator → Option ℕ
+length_of d = option_map (λ (a : ArrayForm). a.length) d.array
+
+-- of how many values of its type a variable consists
+abbrev pub count_of : Option ℕ → ℕ
+count_of None = 1
+count_of (Some length) = length
+
+-- array-has-length: 1 to 8,192 (E08)
+abbrev pub is_length : Option ℕ → Bool
+is_length None = true
+is_length (Some length) = nat_lt 0 length && nat_le length 8192
 
 -- the bytes of a variable of a type as it is written: a pointer takes a word, whether its rules are kept or not
 abbrev pub written_size : Scope → TypeTree → (stars : ℕ) → Verdict ℕ
@@ -192,15 +248,17 @@ written_size g (PointerType word element starred span) zero = Passes 4
 abbrev pub few_bytes : ℕ → Span → Verdict ℕ
 few_bytes taken span = needs (nat_le taken 32768) E08 span (Passes taken)
 
--- few-variables: at most 4,096 (E08, at the item). The bytes that are taken with one variable more
+-- few-variables: at most 4,096 (E08, at the item). The bytes that are taken with one variable more, where an array has a length
 abbrev pub room_for : Walk → TypeTree → Span → Declarator → Verdict ℕ
 room_for w base span d =
     needs (nat_lt (length w.scope.variables) 4096) E08 span
-    (passing (written_size w.scope base d.stars) (λ size. few_bytes (w.taken + (rounded_up size + 16)) span))
+    (passing (written_size w.scope base d.stars) (λ size.
+    needs (is_length (length_of d)) E08 span (few_bytes (w.taken + (rounded_up (count_of (length_of d) * size) + 16)) span)))
 
 -- a variable whose children were walked
 pub record WalkedVariable : Type 0 where
   pub type : CType
+  pub length : Option ℕ
   pub initial : Walked
 
 abbrev pub variables : Places → Walk → TypeTree → CType → Span → List Declarator → List WalkedVariable → Verdict (Walk × List WalkedVariable)
@@ -208,9 +266,9 @@ variables at w base type span [] done = Passes (w, done)
 variables at w base type span (d ∷ ds) done =
     passing (room_for w base span d) (λ taken.
     passing (without_stars base d.stars type) (λ t.
-    passing (initializer at (with_variable d.name.number t w.scope) d.initializer) (λ initial.
-    variables at (record w { scope = with_variable d.name.number t w.scope; taken = taken }) base type span ds (done
-    ++ record { type = t; initial = initial } ∷ []))))
+    passing (initializer at (with_variable d.name.number t (length_of d) w.scope) d.initializer) (λ initial.
+    variables at (record w { scope = with_variable d.name.number t (length_of d) w.scope; taken = taken }) base type span ds (done
+    ++ record { type = t; length = length_of d; initial = initial } ∷ []))))
 
 -- whether there is room for the first variable is asked before the type that all share is walked
 abbrev pub room_for_first : Walk → i.Global → List Declarator → Verdict ℕ
@@ -222,7 +280,7 @@ room_for_first w g (d ∷ ds) = room_for w g.base g.span d
 abbrev pub with_objects : Walk → Span → List WalkedVariable → Verdict Walk
 with_objects w span [] = Passes w
 with_objects w span (v ∷ vs) =
-    passing (object_cells w.scope.given w.scope.structs v.type v.initial span) (λ cells.
+    passing (object_cells w.scope.given w.scope.structs v.type v.length v.initial span) (λ cells.
     needs (nat_lt 0 (length cells)) E10 span (with_objects (record w { objects = w.objects ++ cells ∷ [] }) span vs))
 
 abbrev pub global : Places → Walk → i.Global → Verdict Walk

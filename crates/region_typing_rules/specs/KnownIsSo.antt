@@ -1,24 +1,21 @@
 -- What the walk knows is so in each run: what is known behind a statement holds of the state in which it ends.
-use Rattle.std.specs.Prelude.{ℕ, ◌<◌, ◌≤◌, ◌≡◌, All, Bool, List, length, Option, None, Some, slice_get, false, replicate, slice_index_or, true}
+use Rattle.std.specs.Prelude.{ℕ, ◌<◌, ◌≤◌, ◌≡◌, Bool, List, length, Option, None, Some, slice_get, false, replicate, slice_index_or, true}
 use Rattle.pointer_modes.specs.Types.{CType, Char, Structure}
-use Rattle.ckc_tree.specs.Statements.{Statement, Statements}
-use Rattle.ckc_tree.specs.Items.{Tree}
+use Rattle.ckc_tree.specs.Statements.{Statement}
 use Rattle.bounds_flow.specs.Conditions.{IsFlow}
 use Rattle.bounds_flow.specs.Flows.{Knowledge, held_at}
 use Rattle.bounds_flow_meaning.specs.Holding.{Fits, HaveTypes, Holds, IsSettled, types_of}
 use Rattle.ckc_core.specs.Outcome.{Gives, Ends, Stuck, Unsound, Short}
 use Rattle.ckc_core.specs.States.{State, Grows, shapes}
 use Rattle.ckc_core.specs.Steps.{Result, Flow, Next, Broke, Continued, Returned, truth}
-use Rattle.ckc_core.specs.Meaning.{Setting, effect, effects, knot, value}
+use Rattle.ckc_core.specs.Meaning.{Setting, effect, knot, value}
 use Rattle.ckc_core.specs.Core as core
 use Rattle.ckc_core.specs.Core.{Core}
-use Rattle.ckc_core.specs.Programs.{parted}
 use Rattle.region_typing_rules.specs.Knowing.{marked, when}
 use Rattle.region_typing_rules.specs.Verdicts.{Passes}
 use Rattle.region_typing_rules.specs.Scopes.{Scope}
 use Rattle.region_typing_rules.specs.Expressions.{Places}
-use Rattle.region_typing_rules.specs.Statements.{Walked, statement, statements}
-use Rattle.region_typing_rules.specs.NeverStuck.{HasCore}
+use Rattle.region_typing_rules.specs.Statements.{Walked, statement}
 
 -- ---- what a step leads to
 
@@ -90,20 +87,7 @@ pub record IsWalk (vars : ℕ) (g : Scope) : Type 0 where
 abbrev pub HasLocals : List CType → State → Type 0
 HasLocals types s = (x : ℕ) (t : CType) → slice_get types x ≡ Some t → slice_get (types_of s.locals) x ≡ Some t
 
--- ---- the law
-
--- where a statement breaks no rule, what is known behind it is so of each state in which it ends from one of which what is known
--- before it is so, for any number of ticks
-abbrev pub KnownIsSo : Type 0
-KnownIsSo = (at : Places) (vars : ℕ) (g : Scope) (x : Statement) (w : Walked) → statement at g x ≡ Passes w → IsWalk vars g
-    → (structs : List Structure) (audited : Bool) (setting : Setting) (ticks : ℕ) (s : State) → HasLocals w.1.locals s → IsKnown structs g s
-    → WhereGiven (IsSo structs w.1) (effect audited setting (knot audited setting ticks) w.0 s)
-
--- the same of statements in order
-abbrev pub RowsAreSo : Type 0
-RowsAreSo = (at : Places) (vars : ℕ) (g : Scope) (xs : Statements) (w : core.Statements × Scope) → statements at g xs ≡ Passes w → IsWalk vars g
-    → (structs : List Structure) (audited : Bool) (setting : Setting) (ticks : ℕ) (s : State) → HasLocals w.1.locals s → IsKnown structs g s
-    → WhereGiven (IsSo structs w.1) (effects audited setting (knot audited setting ticks) w.0 s)
+-- ---- the laws
 
 -- what is known behind a condition that came out so is so
 abbrev pub ConditionsAreSo : Type 0
@@ -122,21 +106,3 @@ abbrev pub MarkedAlone : Type 0
 MarkedAlone = (at : Places) (g : Scope) (x : Statement) (w : Walked) → statement at g x ≡ Passes w → (audited : Bool) (setting : Setting) (ticks : ℕ)
     (s : State) → WhereGiven (λ _ t. ChangesMarked (marked (length g.locals) g.visible x (replicate (length g.locals) false)) s t)
     (effect audited setting (knot audited setting ticks) w.0 s)
-
--- ---- functions
-
--- the body of a function was walked from a scope, and what is known there is so of each state in which the function may begin
-pub record HasWalk (f : core.Function) : Type 0 where
-  pub at : Places
-  pub vars : ℕ
-  pub scope : Scope
-  pub tree : Statements
-  pub behind : Scope
-  pub passes : statements at scope tree ≡ Passes (f.body, behind)
-  pub walk : IsWalk vars scope
-  pub locals : behind.locals ≡ f.locals
-  pub entry : (structs : List Structure) (s : State) → HaveTypes s.locals → IsKnown structs scope s
-
--- the body of each function of a program that breaks no rule was
-abbrev pub BodiesAreWalked : Type 0
-BodiesAreWalked = (at : Places) (t : Tree) (c : Core) → HasCore at t c → All HasWalk (parted c).functions

@@ -67,7 +67,7 @@ term types (core.Allocate count element bounds) = None
 term types (core.Cast pointer bounds) = None
 
 -- the number of a term without a variable
-abbrev constant_of : Option Term → Option ℤ
+abbrev pub constant_of : Option Term → Option ℤ
 constant_of None = None
 constant_of (Some t) = picked (is_none t.var) (Some t.plus) None
 
@@ -78,7 +78,7 @@ constant types e = constant_of (term types e)
 -- ---- bounds
 
 -- by how much ends move against a pointer that is moved by a constant
-abbrev against : Direction → ℤ → ℤ
+abbrev pub against : Direction → ℤ → ℤ
 against directions.Forward c = neg_ℤ c
 against directions.Backward c = c
 
@@ -98,11 +98,11 @@ from_base p b = picked (is_some b.base) b (record b { base = Some p })
 abbrev pub own_bounds : core.Expression → Option Bounds
 own_bounds e = option_map (λ (b : PointerBounds). b.bounds) (bounds_of e)
 
--- the bounds that a pointer has beside those: a local pointer counts as its own base, and a sum has those of its pointer
+-- the bounds from a base that a pointer has beside those: a local pointer counts as its own base, and a sum has those of its pointer
 abbrev pub based_bounds : core.Expression → Option Bounds
 based_bounds (core.Local local bounds) = option_map (λ (b : PointerBounds). from_base local b.bounds) bounds
 based_bounds (core.Sum pointer direction number site bounds) = based_bounds pointer
-based_bounds e = own_bounds e
+based_bounds _ = None
 
 -- ---- locals
 
@@ -111,16 +111,16 @@ pub record Behind : Type 0 where
   pub local : ℕ
   pub elements : ℤ
 
-abbrev toward : Direction → ℤ → ℤ
+abbrev pub toward : Direction → ℤ → ℤ
 toward directions.Forward c = c
 toward directions.Backward c = neg_ℤ c
 
 -- where that many elements are a constant of a term
-abbrev behind_by : ℕ → Option Term → Option Behind
+abbrev pub behind_by : ℕ → Option Term → Option Behind
 behind_by local None = None
 behind_by local (Some t) = Some (record { local = local; elements = t.plus })
 
-abbrev further : Direction → Option ℤ → Option Behind → Option Behind
+abbrev pub further : Direction → Option ℤ → Option Behind → Option Behind
 further direction None there = None
 further direction (Some c) None = None
 further direction (Some c) (Some b) = behind_by b.local (within_limit None (b.elements +ℤ toward direction c))

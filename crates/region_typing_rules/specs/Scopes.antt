@@ -20,6 +20,12 @@ pub record Variable : Type 0 where
   pub name : ℕ
   pub type : CType
 
+-- a file-level variable; an array has so many elements of the type
+pub record FileVariable : Type 0 where
+  pub name : ℕ
+  pub type : CType
+  pub length : Option ℕ
+
 -- a local that is visible: its name, and its number in its function
 pub record Visible : Type 0 where
   pub name : ℕ
@@ -34,7 +40,7 @@ pub record Scope : Type 0 where
   pub structs : List Structure
   -- functions in the order in which their names are first declared
   pub functions : List Signature
-  pub variables : List Variable
+  pub variables : List FileVariable
   -- the types of all locals of the function so far, and those that are visible, the innermost first
   pub locals : List CType
   pub visible : List Visible
@@ -51,6 +57,8 @@ pub record Scope : Type 0 where
 pub data Named : Type 0 where
   Local : (local : ℕ) (type : CType) → Named
   Object : (object : ℕ) (type : CType) → Named
+  -- an array of so many elements
+  Array : (object : ℕ) (type : CType) (length : ℕ) → Named
   -- `NULL`
   Nothing : Named
 
@@ -67,10 +75,14 @@ abbrev pub local_named : List CType → List Visible → ℕ → Option Named
 local_named types [] name = None
 local_named types (v ∷ visible) name = found_if (name == v.name) (local_if (slice_get types v.local) v.local) (local_named types visible name)
 
+abbrev pub object_of : ℕ → CType → Option ℕ → Named
+object_of number type None = Object number type
+object_of number type (Some length) = Array number type length
+
 -- the file-level variable of a name, where the first of these has a number
-abbrev pub object_named : ℕ → List Variable → ℕ → Option Named
+abbrev pub object_named : ℕ → List FileVariable → ℕ → Option Named
 object_named number [] name = None
-object_named number (v ∷ variables) name = found_if (name == v.name) (Some (Object number v.type)) (object_named (suc number) variables name)
+object_named number (v ∷ variables) name = found_if (name == v.name) (Some (object_of number v.type v.length)) (object_named (suc number) variables name)
 
 abbrev pub or_else : Option Named → Option Named → Option Named
 or_else (Some this) other = Some this

@@ -23,8 +23,9 @@ use Rattle.ckc_core.specs.Steps.{is_char}
 use Rattle.region_typing_rules.specs.Verdicts.{Verdict, Passes, passing, needs, breaks}
 use Rattle.region_typing_rules.specs.Scopes.{Scope}
 use Rattle.region_typing_rules.specs.Types.{is_scalar, without_stars, base_type}
-use Rattle.region_typing_rules.specs.Expressions.{Places, Typed, Value, AStruct, Called, Gives, GivesNothing, Lvalue, OfLocal, OfCell, site_at}
-use Rattle.region_typing_rules.specs.Expressions.{typed, call_typed, scalar_of, converted, summands}
+use Rattle.region_typing_rules.specs.Expressions.{Places, Typed, Value, AStruct, ForNothing, ForArray, For, Called, Gives, GivesNothing}
+use Rattle.region_typing_rules.specs.Expressions.{Lvalue, OfLocal, OfCell, site_at}
+use Rattle.region_typing_rules.specs.Expressions.{typed, call_typed, scalar_of, converted, bounds_met, summands}
 use Rattle.region_typing_rules.specs.Readings.{told}
 use Rattle.region_typing_rules.specs.Knowing.{assigned_by, settling, outside_of, knowing, when, cut, broken, continued, with_others, at_loop}
 
@@ -51,35 +52,37 @@ abbrev pub update : Lvalue → CType → Operator → core.Expression → Site �
 update (OfLocal local) type operator value site = core.UpdateLocal (is_char type) local operator value site
 update (OfCell place) type operator value site = core.Update type (updated_place place site) operator value site
 
--- target-is-place: a variable, an element or a member (E12). target-is-scalar: E13
+-- target-is-place: a variable, an element or a member, and no array (E12). target-is-scalar: E13
 abbrev pub assigned : Typed → Span → (CType → Lvalue → Verdict core.Statement) → Verdict core.Statement
-assigned (Value type zero value None) span next = breaks E12 span
-assigned (Value type zero value (Some place)) span next = next type place
+assigned (Value type zero value ForNothing) span next = breaks E12 span
+assigned (Value type zero value ForArray) span next = breaks E12 span
+assigned (Value type zero value (For place)) span next = next type place
 assigned (AStruct number place) span next = breaks E13 span
 
--- right-side-converts: E13
-abbrev pub set_to : Typed → Typed → Span → Verdict core.Statement
-set_to target right span = assigned target span (λ type place. converted right type span (λ value. Passes (store place type value)))
+-- right-side-converts: E13. bounds-are-met: E17
+abbrev pub set_to : Knowledge → Typed → Typed → Span → Verdict core.Statement
+set_to f target right span =
+    assigned target span (λ type place. converted right type span (λ value. bounds_met f right type span (Passes (store place type value))))
 
 -- updates-as-sum: the rules of the sum or the difference of both (E19, E13)
 abbrev pub updated : Places → Operator → Typed → Typed → Span → Verdict core.Statement
 updated at operator target right span =
     assigned target span (λ type place. summands target right span (λ old value. Passes (update place type operator value (site_at at span))))
 
-abbrev pub stored : Places → StoreOperator → Typed → Typed → Span → Verdict core.Statement
-stored at stores.Set target right span = set_to target right span
-stored at stores.Add target right span = updated at (operators.Arithmetic arithmetics.Add) target right span
-stored at stores.Subtract target right span = updated at (operators.Arithmetic arithmetics.Subtract) target right span
+abbrev pub stored : Places → Knowledge → StoreOperator → Typed → Typed → Span → Verdict core.Statement
+stored at f stores.Set target right span = set_to f target right span
+stored at f stores.Add target right span = updated at (operators.Arithmetic arithmetics.Add) target right span
+stored at f stores.Subtract target right span = updated at (operators.Arithmetic arithmetics.Subtract) target right span
 
 abbrev pub step_of : StepOperator → Operator
 step_of steps.Increment = operators.Arithmetic arithmetics.Add
 step_of steps.Decrement = operators.Arithmetic arithmetics.Subtract
 
 abbrev pub one : Typed
-one = Value Int false (core.Number (pos 1)) None
+one = Value Int false (core.Number (pos 1)) ForNothing
 
 abbrev pub assignment : Places → Scope → Assignment → Verdict core.Statement
-assignment at g (s.Store operator target value span) = passing (typed at g target) (λ a. passing (typed at g value) (λ b. stored at operator a b span))
+assignment at g (s.Store operator target value span) = passing (typed at g target) (λ a. passing (typed at g value) (λ b. stored at g.flow operator a b span))
 assignment at g (s.Step operator side target span) = passing (typed at g target) (λ a. updated at (step_of operator) a one span)
 
 -- an assignment, and what is known behind it
@@ -104,10 +107,11 @@ with_local name type g = record g {
   flow = entered (length g.locals) None g.flow;
 }
 
--- no-list-for-local: E13
+-- no-list-for-local: E13. bounds-are-met: E17
 abbrev pub initialised : Places → Scope → Option Initializer → CType → ℕ → Span → Verdict core.Statement
 initialised at g None type local span = Passes core.Nothing
-initialised at g (Some (s.Value value)) type local span = passing (typed at g value) (λ t. converted t type span (λ v. Passes (core.SetLocal local v)))
+initialised at g (Some (s.Value value)) type local span =
+    passing (typed at g value) (λ t. converted t type span (λ v. bounds_met g.flow t type span (Passes (core.SetLocal local v))))
 initialised at g (Some (s.Constants constants list)) type local span = breaks E13 span
 
 -- few-locals: at most 256 with the parameters (E08, at the declaration). The flow of a function has a variable for each of its
@@ -211,18 +215,18 @@ abbrev pub alone : Called → core.Statement
 alone (Gives type value) = core.Evaluate value
 alone (GivesNothing call) = call
 
-abbrev pub returned : Option CType → Typed → Span → Verdict core.Statement
-returned None t span = breaks E13 span
-returned (Some type) t span = converted t type span (λ v. Passes (core.Return v))
+abbrev pub returned : Knowledge → Option CType → Typed → Span → Verdict core.Statement
+returned f None t span = breaks E13 span
+returned f (Some type) t span = converted t type span (λ v. bounds_met f t type span (Passes (core.Return v)))
 
 abbrev pub returned_nothing : Option CType → Span → Verdict core.Statement
 returned_nothing None span = Passes core.ReturnNothing
 returned_nothing (Some type) span = breaks E13 span
 
--- result-as-declared: a value exactly where the result isn't void, which converts (E13)
+-- result-as-declared: a value exactly where the result isn't void, which converts (E13). bounds-are-met: E17
 abbrev pub return : Places → Scope → Option Expression → Span → Verdict core.Statement
 return at g None span = returned_nothing g.result span
-return at g (Some e) span = passing (typed at g e) (λ t. returned g.result t span)
+return at g (Some e) span = passing (typed at g e) (λ t. returned g.flow g.result t span)
 
 abbrev mutual
   pub statement : Places → Scope → Statement → Verdict Walked

@@ -1,12 +1,20 @@
 -- What it is that a core has types: a rule for each form, by the types of what it is made of.
-use Rattle.std.specs.Prelude.{◌≡◌, ℕ, ◌+◌, ◌<◌, ◌≤◌, Bool, true, false, List, [], ◌∷◌, length, take, replicate, sum, Option, Some, None, slice_get}
+use Rattle.std.specs.Prelude.{◌≡◌, ℕ, ◌*◌, ◌<◌, ◌≤◌, Bool, true, false, List, [], ◌∷◌, length, take, replicate}
+use Rattle.std.specs.Prelude.{Option, Some, None, slice_get}
 use Rattle.std.specs.List.{AllByRecursion}
 use Rattle.std.proofs.Common.{ℤ}
 use Rattle.act_words.specs.Checks.{is_word_number}
 use Rattle.pointer_modes.specs.declared.ctype.Mode.{Mode}
+use Rattle.pointer_modes.specs.declared.ctype.Mode.TheVariants as modes
 use Rattle.pointer_modes.specs.declared.ctype.Kind.{Kind}
-use Rattle.pointer_modes.specs.Types.{CType, Int, Char, Struct, Pointer, Member, Structure, members_of}
-use Rattle.pointer_modes.specs.Layout.{Cell, cells_of, size_of}
+use Rattle.pointer_modes.specs.declared.ctype.Kind.TheVariants as kinds
+use Rattle.pointer_modes.specs.Types.{CType, Int, Char, Struct, Pointer, Structure}
+use Rattle.pointer_modes.specs.Layout.{size_of}
+use Rattle.bounds_exprs.specs.declared.term.Bounds.{Bounds}
+use Rattle.bounds_exprs.specs.Changes.{moved_by}
+use Rattle.bounds_exprs.specs.Terms.{is_within, term_limit}
+use Rattle.bounds_flow_meaning.specs.Holding.{IsValid}
+use Rattle.bounds_flow_meaning.specs.Rows.{slots, HasRow, IsPlace}
 use Rattle.ckc_core.specs.declared.program.Site.{Site}
 use Rattle.act_words.specs.declared.operator.Operator.{Operator}
 use Rattle.act_words.specs.declared.operator.Comparison.{Comparison}
@@ -16,10 +24,15 @@ use Rattle.ckc_core.specs.declared.program.PointerBounds.{PointerBounds}
 use Rattle.ckc_core.specs.Programs.{Initial, Import}
 use Rattle.ckc_core.specs.Core as core
 use Rattle.ckc_core.specs.Core.{Parted, Function, Expression, Arguments, Place, Statement, Statements}
-use Rattle.ckc_core.specs.States.{Value, Number, Null, At, Shape, shape, type_at, has_type, initial_value, object_block}
+use Rattle.ckc_core.specs.declared.program.Direction.{Direction}
+use Rattle.ckc_core.specs.States.{Value, Number, Null, At, Local, State, Shape, shape, has_type, initial_value, object_block}
+use Rattle.ckc_core.specs.Meaning.{bounds_of}
 use Rattle.ckc_core.specs.Steps.{is_char}
 use Rattle.region_typing_rules.specs.Types.{is_number, is_scalar}
-use Rattle.region_typing_rules.specs.Expressions.{bounds_at}
+use Rattle.region_typing_rules.specs.Scopes.{Scope}
+use Rattle.region_typing_rules.specs.Readings.{constant, against}
+use Rattle.region_typing_rules.specs.Expressions.{bounds_at, row_of, one_element}
+use Rattle.region_typing_rules.specs.KnownIsSo.{IsKnown}
 
 -- what the parts of a program are typed in: its two sides, and its structs
 pub record Frame : Type 0 where
@@ -28,48 +41,12 @@ pub record Frame : Type 0 where
 
 -- ---- values
 
--- a scalar in a value: its type, and how many bytes stand before it
-pub record Slot : Type 0 where
-  pub type : CType
-  pub offset : ℕ
-
-abbrev pub slots_from : List Member → List Cell → List Slot
-slots_from [] cells = []
-slots_from (m ∷ members) [] = []
-slots_from (m ∷ members) (c ∷ cells) = record { type = m.ctype; offset = c.offset } ∷ slots_from members cells
-
-abbrev single : CType → List Slot
-single t = record { type = t; offset = 0 } ∷ []
-
--- the scalars that a value of a type consists of
-abbrev pub slots : List Structure → CType → List Slot
-slots structs Int = single Int
-slots structs Char = single Char
-slots structs (Pointer mode kind target) = single (Pointer mode kind target)
-slots structs (Struct number) = slots_from (members_of structs number) (cells_of structs (Struct number))
-
--- at a byte of a block of this shape such scalars stand, and there is one; no zero ends the block
-pub record Stands (s : Shape) (byte : ℕ) (row : List Slot) : Type 0 where
-  pub there : 0 < length row
-  pub each : (k : ℕ) (slot : Slot) → slice_get row k ≡ Some slot → type_at s (byte + slot.offset) ≡ Some slot.type
-  pub open_ended : s.zero_ended ≡ false
-
 -- the bounds at the node of a value of a type
 abbrev pub HasBounds : List Structure → CType → Option PointerBounds → Type 0
 HasBounds structs t b = (site : Site) × (b ≡ bounds_at structs t site)
 
--- a value of the type stands at a byte of a block of this shape, and so many bytes as it takes are the block's
-pub record HasRow (structs : List Structure) (s : Shape) (byte : ℕ) (type : CType) : Type 0 where
-  pub stands : Stands s byte (slots structs type)
-  pub room : byte + size_of structs type ≤ sum s.strides
-
--- a place at which a value of the type stands, in blocks of these shapes
-pub record IsPlace (structs : List Structure) (blocks : List Shape) (type : CType) (block byte : ℕ) : Type 0 where
-  pub shape : Shape
-  pub found : slice_get blocks block ≡ Some shape
-  pub row : HasRow structs shape byte type
-
--- a value of a type: a number in its range, null, or a place of what is pointed to
+-- A value of a type: a number in its range, null, or a place. At the place of a `ptr` stands what it points to; of a pointer with
+-- bounds, its bounds say more.
 abbrev pub HasValue : List Structure → List Shape → CType → Value → Type 0
 HasValue structs blocks Int (Number z) = has_type Int (Number z) ≡ true
 HasValue structs blocks Int Null = ⊥
@@ -80,7 +57,9 @@ HasValue structs blocks Char (At block byte) = ⊥
 HasValue structs blocks (Struct number) v = ⊥
 HasValue structs blocks (Pointer mode kind target) (Number z) = ⊥
 HasValue structs blocks (Pointer mode kind target) Null = Unit {0}
-HasValue structs blocks (Pointer mode kind target) (At block byte) = IsPlace structs blocks target block byte
+HasValue structs blocks (Pointer mode kinds.One target) (At block byte) = IsPlace structs blocks target block byte
+HasValue structs blocks (Pointer mode kinds.Array target) (At block byte) = Unit {0}
+HasValue structs blocks (Pointer mode kinds.Nt target) (At block byte) = Unit {0}
 
 -- ---- calls
 
@@ -95,78 +74,143 @@ pub data IsCallee (g : Frame) : Callee → List CType → Option CType → Type 
   tainted : {n : ℕ} {i : Import} {site : Site} → slice_get g.program.imports n ≡ Some i → IsNumberResult i.result
       → IsCallee g (callees.Tainted n site) (replicate i.parameters Int) i.result
 
+-- ---- bounds
+
+-- the constants of both ends are those of terms
+pub record AreLimited (b : Bounds) : Type 0 where
+  pub low : is_within term_limit b.lo.plus ≡ true
+  pub high : is_within term_limit b.hi.plus ≡ true
+
+-- whenever what is known in a scope is so, a local pointer is valid with these bounds
+abbrev pub IsInForce : List Structure → Scope → (local : ℕ) → Bounds → Type 0
+IsInForce structs here k b = (s : State) → IsKnown structs here s → (l : Local) → slice_get s.locals k ≡ Some l → IsValid structs (Some b) l s
+
+-- whenever what is known in a scope is so, a pointer that is valid with these bounds leads to an element
+abbrev pub LeadsToOne : List Structure → Scope → Bounds → Type 0
+LeadsToOne structs here b = (s : State) → IsKnown structs here s → (l : Local) → IsValid structs (Some b) l s → IsValid structs (Some one_element) l s
+
+-- so many values of the type stand in a row from the beginning of a block of this shape on
+abbrev pub AreRows : List Structure → Shape → CType → ℕ → Type 0
+AreRows structs s type n = (k : ℕ) → k < n → HasRow structs s (k * size_of structs type) type
+
+-- The bounds of a sum of a pointer of the type and a number, by those of the pointer: they are unknown; or they count from its base as before,
+-- or from the local pointer that it is; or a constant moved the ends.
+pub data AreSumBounds (types : List CType) (type : CType) (e : Expression) (direction : Direction) (i : Expression) (p : PointerBounds)
+    : Option PointerBounds → Type 0 where
+  unknown : AreSumBounds types type e direction i p None
+  based : {base : ℕ} {site : Site} → p.bounds.base ≡ Some base → AreSumBounds types type e direction i p (Some (record p { site = site }))
+  own : {k : ℕ} {b : Option PointerBounds} {site : Site} → e ≡ core.Local k b → slice_get types k ≡ Some type → p.bounds.base ≡ None
+      → AreSumBounds types type e direction i p (Some (record { bounds = record p.bounds { base = Some k }; size = p.size; site = site }))
+  moved : {c : ℤ} {q : Bounds} {site : Site} → p.bounds.base ≡ None → constant types i ≡ Some c → moved_by (against direction c) p.bounds ≡ Some q
+      → AreSumBounds types type e direction i p (Some (record { bounds = q; size = p.size; site = site }))
+
+-- a pointer has these bounds at its node, of elements of the type
+pub record HasElements (structs : List Structure) (e : Expression) (type : CType) (p : PointerBounds) : Type 0 where
+  pub bounds : bounds_of e ≡ Some p
+  pub size : p.size ≡ size_of structs type
+  pub some : 0 < size_of structs type
+
 -- ---- expressions
 
 mutual
-  -- an expression, where the locals have these types, and its type
-  pub data HasType (g : Frame) (locals : List CType) : Expression → CType → Type 0 where
-    word : {z : ℤ} → is_word_number z ≡ true → HasType g locals (core.Number z) Int
-    byte : {z : ℤ} → has_type Char (Number z) ≡ true → HasType g locals (core.Number z) Char
-    null : {mode : Mode} {kind : Kind} {t : CType} → HasType g locals core.Null (Pointer mode kind t)
-    local : {k : ℕ} {t : CType} {b : Option PointerBounds} → slice_get locals k ≡ Some t → HasBounds g.structs t b → HasType g locals (core.Local k b) t
+  -- an expression, where the locals have these types, in a scope of the walk, and its type
+  pub data HasType (g : Frame) (locals : List CType) (here : Scope) : Expression → CType → Type 0 where
+    word : {z : ℤ} → is_word_number z ≡ true → HasType g locals here (core.Number z) Int
+    byte : {z : ℤ} → has_type Char (Number z) ≡ true → HasType g locals here (core.Number z) Char
+    null : {mode : Mode} {kind : Kind} {t : CType} → HasType g locals here core.Null (Pointer mode kind t)
+    local : {k : ℕ} {t : CType} {b : Option PointerBounds} → slice_get locals k ≡ Some t → HasBounds g.structs t b → HasType g locals here (core.Local k b) t
+    -- a pointer with the bounds that are in force
+    bounded : {k : ℕ} {mode : Mode} {t : CType} {p : PointerBounds} → slice_get locals k ≡ Some (Pointer mode kinds.Array t) → p.size ≡ size_of g.structs t
+        → AreLimited p.bounds → IsInForce g.structs here k p.bounds → HasType g locals here (core.Local k (Some p)) (Pointer mode kinds.Array t)
     -- each char is an int
-    widened : {e : Expression} → HasType g locals e Char → HasType g locals e Int
-    load : {t : CType} {p : Place} {b : Option PointerBounds} → is_scalar t ≡ true → HasPlace g locals p t → HasBounds g.structs t b
-        → HasType g locals (core.Load t p b) t
-    address_of : {mode : Mode} {kind : Kind} {t : CType} {p : Place} {b : Option PointerBounds} → HasPlace g locals p t
-        → HasBounds g.structs (Pointer mode kind t) b → HasType g locals (core.AddressOf p b) (Pointer mode kind t)
-    negate : {e : Expression} {site : Site} → HasType g locals e Int → HasType g locals (core.Negate e site) Int
-    complement : {e : Expression} → HasType g locals e Int → HasType g locals (core.Complement e) Int
-    inverse : {e : Expression} {t : CType} → HasType g locals e t → HasType g locals (core.Not e) Int
-    arithmetic : {operator : Operator} {a b : Expression} {site : Site} → HasType g locals a Int → HasType g locals b Int
-        → HasType g locals (core.Arithmetic operator a b site) Int
-    compare : {comparison : Comparison} {a b : Expression} → HasType g locals a Int → HasType g locals b Int
-        → HasType g locals (core.Compare comparison a b) Int
-    same : {mode mode' : Mode} {kind kind' : Kind} {t t' : CType} {a b : Expression} → HasType g locals a (Pointer mode kind t)
-        → HasType g locals b (Pointer mode' kind' t') → HasType g locals (core.Same a b) Int
-    both : {a b : Expression} {t t' : CType} → HasType g locals a t → HasType g locals b t' → HasType g locals (core.AndAlso a b) Int
-    either : {a b : Expression} {t t' : CType} → HasType g locals a t → HasType g locals b t' → HasType g locals (core.OrElse a b) Int
-    low_byte : {e : Expression} → HasType g locals e Int → HasType g locals (core.LowByte e) Char
+    widened : {e : Expression} → HasType g locals here e Char → HasType g locals here e Int
+    -- a pointer to the element at which a pointer with bounds stands
+    single : {e : Expression} {mode : Mode} {t : CType} {p : PointerBounds} → HasType g locals here e (Pointer mode kinds.Array t) → HasElements g.structs e t p
+        → LeadsToOne g.structs here p.bounds → HasType g locals here e (Pointer mode kinds.One t)
+    -- a pointer to one element as one with bounds, and one into an array that a zero ends
+    row : {e : Expression} {mode : Mode} {t : CType} → HasType g locals here e (Pointer mode kinds.One t)
+        → HasBounds g.structs (Pointer mode kinds.One t) (bounds_of e) → HasType g locals here e (Pointer mode kinds.Array t)
+    ended_row : {e : Expression} {mode : Mode} {t : CType} → HasType g locals here e (Pointer mode kinds.Nt t) → bounds_of e ≡ None
+        → HasType g locals here e (Pointer mode kinds.Array t)
+    load : {t : CType} {p : Place} {b : Option PointerBounds} → is_scalar t ≡ true → HasPlace g locals here p t → HasBounds g.structs t b
+        → HasType g locals here (core.Load t p b) t
+    address_of : {mode : Mode} {t : CType} {p : Place} {b : Option PointerBounds} → HasPlace g locals here p t
+        → HasBounds g.structs (Pointer mode kinds.One t) b → HasType g locals here (core.AddressOf p b) (Pointer mode kinds.One t)
+    -- an array of 1 to 8,192 elements
+    array : {object n : ℕ} {t : CType} {p : PointerBounds} {cells : List Initial} → slice_get g.program.objects object ≡ Some cells → 0 < n → n ≤ 8192
+        → AreRows g.structs (shape (object_block cells)) t n → p.bounds ≡ row_of n → p.size ≡ size_of g.structs t
+        → HasType g locals here (core.AddressOf (core.Direct object 0) (Some p)) (Pointer modes.Checked kinds.Array t)
+    sum : {e i : Expression} {mode : Mode} {t : CType} {direction : Direction} {site : Site} {p : PointerBounds} {b : Option PointerBounds}
+        → HasType g locals here e (Pointer mode kinds.Array t) → HasElements g.structs e t p → HasType g locals here i Int
+        → AreSumBounds here.locals (Pointer mode kinds.Array t) e direction i p b
+        → HasType g locals here (core.Sum e direction i site b) (Pointer mode kinds.Array t)
+    negate : {e : Expression} {site : Site} → HasType g locals here e Int → HasType g locals here (core.Negate e site) Int
+    complement : {e : Expression} → HasType g locals here e Int → HasType g locals here (core.Complement e) Int
+    inverse : {e : Expression} {t : CType} → HasType g locals here e t → HasType g locals here (core.Not e) Int
+    arithmetic : {operator : Operator} {a b : Expression} {site : Site} → HasType g locals here a Int → HasType g locals here b Int
+        → HasType g locals here (core.Arithmetic operator a b site) Int
+    compare : {comparison : Comparison} {a b : Expression} → HasType g locals here a Int → HasType g locals here b Int
+        → HasType g locals here (core.Compare comparison a b) Int
+    same : {mode mode' : Mode} {kind kind' : Kind} {t t' : CType} {a b : Expression} → HasType g locals here a (Pointer mode kind t)
+        → HasType g locals here b (Pointer mode' kind' t') → HasType g locals here (core.Same a b) Int
+    both : {a b : Expression} {t t' : CType} → HasType g locals here a t → HasType g locals here b t' → HasType g locals here (core.AndAlso a b) Int
+    either : {a b : Expression} {t t' : CType} → HasType g locals here a t → HasType g locals here b t' → HasType g locals here (core.OrElse a b) Int
+    low_byte : {e : Expression} → HasType g locals here e Int → HasType g locals here (core.LowByte e) Char
     call : {callee : Callee} {ts : List CType} {arguments : Arguments} {t : CType} {b : Option PointerBounds} → IsCallee g callee ts (Some t)
-        → HaveTypes g locals arguments ts → HasBounds g.structs t b → HasType g locals (core.Call callee arguments b) t
-    next_input : HasType g locals core.NextInput Int
+        → HaveTypes g locals here arguments ts → HasBounds g.structs t b → HasType g locals here (core.Call callee arguments b) t
+    next_input : HasType g locals here core.NextInput Int
 
   -- arguments, and the types of the parameters
-  pub data HaveTypes (g : Frame) (locals : List CType) : Arguments → List CType → Type 0 where
-    done : HaveTypes g locals core.Done []
-    more : {e : Expression} {rest : Arguments} {t : CType} {ts : List CType} → HasType g locals e t → HaveTypes g locals rest ts
-        → HaveTypes g locals (core.More e rest) (t ∷ ts)
+  pub data HaveTypes (g : Frame) (locals : List CType) (here : Scope) : Arguments → List CType → Type 0 where
+    done : HaveTypes g locals here core.Done []
+    more : {e : Expression} {rest : Arguments} {t : CType} {ts : List CType} → HasType g locals here e t → HaveTypes g locals here rest ts
+        → HaveTypes g locals here (core.More e rest) (t ∷ ts)
 
-  -- a place, and the type of what stands there: in a variable, behind a pointer, or at a member of the struct behind it
-  pub data HasPlace (g : Frame) (locals : List CType) : Place → CType → Type 0 where
+  -- a place, and the type of what stands there: in a variable, behind a pointer or at an element, or at a member of the struct there
+  pub data HasPlace (g : Frame) (locals : List CType) (here : Scope) : Place → CType → Type 0 where
     direct : {object offset : ℕ} {t : CType} {cells : List Initial} → slice_get g.program.objects object ≡ Some cells
-        → HasRow g.structs (shape (object_block cells)) offset t → HasPlace g locals (core.Direct object offset) t
-    pointed : {mode : Mode} {kind : Kind} {e : Expression} {t : CType} {site : Site} → HasType g locals e (Pointer mode kind t)
-        → HasPlace g locals (core.Through e core.First 0 site) t
-    member : {mode : Mode} {kind : Kind} {e : Expression} {n offset : ℕ} {t : CType} {site : Site} (k : ℕ) → HasType g locals e (Pointer mode kind (Struct n))
+        → HasRow g.structs (shape (object_block cells)) offset t → HasPlace g locals here (core.Direct object offset) t
+    pointed : {mode : Mode} {e : Expression} {t : CType} {site : Site} → HasType g locals here e (Pointer mode kinds.One t)
+        → HasPlace g locals here (core.Through e core.First 0 site) t
+    member : {mode : Mode} {e : Expression} {n offset : ℕ} {t : CType} {site : Site} (k : ℕ) → HasType g locals here e (Pointer mode kinds.One (Struct n))
         → slice_get (slots g.structs (Struct n)) k ≡ Some (record { type = t; offset = offset }) → is_scalar t ≡ true
-        → HasPlace g locals (core.Through e core.First offset site) t
+        → HasPlace g locals here (core.Through e core.First offset site) t
+    element : {mode : Mode} {e i : Expression} {t : CType} {p : PointerBounds} {site : Site} → HasType g locals here e (Pointer mode kinds.Array t)
+        → HasElements g.structs e t p → HasType g locals here i Int → HasPlace g locals here (core.Through e (core.Element i) 0 site) t
+    element_member : {mode : Mode} {e i : Expression} {n offset : ℕ} {t : CType} {p : PointerBounds} {site : Site} (k : ℕ)
+        → HasType g locals here e (Pointer mode kinds.Array (Struct n)) → HasElements g.structs e (Struct n) p → HasType g locals here i Int
+        → slice_get (slots g.structs (Struct n)) k ≡ Some (record { type = t; offset = offset }) → is_scalar t ≡ true
+        → HasPlace g locals here (core.Through e (core.Element i) offset site) t
 
 -- ---- statements
 
+-- a statement that is no block, branch, loop or jump, in a function with these locals, in a scope of the walk
+pub data IsSimple (g : Frame) (locals : List CType) (here : Scope) : Statement → Type 0 where
+  nothing : IsSimple g locals here core.Nothing
+  set_local : {k : ℕ} {t : CType} {e : Expression} → slice_get locals k ≡ Some t → HasType g locals here e t → IsSimple g locals here (core.SetLocal k e)
+  store : {t : CType} {p : Place} {e : Expression} → is_scalar t ≡ true → HasPlace g locals here p t → HasType g locals here e t
+      → IsSimple g locals here (core.Store t p e)
+  update_local : {char : Bool} {k : ℕ} {t : CType} {operator : Operator} {e : Expression} {site : Site} → slice_get locals k ≡ Some t
+      → is_number t ≡ true → is_char t ≡ char → HasType g locals here e Int → IsSimple g locals here (core.UpdateLocal char k operator e site)
+  update : {t : CType} {p : Place} {operator : Operator} {e : Expression} {site : Site} → is_number t ≡ true → HasPlace g locals here p t
+      → HasType g locals here e Int → IsSimple g locals here (core.Update t p operator e site)
+  evaluate : {e : Expression} {t : CType} → HasType g locals here e t → IsSimple g locals here (core.Evaluate e)
+  call_alone : {callee : Callee} {ts : List CType} {arguments : Arguments} → IsCallee g callee ts None → HaveTypes g locals here arguments ts
+      → IsSimple g locals here (core.CallAlone callee arguments)
+  print : {e : Expression} → HasType g locals here e Int → IsSimple g locals here (core.Print e)
+  put_byte : {e : Expression} → HasType g locals here e Int → IsSimple g locals here (core.PutByte e)
+
 mutual
-  -- a statement in a function with these locals and this result, in a loop or not
+  -- a statement in a function with these locals and this result, in a loop or not; each of its parts stands in a scope of its own
   pub data IsStatement (g : Frame) (locals : List CType) (result : Option CType) : Bool → Statement → Type 0 where
-    nothing : {loop : Bool} → IsStatement g locals result loop core.Nothing
-    set_local : {loop : Bool} {k : ℕ} {t : CType} {e : Expression} → slice_get locals k ≡ Some t → HasType g locals e t
-        → IsStatement g locals result loop (core.SetLocal k e)
-    store : {loop : Bool} {t : CType} {p : Place} {e : Expression} → is_scalar t ≡ true → HasPlace g locals p t → HasType g locals e t
-        → IsStatement g locals result loop (core.Store t p e)
-    update_local : {loop char : Bool} {k : ℕ} {t : CType} {operator : Operator} {e : Expression} {site : Site} → slice_get locals k ≡ Some t
-        → is_number t ≡ true → is_char t ≡ char → HasType g locals e Int → IsStatement g locals result loop (core.UpdateLocal char k operator e site)
-    update : {loop : Bool} {t : CType} {p : Place} {operator : Operator} {e : Expression} {site : Site} → is_number t ≡ true → HasPlace g locals p t
-        → HasType g locals e Int → IsStatement g locals result loop (core.Update t p operator e site)
-    evaluate : {loop : Bool} {e : Expression} {t : CType} → HasType g locals e t → IsStatement g locals result loop (core.Evaluate e)
-    call_alone : {loop : Bool} {callee : Callee} {ts : List CType} {arguments : Arguments} → IsCallee g callee ts None → HaveTypes g locals arguments ts
-        → IsStatement g locals result loop (core.CallAlone callee arguments)
-    print : {loop : Bool} {e : Expression} → HasType g locals e Int → IsStatement g locals result loop (core.Print e)
-    put_byte : {loop : Bool} {e : Expression} → HasType g locals e Int → IsStatement g locals result loop (core.PutByte e)
+    simple : {here : Scope} {loop : Bool} {x : Statement} → IsSimple g locals here x → IsStatement g locals result loop x
     block : {loop : Bool} {xs : Statements} → AreStatements g locals result loop xs → IsStatement g locals result loop (core.Block xs)
-    choice : {loop : Bool} {e : Expression} {t : CType} {x y : Statement} → HasType g locals e t → IsStatement g locals result loop x
-        → IsStatement g locals result loop y → IsStatement g locals result loop (core.If e x y)
-    repeat : {loop : Bool} {e : Expression} {t : CType} {x y : Statement} → HasType g locals e t → IsStatement g locals result true x
-        → IsStatement g locals result false y → IsStatement g locals result loop (core.Loop e x y)
-    returned : {loop : Bool} {e : Expression} {t : CType} → result ≡ Some t → HasType g locals e t → IsStatement g locals result loop (core.Return e)
+    choice : {here : Scope} {loop : Bool} {e : Expression} {t : CType} {x y : Statement} → HasType g locals here e t
+        → IsStatement g locals result loop x → IsStatement g locals result loop y → IsStatement g locals result loop (core.If e x y)
+    repeat : {here : Scope} {loop : Bool} {e : Expression} {t : CType} {x y : Statement} → HasType g locals here e t
+        → IsStatement g locals result true x → IsStatement g locals result false y → IsStatement g locals result loop (core.Loop e x y)
+    returned : {here : Scope} {loop : Bool} {e : Expression} {t : CType} → result ≡ Some t → HasType g locals here e t
+        → IsStatement g locals result loop (core.Return e)
     returned_nothing : {loop : Bool} → result ≡ None → IsStatement g locals result loop core.ReturnNothing
     broken : IsStatement g locals result true core.Break
     continued : IsStatement g locals result true core.Continue

@@ -72,9 +72,28 @@ abbrev pub are_comparable : CType → CType → Bool
 are_comparable (Pointer mode kind target) (Pointer mode' kind' target') = same_mode mode mode' && same_type target target'
 are_comparable _ _ = false
 
+-- a pointer of the one kind as one of the other: a pointer with bounds may be one to the element at which it stands, and a pointer to
+-- one element has the bounds of one
+abbrev pub kind_converts : Kind → Kind → Bool
+kind_converts kinds.One kinds.One = true
+kind_converts kinds.One kinds.Array = true
+kind_converts kinds.One kinds.Nt = false
+kind_converts kinds.Array kinds.One = true
+kind_converts kinds.Array kinds.Array = true
+kind_converts kinds.Array kinds.Nt = false
+kind_converts kinds.Nt kinds.One = true
+kind_converts kinds.Nt kinds.Array = true
+kind_converts kinds.Nt kinds.Nt = true
+
+abbrev pub pointer_converts : CType → Kind → CType → Bool
+pointer_converts (Pointer mode kind target) kind' to = are_comparable (Pointer mode kind target) to && kind_converts kind kind'
+pointer_converts Int kind' to = false
+pointer_converts Char kind' to = false
+pointer_converts (Struct number) kind' to = false
+
 -- a value of the first type, which is the constant 0 or not, converts to the second
 abbrev pub converts : CType → Bool → CType → Bool
 converts from zero Int = is_number from
 converts from zero Char = is_number from
 converts from zero (Struct number) = false
-converts from zero (Pointer mode kind target) = zero || same_type from (Pointer mode kind target)
+converts from zero (Pointer mode kind target) = zero || pointer_converts from kind (Pointer mode kind target)

@@ -13,7 +13,7 @@ ghost use Rattle.region_typing_rules.specs.Verdicts.{Unnamed};
 ghost use Rattle.region_typing_rules.specs.Expressions.{Places};
 ghost use Rattle.region_typing_rules.specs.Cores.{checked};
 ghost use Rattle.region_typing_rules.specs.NeverStuck.{HasCore, NeverStuck, NeverUnsound, AlwaysEnds};
-ghost use Rattle.region_typing_rules.specs.KnownIsSo.{KnownIsSo, RowsAreSo, ConditionsAreSo, MarkedAlone, BodiesAreWalked};
+ghost use Rattle.region_typing_rules.specs.KnownIsSo.{ConditionsAreSo, MarkedAlone};
 ghost use Rattle.region_typing_rules.specs.Typed.{IsTyped};
 ghost use Rattle.region_typing_rules.specs.Lowerable.{HasFewFunctions, IsSmallCore};
 ghost use Rattle.region_typing_rules.specs.Examples as examples;
@@ -45,25 +45,22 @@ pub fn knowing()
     ensures counts { knowing.counts }
 {}
 
-/// What the walk knows behind a statement is so in each run: of the numbers of variables, and of pointers. The body of each function
-/// of a program that breaks no rule was walked so, from a scope in which what is known is so wherever the function begins.
+/// What the walk knows behind a condition that came out so is so in each run, and a statement changes only the variables that the walk
+/// marks.
 pub fn known_is_so()
-    ensures statements { KnownIsSo }
-    ensures rows { RowsAreSo }
     ensures conditions { ConditionsAreSo }
     ensures marked { MarkedAlone }
-    ensures bodies { BodiesAreWalked }
 {}
 
-/// The core of a program that breaks no rule has types, and an audited run of what has types is never stuck.
+/// The core of a program that breaks no rule has types, and its audited run is never stuck.
 pub fn never_stuck()
     ensures typed { (at : Places) (t : Tree) (c : Core) → HasCore at t c → IsTyped (parted c) }
-    ensures stuck { (program : Core) → IsTyped (parted program) → NeverStuck program }
+    ensures stuck { (at : Places) (t : Tree) (c : Core) → HasCore at t c → NeverStuck c }
 {}
 
-/// In an audited run of what has types each pointer is valid with its bounds.
+/// In the audited run of a program that breaks no rule each pointer is valid with its bounds.
 pub fn never_unsound()
-    ensures { (program : Core) → IsTyped (parted program) → NeverUnsound program }
+    ensures { (at : Places) (t : Tree) (c : Core) → HasCore at t c → NeverUnsound c }
 {}
 
 /// The run of a program that breaks no rule ends, and it is the audited one.

@@ -5,3 +5,4 @@ pub mod Tables
 pub mod Steps
 pub mod Innermost
 pub mod Settled
+pub mod Entailing

@@ -13,3 +13,4 @@ pub mod OnHeap
 pub mod Operands
 pub mod Tracked
 pub mod Settlings
+pub mod Entailing

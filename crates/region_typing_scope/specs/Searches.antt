@@ -3,7 +3,7 @@ use Rattle.std.specs.Prelude.{ℕ, ◌+◌, List, slice_get, Option, Some, None}
 use Rattle.std.specs.Option.{option_map}
 use Rattle.pointer_modes.specs.declared.ctype.Member as code_member
 use Rattle.pointer_modes.specs.Types.{CType, ctype}
-use Rattle.region_typing_rules.specs.Scopes.{Named, Object, Signature}
+use Rattle.region_typing_rules.specs.Scopes.{Named, Signature, object_of}
 use Rattle.region_typing_scope.specs.declared.scope as code
 use Rattle.region_typing_scope.specs.declared.signature.Signature as code_signature
 use Rattle.region_typing_scope.specs.Views.{signature}
@@ -11,7 +11,7 @@ use Rattle.region_typing_scope.specs.Views.{signature}
 -- what stands at a place that is found, where the first has a number
 abbrev pub object_at : ℕ → List code.Variable.Variable → Option ℕ → Option Named
 object_at n vs None = None
-object_at n vs (Some k) = option_map (λ v. Object (n + k) (ctype v.ctype)) (slice_get vs k)
+object_at n vs (Some k) = option_map (λ v. object_of (n + k) (ctype v.ctype) v.length) (slice_get vs k)
 
 abbrev pub member_at : ℕ → List code_member.Member → Option ℕ → Option (ℕ × CType)
 member_at n ms None = None

@@ -9,7 +9,7 @@ use Rattle.ckc_core.specs.Core.{expression, place}
 use Rattle.region_typing_rules.specs.Verdicts.{Verdict, passing}
 use Rattle.region_typing_rules.specs.Scopes.{Scope}
 use Rattle.region_typing_rules.specs.Types.{type_named}
-use Rattle.region_typing_rules.specs.Expressions.{constant, number, Lvalue, OfLocal, OfCell, Typed, Value, AStruct}
+use Rattle.region_typing_rules.specs.Expressions.{constant_typed, number, Lvalue, OfLocal, OfCell, Typed, Value, AStruct, ForNothing, ForArray, For}
 use Rattle.region_typing_scope.specs.declared.typed.Base as code_base
 use Rattle.region_typing_scope.specs.declared.typed.Base.TheVariants as bases
 use Rattle.region_typing_scope.specs.declared.typed.StructPlace as code_place
@@ -17,10 +17,11 @@ use Rattle.region_typing_scope.specs.declared.typed.StructPlace.TheVariants as p
 use Rattle.region_typing_scope.specs.declared.typed.Typed as code
 use Rattle.region_typing_scope.specs.declared.typed.Typed.TheVariants as forms
 
--- the first cell of a struct
+-- the first cell of a value
 abbrev pub base_place : code_base.Base → core.Place
 base_place (bases.Object object) = core.Direct object 0
 base_place (bases.Behind pointer site) = core.Through (expression pointer.value) core.First 0 site
+base_place (bases.Element pointer number site) = core.Through (expression pointer.value) (core.Element (expression number.value)) 0 site
 
 -- where a struct stands
 abbrev pub struct_place : code_place.StructPlace → Lvalue
@@ -29,27 +30,22 @@ struct_place (places.Cell base) = OfCell (base_place base)
 
 -- what a value of the code's type stands for
 abbrev pub typed : code.Typed → Typed
-typed (forms.Value type zero value) = Value (ctype type) zero (expression value.value) None
-typed (forms.Local type local bounds) = Value (ctype type) false (core.Local local bounds) (Some (OfLocal local))
-typed (forms.Cell type at bounds) = Value (ctype type) false (core.Load (ctype type) (place at) bounds) (Some (OfCell (place at)))
+typed (forms.Value type zero value) = Value (ctype type) zero (expression value.value) ForNothing
+typed (forms.Local type local bounds) = Value (ctype type) false (core.Local local bounds) (For (OfLocal local))
+typed (forms.Cell type at bounds) = Value (ctype type) false (core.Load (ctype type) (place at) bounds) (For (OfCell (place at)))
+typed (forms.Array type object bounds) = Value (ctype type) false (core.AddressOf (core.Direct object 0) bounds) ForArray
 typed (forms.Struct struct at) = AStruct struct (struct_place at)
 
--- the struct that a type is, and the one that a pointer of a type points to
+-- the struct that a type is
 abbrev pub struct_of : CType → Option ℕ
 struct_of (Struct struct) = Some struct
 struct_of Int = None
 struct_of Char = None
 struct_of (Pointer mode kind target) = None
 
-abbrev pub struct_behind : CType → Option ℕ
-struct_behind (Pointer mode kind target) = struct_of target
-struct_behind Int = None
-struct_behind Char = None
-struct_behind (Struct struct) = None
-
 -- numbers and sizes
 abbrev pub number_typed : ℕ → Span → Verdict Typed
-number_typed value span = constant value (value == 0) span
+number_typed value span = constant_typed value (value == 0) span
 
 abbrev pub size_typed : Scope → TypeName → Verdict Typed
 size_typed s t = passing (type_named s t) (λ u. number (core.Number (pos (size_of s.structs u))))

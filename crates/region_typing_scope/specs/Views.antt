@@ -3,13 +3,13 @@ use Rattle.std.specs.Prelude.{ℕ, map, reverse, Vec}
 use Rattle.std.proofs.Common.{Global}
 use Rattle.std.specs.Option.{option_map}
 use Rattle.pointer_modes.specs.Types.{ctype}
-use Rattle.region_typing_rules.specs.Scopes.{Variable, Scope}
+use Rattle.region_typing_rules.specs.Scopes.{FileVariable, Scope}
 use Rattle.region_typing_scope.specs.declared.scope as code
 pub use Rattle.region_typing_scope.specs.Signatures.{signature}
 pub use Rattle.region_typing_scope.specs.Visibles.{visible}
 
-abbrev pub variable : code.Variable.Variable → Variable
-variable v = record { name = v.name; type = ctype v.ctype }
+abbrev pub variable : code.Variable.Variable → FileVariable
+variable v = record { name = v.name; type = ctype v.ctype; length = v.length }
 
 abbrev pub scope : code.Scope.Scope → Scope
 scope s = record {

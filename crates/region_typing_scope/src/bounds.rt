@@ -1,11 +1,10 @@
 // The bounds at the nodes of values that are checked pointers.
 
-ghost use Rattle.std.specs.Prelude.{◌≡◌, None, pos, IfOk};
-ghost use Rattle.bounds_exprs.specs.Normal.{constant as constant_term};
-ghost use Rattle.pointer_modes.specs.Types.{ctype as ctype_of};
-ghost use Rattle.ckc_core.specs.Core.{expression};
+ghost use Rattle.std.specs.Prelude.{◌≡◌, ℕ, IfOk, map};
+ghost use Rattle.pointer_modes.specs.Types.{CType as TypeTree, ctype as ctype_of};
+ghost use Rattle.ckc_core.specs.Core.{AddressOf, Local, Load, Place, expression};
 ghost use Rattle.region_typing_rules.specs.Verdicts.{Passes};
-ghost use Rattle.region_typing_rules.specs.Expressions.{bounds_by as bounds_by_kind, bounds_at as bounds_of_type, noted as noted_with, with_bounds as noted_typed, site_at};
+ghost use Rattle.region_typing_rules.specs.Expressions.{bounds_by as bounds_by_kind, bounds_at as bounds_of_type, noted as noted_with, noted_if as noted_where, with_bounds as noted_typed, row_of as row_of_length, array_typed, sum_node as sum_node_of, site_at};
 ghost use Rattle.ckc_text.specs.Places.{place_at};
 ghost use Rattle.region_typing_scope.specs.Answering.{Answers};
 ghost use Rattle.region_typing_scope.specs.Views.{scope as scope_of};
@@ -16,28 +15,23 @@ use crate::context::Context;
 use crate::refusals::CheckError;
 use crate::scope::Scope;
 use crate::typed::Typed;
-use bounds_exprs::term::{Bounds, Term};
-use ckc_core::program::{Expr, PointerBounds, Site};
+use bounds_exprs::expression::constant as constant_term;
+use bounds_exprs::term::Bounds;
+use ckc_core::program::{Direction, Expr, PointerBounds, Site};
 use ckc_text::fault::NoMemory;
 use ckc_text::place::Span;
 use pointer_modes::ctype::{CType, Kind, Mode};
 use pointer_modes::structs::Structs;
+use region_typing_flow::readings::{based_bounds, bounds_of, constant, own_bounds, sum_bounds};
 
-// A term without a variable.
-fn constant(plus: i64) -> Term
-    ensures { result ≡ constant_term plus }
-{
-    Term { var: None, plus }
-}
-
-// The bounds of one element.
-fn one_element() -> Bounds
-    ensures { result ≡ record { base = None; lo = constant_term (pos 0); hi = constant_term (pos 1) } }
+/// The bounds of so many elements, from the pointer on.
+pub fn row_of(length: u32) -> Bounds
+    ensures { result ≡ row_of_length length }
 {
     Bounds {
         base: None,
-        lo: constant(0),
-        hi: constant(1),
+        lo: constant_term(0),
+        hi: constant_term(length as i64),
     }
 }
 
@@ -61,7 +55,7 @@ pub fn bounds_at(structs: &Structs, t: &CType, site: Site) -> Option<PointerBoun
     match t {
         CType::Pointer(mode, kind, target) => {
             let bounds = PointerBounds {
-                bounds: one_element(),
+                bounds: row_of(1),
                 size: structs.size_of(target),
                 site,
             };
@@ -107,29 +101,74 @@ fn noted(value: Expr, bounds: Option<PointerBounds>) -> Expr
     }
 }
 
+// The bounds that its type gives a value, or else those that its node has.
+fn noted_as(by_type: Option<PointerBounds>, at_node: Option<PointerBounds>) -> Option<PointerBounds>
+    ensures local { (local : ℕ) → noted_where by_type (Local local at_node) ≡ Local local result }
+    ensures array { (place : Place) → noted_where by_type (AddressOf place at_node) ≡ AddressOf place result }
+    ensures cell { (type : TypeTree) (place : Place) → noted_where by_type (Load type place at_node) ≡ Load type place result }
+{
+    match by_type {
+        None => at_node,
+        Some(bounds) => Some(bounds),
+    }
+}
+
+// A value with the bounds that its type gives it.
+fn noted_value(
+    context: &Context,
+    value: Box<Expr>,
+    by_type: Option<PointerBounds>,
+) -> Result<Box<Expr>, NoMemory>
+    ensures { IfOk result (λ noted. expression noted.value ≡ noted_where by_type (expression value.value)) }
+{
+    match by_type {
+        None => Ok(value),
+        Some(bounds) => context.boxed(noted(Box::into_inner(value), Some(bounds))),
+    }
+}
+
 // What an expression is, with bounds at its node.
 fn noted_at(context: &Context, structs: &Structs, t: Typed, site: Site) -> Result<Typed, NoMemory>
     ensures { IfOk result (λ noted. typed_view noted ≡ noted_typed structs.now site (typed_view t)) }
 {
     match t {
         Typed::Value { ctype, zero, value } => {
-            let bounds = bounds_at(structs, &ctype, site);
-            let value = context.boxed(noted(Box::into_inner(value), bounds))?;
+            let value = noted_value(context, value, bounds_at(structs, &ctype, site))?;
             Ok(Typed::Value { ctype, zero, value })
         }
-        Typed::Local { ctype, local, .. } => {
-            let bounds = bounds_at(structs, &ctype, site);
+        Typed::Local {
+            ctype,
+            local,
+            bounds,
+        } => {
+            let bounds = noted_as(bounds_at(structs, &ctype, site), bounds);
             Ok(Typed::Local {
                 ctype,
                 local,
                 bounds,
             })
         }
-        Typed::Cell { ctype, place, .. } => {
-            let bounds = bounds_at(structs, &ctype, site);
+        Typed::Cell {
+            ctype,
+            place,
+            bounds,
+        } => {
+            let bounds = noted_as(bounds_at(structs, &ctype, site), bounds);
             Ok(Typed::Cell {
                 ctype,
                 place,
+                bounds,
+            })
+        }
+        Typed::Array {
+            ctype,
+            object,
+            bounds,
+        } => {
+            let bounds = noted_as(bounds_at(structs, &ctype, site), bounds);
+            Ok(Typed::Array {
+                ctype,
+                object,
                 bounds,
             })
         }
@@ -149,4 +188,50 @@ pub fn with_bounds(
     let site = context.site(span);
     let noted = noted_at(context, &scope.structs, Box::into_inner(t), site)?;
     Ok(context.boxed(noted)?)
+}
+
+/// The name of an array of so many elements.
+pub fn array(
+    context: &Context,
+    structs: &Structs,
+    object: u32,
+    element: CType,
+    length: u32,
+    site: Site,
+) -> Result<Typed, NoMemory>
+    ensures { IfOk result (λ t. typed_view t ≡ array_typed structs.now object (ctype_of element) length site) }
+{
+    let bounds = PointerBounds {
+        bounds: row_of(length),
+        size: structs.size_of(&element),
+        site,
+    };
+    let element = context.boxed(element)?;
+    Ok(Typed::Array {
+        ctype: CType::Pointer(Mode::Checked, Kind::Array, element),
+        object,
+        bounds: Some(bounds),
+    })
+}
+
+/// The bounds at the node of a sum, where the locals have these types: those without a base where there are any, and else those
+/// from a base.
+pub fn sum_node(
+    locals: &[CType],
+    direction: Direction,
+    pointer: &Expr,
+    number: &Expr,
+    site: Site,
+) -> Option<PointerBounds>
+    ensures { result ≡ sum_node_of (map ctype_of locals.now) direction (expression pointer.now) (expression number.now) site }
+{
+    let size = bounds_of(pointer)?.size;
+    let moved = sum_bounds(direction, constant(locals, number), own_bounds(pointer));
+    match moved {
+        Some(bounds) => Some(PointerBounds { bounds, size, site }),
+        None => {
+            let bounds = based_bounds(pointer)?;
+            Some(PointerBounds { bounds, size, site })
+        }
+    }
 }

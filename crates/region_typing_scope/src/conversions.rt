@@ -6,11 +6,14 @@ ghost use Rattle.ckc_core.specs.Core.{expression};
 ghost use Rattle.region_typing_rules.specs.Verdicts.{Passes};
 ghost use Rattle.region_typing_rules.specs.Expressions.{converted as converted_to, in_type as value_in_type, as_pointer};
 ghost use Rattle.region_typing_scope.specs.Answering.{Answers};
+ghost use Rattle.region_typing_scope.specs.Entailing.{fitted as fitted_to};
 ghost use Rattle.region_typing_scope.specs.OnHeap.{typed};
+ghost use Rattle.region_typing_scope.specs.Views.{scope as scope_of};
 
 use crate::context::Context;
 use crate::operands::{Operand, value_of};
 use crate::refusals::{CheckError, needs};
+use crate::scope::Scope;
 use crate::typed::Typed;
 use crate::types::{converts, is_number};
 use ckc_core::program::Expr;
@@ -53,4 +56,20 @@ pub fn converted(
     needs(converts(&ctype, zero, to), Code::E13, span)?;
     let null = zero && is_number(&ctype);
     Ok(in_type(to, null, value))
+}
+
+/// A value as one of a type that it converts to, where its bounds meet those that it is asked for.
+pub fn fitted(
+    context: &Context,
+    scope: &Scope,
+    t: Box<Typed>,
+    to: &CType,
+    span: Span,
+) -> Result<Expr, CheckError>
+    ensures { Answers expression (fitted_to (scope_of scope.now).flow (typed t) (ctype_of to.now) span) result }
+{
+    let met = scope.is_met(&t, to)?;
+    let value = converted(context, t, to, span)?;
+    needs(met, Code::E17, span)?;
+    Ok(value)
 }

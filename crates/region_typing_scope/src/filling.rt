@@ -95,14 +95,23 @@ impl Scope {
         self.structs.give(number, members);
     }
 
-    /// A file-level variable more.
-    pub fn add_variable(&mut self, name: usize, ctype: CType) -> Result<(), NoMemory>
+    /// A file-level variable more; an array has so many elements of the type.
+    pub fn add_variable(
+        &mut self,
+        name: usize,
+        ctype: CType,
+        elements: Option<u32>,
+    ) -> Result<(), NoMemory>
         requires { length self.old.variables.items < 4096 }
-        ensures { OnOk result (scope_of self.new ≡ with_variable name (ctype_of ctype) (scope_of self.old)) }
+        ensures { OnOk result (scope_of self.new ≡ with_variable name (ctype_of ctype) elements (scope_of self.old)) }
     {
         self.variables.reserve(1)?;
         self.variable_places.note(name, self.variables.len())?;
-        self.variables.push_reserved(Variable { name, ctype });
+        self.variables.push_reserved(Variable {
+            name,
+            ctype,
+            length: elements,
+        });
         Ok(())
     }
 

@@ -5,6 +5,7 @@
 pub mod bounds;
 pub mod context;
 pub mod conversions;
+pub mod entailment;
 mod filling;
 pub mod flows;
 mod locals;

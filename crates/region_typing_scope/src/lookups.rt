@@ -3,7 +3,7 @@
 ghost use Rattle.std.specs.Prelude.{◌≡◌, ◌≤◌, ◌==◌, true, position, length, map};
 ghost use Rattle.std.specs.Option.{option_map};
 ghost use Rattle.pointer_modes.specs.Types.{ctype as ctype_of};
-ghost use Rattle.region_typing_rules.specs.Scopes.{Local, Object, struct_named, members_named as names_of_members, local_named, object_named, function_named};
+ghost use Rattle.region_typing_rules.specs.Scopes.{Local, object_of, struct_named, members_named as names_of_members, local_named, object_named, function_named};
 ghost use Rattle.region_typing_scope.specs.Views.{scope as scope_of, signature};
 ghost use Rattle.region_typing_scope.specs.Tables.{side_before as side_before_of};
 ghost use Rattle.region_typing_rules.specs.Expressions.{side_number as side_number_of};
@@ -13,11 +13,19 @@ use crate::signature::Signature;
 use crate::visible::innermost;
 use pointer_modes::ctype::CType;
 
-/// A variable that a name stands for: its number, and its type.
+/// A local that a name stands for: its number, and its type.
 #[derive(Clone, Copy)]
 pub struct Known<'a> {
     pub number: u32,
     pub ctype: &'a CType,
+}
+
+/// A file-level variable that a name stands for: its number, its type, and how many elements of it an array has.
+#[derive(Clone, Copy)]
+pub struct KnownObject<'a> {
+    pub number: u32,
+    pub ctype: &'a CType,
+    pub length: Option<u32>,
 }
 
 impl Scope {
@@ -70,13 +78,15 @@ impl Scope {
     }
 
     /// The file-level variable of a name.
-    pub fn object(&self, name: usize) -> Option<Known<'_>>
-        ensures { option_map (λ k. Object k.number (ctype_of k.ctype.now)) result ≡ object_named 0 (scope_of self.now).variables name }
+    pub fn object(&self, name: usize) -> Option<KnownObject<'_>>
+        ensures { option_map (λ k. object_of k.number (ctype_of k.ctype.now) k.length) result ≡ object_named 0 (scope_of self.now).variables name }
     {
         let number = self.variable_place(name)?;
-        Some(Known {
+        let variable = &self.variables[number];
+        Some(KnownObject {
             number: number as u32,
-            ctype: &self.variables[number].ctype,
+            ctype: &variable.ctype,
+            length: variable.length,
         })
     }
 

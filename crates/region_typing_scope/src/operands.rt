@@ -13,7 +13,7 @@ use crate::context::Context;
 use crate::refusals::{CheckError, needs, refusal};
 use crate::typed::Typed;
 use crate::types::{copied, is_number};
-use ckc_core::program::Expr;
+use ckc_core::program::{CellPlace, Expr};
 use ckc_text::code::Code;
 use ckc_text::place::Span;
 use pointer_modes::ctype::CType;
@@ -50,11 +50,19 @@ pub fn value_of(context: &Context, t: Box<Typed>, span: Span) -> Result<Operand,
             };
             read(context, copy, value)
         }
+        Typed::Array {
+            ctype,
+            object,
+            bounds,
+        } => {
+            let cell = CellPlace::Direct { object, offset: 0 };
+            read(context, ctype, Expr::AddressOf { cell, bounds })
+        }
         Typed::Struct { .. } => Err(refusal(Code::E13, span)),
     }
 }
 
-// What is read from a place.
+// A value that isn't the constant 0.
 fn read(context: &Context, ctype: CType, value: Expr) -> Result<Operand, CheckError>
     ensures { Answers operand_view (Passes (record { type = ctype_of ctype; zero = false; value = expression value })) result }
 {

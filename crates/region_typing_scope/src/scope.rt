@@ -16,11 +16,12 @@ use ckc_names_rules::given::Given;
 use pointer_modes::ctype::CType;
 use pointer_modes::structs::Structs;
 
-/// A variable that has a name, and its type.
+/// A file-level variable; an array has so many elements of the type.
 #[derive(Drop)]
 pub struct Variable {
     pub name: usize,
     pub ctype: CType,
+    pub length: Option<u32>,
 }
 
 /// Where a block begins: how many names are visible and how many locals there are, and whether a loop is around.

@@ -1,9 +1,9 @@
 // What an expression is.
 
-ghost use Rattle.std.specs.Prelude.{◌≡◌, IfOk, false, None};
+ghost use Rattle.std.specs.Prelude.{◌≡◌, IfOk, false};
 ghost use Rattle.pointer_modes.specs.Types.{ctype as ctype_of};
 ghost use Rattle.ckc_core.specs.Core.{expression, place as place_of};
-ghost use Rattle.region_typing_rules.specs.Expressions.{Value, at_place, local_typed};
+ghost use Rattle.region_typing_rules.specs.Expressions.{Value, ForNothing, at_place, local_typed};
 ghost use Rattle.region_typing_rules.specs.Items.{is_zero as zero_typed};
 ghost use Rattle.region_typing_scope.specs.Typed.{typed, base_place};
 ghost use Rattle.region_typing_scope.specs.OnHeap.{typed as typed_on_heap};
@@ -13,11 +13,20 @@ use ckc_core::program::{CellPlace, Expr, Index, PointerBounds, Site};
 use ckc_text::fault::NoMemory;
 use pointer_modes::ctype::CType;
 
-/// The first cell of a struct in memory: that of a file-level variable, or the one that a pointer points to.
+/// The first cell of a value in memory: of a file-level variable, of what a pointer points to, or of an element.
 #[derive(Drop)]
 pub enum Base {
     Object(u32),
-    Behind { pointer: Box<Expr>, site: Site },
+    Behind {
+        pointer: Box<Expr>,
+        site: Site,
+    },
+    /// So many elements behind the one at which a pointer with bounds stands.
+    Element {
+        pointer: Box<Expr>,
+        number: Box<Expr>,
+        site: Site,
+    },
 }
 
 /// Where a struct stands: it is a parameter, or begins at a cell.
@@ -30,7 +39,7 @@ pub enum StructPlace {
 /// What an expression is.
 #[derive(Drop)]
 pub enum Typed {
-    /// A value of a scalar type, which may be the constant 0, and stands for no place.
+    /// A value of a scalar type, which may be the constant 0, and stands for nothing else.
     Value {
         ctype: CType,
         zero: bool,
@@ -48,6 +57,12 @@ pub enum Typed {
         place: CellPlace,
         bounds: Option<PointerBounds>,
     },
+    /// The name of an array: a pointer to its first element, with all of them.
+    Array {
+        ctype: CType,
+        object: u32,
+        bounds: Option<PointerBounds>,
+    },
     /// A struct, which is a parameter, or stands at a place.
     Struct {
         number: u32,
@@ -57,7 +72,7 @@ pub enum Typed {
 
 /// A value that isn't the constant 0.
 pub fn plain(context: &Context, ctype: CType, value: Expr) -> Result<Box<Typed>, NoMemory>
-    ensures { IfOk result (λ t. typed_on_heap t ≡ Value (ctype_of ctype) false (expression value) None) }
+    ensures { IfOk result (λ t. typed_on_heap t ≡ Value (ctype_of ctype) false (expression value) ForNothing) }
 {
     let value = context.boxed(value)?;
     context.boxed(Typed::Value {
@@ -73,7 +88,9 @@ pub fn is_zero(t: &Typed) -> bool
 {
     match t {
         Typed::Value { zero, .. } => *zero,
-        Typed::Local { .. } | Typed::Cell { .. } | Typed::Struct { .. } => false,
+        Typed::Local { .. } | Typed::Cell { .. } | Typed::Array { .. } | Typed::Struct { .. } => {
+            false
+        }
     }
 }
 
@@ -103,6 +120,16 @@ pub fn first_cell(base: Base) -> CellPlace
         Base::Behind { pointer, site } => CellPlace::Through {
             pointer,
             index: Index::First,
+            offset: 0,
+            site,
+        },
+        Base::Element {
+            pointer,
+            number,
+            site,
+        } => CellPlace::Through {
+            pointer,
+            index: Index::Element(number),
             offset: 0,
             site,
         },

@@ -4,7 +4,7 @@ ghost use Rattle.std.specs.Prelude.{◌≡◌, ◌&&◌, IfOk};
 ghost use Rattle.pointer_modes.specs.Types.{ctype};
 ghost use Rattle.ckc_core.specs.States.{same_mode as same_mode_of, same_kind as same_kind_of, same_type as same_type_of};
 ghost use Rattle.ckc_tree.specs.Types.{type_tree, type_name};
-ghost use Rattle.region_typing_rules.specs.Types.{mode_of as mode_from, kind_of as kind_from, without_stars as starless, base_type as base_from, starred_type as starred_from, type_named as named_from, is_number as number_type, is_pointer as pointer_type, is_checked_pointer as checked_pointer, is_scalar as scalar_type, are_comparable as comparable_types, converts as converts_to};
+ghost use Rattle.region_typing_rules.specs.Types.{mode_of as mode_from, kind_of as kind_from, without_stars as starless, base_type as base_from, starred_type as starred_from, type_named as named_from, is_number as number_type, is_pointer as pointer_type, is_checked_pointer as checked_pointer, is_scalar as scalar_type, are_comparable as comparable_types, kind_converts as kind_converts_to, pointer_converts as pointer_converts_to, converts as converts_to};
 ghost use Rattle.region_typing_scope.specs.Answering.{Answers};
 ghost use Rattle.region_typing_scope.specs.Views.{scope as scope_of};
 
@@ -125,6 +125,27 @@ pub fn are_comparable(a: &CType, b: &CType) -> bool
     }
 }
 
+// Whether a pointer of the one kind converts to one of the other.
+fn kind_converts(from: Kind, to: Kind) -> bool
+    ensures { result ≡ kind_converts_to from to }
+{
+    match (from, to) {
+        (Kind::One, Kind::Nt) | (Kind::Array, Kind::Nt) => false,
+        _ => true,
+    }
+}
+
+// Whether a pointer of a type converts to another one, which is of a kind.
+fn pointer_converts(from: &CType, kind: Kind, to: &CType) -> bool
+    ensures { result ≡ pointer_converts_to (ctype from.now) kind (ctype to.now) }
+{
+    match from {
+        CType::Pointer(_, own_kind, _) => are_comparable(from, to)
+            && kind_converts(*own_kind, kind),
+        CType::Int | CType::Char | CType::Struct(_) => false,
+    }
+}
+
 /// Whether a value of the first type, which is the constant 0 or not, converts to the second.
 pub fn converts(from: &CType, zero: bool, to: &CType) -> bool
     ensures { result ≡ converts_to (ctype from.now) zero (ctype to.now) }
@@ -132,7 +153,7 @@ pub fn converts(from: &CType, zero: bool, to: &CType) -> bool
     match to {
         CType::Int | CType::Char => is_number(from),
         CType::Struct(_) => false,
-        CType::Pointer(..) => zero || same_type(from, to),
+        CType::Pointer(_, kind, _) => zero || pointer_converts(from, *kind, to),
     }
 }
 

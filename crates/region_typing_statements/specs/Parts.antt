@@ -11,7 +11,7 @@ use Rattle.ckc_tree.specs.declared.stmt.Stmt.TheVariants as stmts
 use Rattle.ckc_tree.specs.Expressions.{Expression}
 use Rattle.ckc_tree.specs.Statements.{Statement, Assignment, ForInitial}
 use Rattle.region_typing_rules.specs.Verdicts.{Verdict, Passes, passing, breaks}
-use Rattle.region_typing_rules.specs.Expressions.{Places, typed, converted, call_typed}
+use Rattle.region_typing_rules.specs.Expressions.{Places, typed, converted, bounds_met, call_typed}
 use Rattle.region_typing_rules.specs.Readings.{told}
 use Rattle.region_typing_rules.specs.Knowing.{knowing, when, with_others, at_loop}
 use Rattle.region_typing_rules.specs.Statements.{both, alone, statement, behind_block, meeting}
@@ -107,7 +107,7 @@ abbrev pub refused_value : Places → Scope → Expression → Span → Verdict 
 refused_value at g e span = passing (typed at g e) (λ t. breaks E13 span)
 
 abbrev pub converted_return : Places → Scope → CType → Expression → Span → Verdict core.Statement
-converted_return at g type e span = passing (typed at g e) (λ t. converted t type span (λ v. Passes (core.Return v)))
+converted_return at g type e span = passing (typed at g e) (λ t. converted t type span (λ v. bounds_met g.flow t type span (Passes (core.Return v))))
 
 abbrev pub value_returned : Places → Scope → Option CType → Expression → Span → Verdict core.Statement
-value_returned at g result e span = passing (typed at g e) (λ t. returned result t span)
+value_returned at g result e span = passing (typed at g e) (λ t. returned g.flow result t span)

@@ -9,7 +9,7 @@ use Rattle.ckc_core.specs.Core as core
 use Rattle.ckc_tree.specs.Expressions.{Expression}
 use Rattle.ckc_tree.specs.Statements.{Initializer, Declarator}
 use Rattle.region_typing_rules.specs.Verdicts.{Verdict, Passes, Breaks, Unnamed, passing, needs}
-use Rattle.region_typing_rules.specs.Expressions.{Places, typed, converted}
+use Rattle.region_typing_rules.specs.Expressions.{Places, typed, converted, bounds_met}
 use Rattle.region_typing_rules.specs.Types.{is_scalar}
 use Rattle.region_typing_rules.specs.Statements.{initialised, with_local, declared}
 use Rattle.region_typing_rules.specs.Scopes.{Scope}
@@ -31,7 +31,7 @@ pub record Walks {C A : Type 0} (view : C → A) (verdict : Verdict (A × Scope)
 
 -- the value that a local is given
 abbrev pub initial_value : Places → Scope → Expression → CType → ℕ → Span → Verdict core.Statement
-initial_value at g value t local span = passing (typed at g value) (λ u. converted u t span (λ v. Passes (core.SetLocal local v)))
+initial_value at g value t local span = passing (typed at g value) (λ u. converted u t span (λ v. bounds_met g.flow u t span (Passes (core.SetLocal local v))))
 
 -- an initial value, where there is one, or else the other one
 abbrev pub chosen : {A : Type 0} → Option Initializer → A → A → A

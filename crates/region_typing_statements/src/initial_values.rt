@@ -22,7 +22,7 @@ use ckc_tree::stmt::Initializer;
 use pointer_modes::ctype::CType;
 use region_typing_expressions::expressions::typed;
 use region_typing_scope::context::Context;
-use region_typing_scope::conversions::converted;
+use region_typing_scope::conversions::fitted;
 use region_typing_scope::refusals::{CheckError, needs, refusal};
 use region_typing_scope::scope::Scope;
 use region_typing_scope::types::is_scalar;
@@ -39,7 +39,7 @@ fn initial_value(
     ensures { Answers statement_of (initial_value_as (place_at context.now) (scope_of scope.now) (expression_tree value.now) (ctype_of t.now) local span) result }
 {
     let given = typed(context, scope, value)?;
-    let value = converted(context, given, t, span)?;
+    let value = fitted(context, scope, given, t, span)?;
     Ok(context.boxed(Stmt::SetLocal { local, value })?)
 }
 

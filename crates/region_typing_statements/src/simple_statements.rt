@@ -29,7 +29,7 @@ use region_typing_expressions::assignments::assignment;
 use region_typing_expressions::calls::Called;
 use region_typing_expressions::expressions::{call_typed, typed};
 use region_typing_scope::context::Context;
-use region_typing_scope::conversions::converted;
+use region_typing_scope::conversions::fitted;
 use region_typing_scope::refusals::{CheckError, needs, refusal};
 use region_typing_scope::scope::Scope;
 
@@ -81,7 +81,7 @@ fn refused_value(
     Err(refusal(Code::E13, span))
 }
 
-// A return of a value that converts.
+// A return of a value that converts, and whose bounds are met.
 fn return_value(
     context: &Context,
     scope: &Scope,
@@ -92,7 +92,7 @@ fn return_value(
     ensures { Answers statement (converted_return (place_at context.now) (scope_of scope.now) (ctype_of t.now) (expression_tree written.now) span) result }
 {
     let given = typed(context, scope, written)?;
-    let value = converted(context, given, t, span)?;
+    let value = fitted(context, scope, given, t, span)?;
     Ok(context.boxed(Stmt::Return(value))?)
 }
 

@@ -1,5 +1,6 @@
 use Rattle.std.proofs.Common.{◌<◌, length, sym, ◌∙◌, arith}
-use Rattle.region_typing_scope.specs.Views.{scope, variable}
+use Rattle.region_typing_scope.specs.Views.{scope}
+use Rattle.region_typing.specs.Parameters.{variable}
 use Rattle.region_typing.proofs.Bodies.{parameter_added, parameters_all, local_counted}
 use Rattle.region_typing.proofs.functions.add_parameters.Goals as goal
 

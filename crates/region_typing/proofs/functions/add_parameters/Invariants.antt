@@ -1,6 +1,7 @@
 use Rattle.std.proofs.Common.{◌≡◌, length, map, drop}
 use Rattle.region_typing_rules.specs.Items.{with_parameters}
-use Rattle.region_typing_scope.specs.Views.{scope, variable}
+use Rattle.region_typing_scope.specs.Views.{scope}
+use Rattle.region_typing.specs.Parameters.{variable}
 use Rattle.region_typing.proofs.functions.add_parameters.Given as goal
 
 -- the parameters that are left make of the locals so far what all of them make

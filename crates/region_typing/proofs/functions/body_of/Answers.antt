@@ -2,7 +2,8 @@ use Rattle.std.proofs.Common.{map, length, refl}
 use Rattle.ckc_text.specs.Places.{place_at}
 use Rattle.ckc_tree.specs.Items.{statement_list}
 use Rattle.ckc_core.specs.Core.{function, statements_of}
-use Rattle.region_typing_scope.specs.Views.{scope, signature, variable}
+use Rattle.region_typing_scope.specs.Views.{scope, signature}
+use Rattle.region_typing.specs.Parameters.{variable}
 use Rattle.region_typing.proofs.Bodies.{left_function, body_built, body_refused, core_built}
 use Rattle.region_typing.proofs.functions.body_of.Goals as goal
 

@@ -1,7 +1,8 @@
 use Rattle.std.proofs.Common.{◌<◌, [], length, map, arith}
 use Rattle.ckc_tree.specs.Items as trees
 use Rattle.region_typing_rules.specs.Items.{listed, parameter_types}
-use Rattle.region_typing_scope.specs.Views.{scope, variable}
+use Rattle.region_typing_scope.specs.Views.{scope}
+use Rattle.region_typing.specs.Parameters.{variable}
 use Rattle.region_typing_scope.proofs.Going.{refused_by}
 use Rattle.region_typing.specs.Items.{one_parameter}
 use Rattle.region_typing_scope.proofs.Steps.{part_more, part_breaks, parts_done}

@@ -1,7 +1,8 @@
 use Rattle.std.proofs.Common.{◌≡◌, ◌≤◌, [], length, map, drop}
 use Rattle.ckc_tree.specs.Items as trees
 use Rattle.region_typing_rules.specs.Items.{listed, parameter_types}
-use Rattle.region_typing_scope.specs.Views.{scope, variable}
+use Rattle.region_typing_scope.specs.Views.{scope}
+use Rattle.region_typing.specs.Parameters.{variable}
 use Rattle.region_typing.proofs.functions.parameter_types.Given as goal
 
 -- the parameters so far with those that are left make all of them

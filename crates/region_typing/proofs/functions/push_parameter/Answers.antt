@@ -1,6 +1,6 @@
 use Rattle.std.proofs.Common.{nat_lt, ap, sym, ◌∙◌}
 use Rattle.std.proofs.lemmas.List.{length-map}
-use Rattle.region_typing_scope.specs.Views.{variable}
+use Rattle.region_typing.specs.Parameters.{variable}
 use Rattle.region_typing_scope.proofs.Going.{refused}
 use Rattle.region_typing_statements.proofs.Testing.{holds, fails}
 use Rattle.region_typing.proofs.functions.push_parameter.Goals as goal

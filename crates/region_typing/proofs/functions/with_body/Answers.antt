@@ -2,7 +2,8 @@ use Rattle.std.proofs.Common.{map}
 use Rattle.ckc_text.specs.Places.{place_at}
 use Rattle.ckc_tree.specs.Items as trees
 use Rattle.ckc_core.specs.Core.{function}
-use Rattle.region_typing_scope.specs.Views.{scope, signature, variable}
+use Rattle.region_typing_scope.specs.Views.{scope, signature}
+use Rattle.region_typing.specs.Parameters.{variable}
 use Rattle.region_typing_scope.proofs.Going.{goes_on, refused}
 use Rattle.region_typing.specs.Items.{walk}
 use Rattle.region_typing.proofs.Bodies.{function_body_parts, bodies_more, scope_kept}

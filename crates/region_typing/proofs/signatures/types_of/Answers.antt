@@ -1,7 +1,7 @@
 use Rattle.std.proofs.Common.{map, refl, arith}
 use Rattle.pointer_modes.specs.Types.{ctype}
 use Rattle.region_typing_rules.specs.Scopes.{Variable}
-use Rattle.region_typing_scope.specs.Views.{variable}
+use Rattle.region_typing.specs.Parameters.{variable}
 use Rattle.region_typing.proofs.Lists.{made_more, made_all, item_pushed}
 use Rattle.region_typing.proofs.signatures.types_of.Goals as goal
 

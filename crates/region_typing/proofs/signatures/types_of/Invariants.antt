@@ -1,7 +1,7 @@
 use Rattle.std.proofs.Common.{◌≡◌, ◌++◌, map, drop}
 use Rattle.pointer_modes.specs.Types.{ctype}
 use Rattle.region_typing_rules.specs.Scopes.{Variable}
-use Rattle.region_typing_scope.specs.Views.{variable}
+use Rattle.region_typing.specs.Parameters.{variable}
 use Rattle.region_typing.proofs.signatures.types_of.Given as goal
 
 -- the types so far, and those of the parameters that are left

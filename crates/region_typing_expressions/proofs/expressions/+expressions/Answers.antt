@@ -1,16 +1,17 @@
-use Rattle.std.proofs.Common.{◌≡◌, ◌<◌, length, map, Box, Global, ap, sym, ◌∙◌, arith}
+use Rattle.std.proofs.Common.{◌≡◌, ◌<◌, length, map, Box, Global, refl, ap, sym, ◌∙◌, arith}
 use Rattle.ckc_text.specs.Places.{place_at}
 use Rattle.ckc_text.specs.declared.place.Span.{Span}
 use Rattle.ckc_tree.specs.declared.identifier.Identifier.{Identifier}
 use Rattle.ckc_tree.specs.declared.expr.Expr.{Expr}
 use Rattle.ckc_tree.specs.declared.expr.Expr.TheVariants as exprs
 use Rattle.ckc_tree.specs.declared.expr.UnaryOperator.{UnaryOperator}
-use Rattle.ckc_tree.specs.Expressions.{Dot, Unary, expression}
+use Rattle.ckc_tree.specs.Expressions.{Index, Dot, Unary, expression}
 use Rattle.region_typing_scope.specs.Views.{scope}
 use Rattle.region_typing_expressions.specs.Calls.{argument}
 use Rattle.region_typing_expressions.specs.Slices.{expression_list}
 use Rattle.region_typing_scope.proofs.Going.{goes_on, refused, refused_by}
 use Rattle.region_typing_expressions.proofs.Arguments.{call_tree, call_parts, argument_pushed, argument_breaks, arguments_done}
+use Rattle.region_typing_expressions.proofs.Leading.{element_parts}
 use Rattle.region_typing_expressions.proofs.expressions.+expressions.Goals as goal
 
 dot_tree : (x inner : Expr) (base : Box Expr Global) (member : Identifier) (span : Span) → x ≡ exprs.Dot base member span → inner ≡ base.value → expression x ≡ Dot (expression inner) member span
@@ -21,6 +22,31 @@ unary_tree x inner operator operand span is same = ap expression is ∙ ap (λ e
 
 pub typed-returns-in-Dot : goal.typed-returns-in-Dot
 typed-returns-in-Dot t c = rw (dot_tree c.args.e.now c.deref-in-Dot.result.now c.in-Dot.base c.in-Dot.member c.in-Dot.span c.in-Dot.is c.deref-in-Dot.ensures) c.member_of.ensures
+
+index_tree : (x a b : Expr) (base index : Box Expr Global) (span : Span) → x ≡ exprs.Index base index span → a ≡ base.value → b ≡ index.value → expression x ≡ Index (expression a) (expression b) span
+index_tree x a b base index span is first second =
+    ap expression is ∙ ap (λ e. Index (expression e) (expression index.value) span) (sym first) ∙ ap (λ e. Index (expression a) (expression e) span) (sym second)
+
+pub typed-returns-in_err-base-in-Index : goal.typed-returns-in_err-base-in-Index
+typed-returns-in_err-base-in-Index t c =
+    let i = c.in-Index in
+    let at = place_at c.args.context.now in
+    rw (index_tree c.args.e.now c.deref.result.now i.index.value i.base i.index i.span i.is c.deref.ensures refl, element_parts at (scope c.args.scope.now) (expression c.deref.result.now) (expression i.index.value) i.span)
+    (refused _ c.from_residual-in_err-base-in-Index.result c.from_residual-in_err-base-in-Index.ensures.1 c.in_err-base-in-Index.ensures)
+
+pub typed-returns-in_err-index-in-Index : goal.typed-returns-in_err-index-in-Index
+typed-returns-in_err-index-in-Index t c =
+    let i = c.in-Index in
+    let at = place_at c.args.context.now in
+    rw (index_tree c.args.e.now c.deref.result.now c.deref-in-Index.result.now i.base i.index i.span i.is c.deref.ensures c.deref-in-Index.ensures, element_parts at (scope c.args.scope.now) (expression c.deref.result.now) (expression c.deref-in-Index.result.now) i.span)
+    (goes_on _ c.in_ok-base-in-Index.ensures (refused _ c.from_residual-in_err-index-in-Index.result c.from_residual-in_err-index-in-Index.ensures.1 c.in_err-index-in-Index.ensures))
+
+pub typed-returns-in_ok-index-in-Index : goal.typed-returns-in_ok-index-in-Index
+typed-returns-in_ok-index-in-Index t c =
+    let i = c.in-Index in
+    let at = place_at c.args.context.now in
+    rw (index_tree c.args.e.now c.deref.result.now c.deref-in-Index.result.now i.base i.index i.span i.is c.deref.ensures c.deref-in-Index.ensures, element_parts at (scope c.args.scope.now) (expression c.deref.result.now) (expression c.deref-in-Index.result.now) i.span)
+    (goes_on _ c.in_ok-base-in-Index.ensures (goes_on _ c.in_ok-index-in-Index.ensures c.element_of.ensures))
 
 pub typed-returns-in-Unary : goal.typed-returns-in-Unary
 typed-returns-in-Unary t c = rw (unary_tree c.args.e.now c.deref-in-Unary.result.now c.in-Unary.operator c.in-Unary.operand c.in-Unary.span c.in-Unary.is c.deref-in-Unary.ensures) c.unary_of.ensures

@@ -2,7 +2,11 @@ use Rattle.region_typing_scope.proofs.Going.{goes_on, refused}
 use Rattle.region_typing_expressions.proofs.expressions.name_value.Goals as goal
 
 pub returns-in_err-t : goal.returns-in_err-t
-returns-in_err-t c = refused _ c.from_residual.result c.from_residual.ensures.1 c.in_err-t.ensures
+returns-in_err-t c =
+    let broken = rw c.site.ensures at c.in_err-t.ensures in
+    refused _ c.from_residual.result c.from_residual.ensures.1 broken
 
 pub returns : goal.returns
-returns c = goes_on _ c.in_ok-t.ensures c.with_bounds.ensures
+returns c =
+    let named = rw c.site.ensures at c.in_ok-t.ensures in
+    goes_on _ named c.with_bounds.ensures

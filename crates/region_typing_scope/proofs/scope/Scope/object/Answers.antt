@@ -14,5 +14,5 @@ pub returns : goal.returns
 returns c =
     let name = c.args.name in
     let vs = c.args.self.now.variables.items in
-    let read = read_at (λ w. name == w.name) vs vs c.in_ok-number.number c.index.result.now (sym c.variable_place.ensures ∙ c.in_ok-number.was) refl c.index.ensures in
-    object_there name vs c.in_ok-number.number c.index.result.now read.0 read.1
+    let read = read_at (λ w. name == w.name) vs vs c.in_ok-number.number c.index-variable.result.now (sym c.variable_place.ensures ∙ c.in_ok-number.was) refl c.index-variable.ensures in
+    object_there name vs c.in_ok-number.number c.index-variable.result.now read.0 read.1

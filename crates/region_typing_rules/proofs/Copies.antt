@@ -1,0 +1,206 @@
+-- The cells of a file-level variable: copies of those of one value, with a number each, one behind another.
+use Rattle.std.proofs.Common.{◌≡◌, ℕ, zero, suc, ◌+◌, ◌*◌, ◌<◌, ◌^◌, Bool, true, false, ℤ, pos, List, [], ◌∷◌, ◌++◌, length, Option, Some, None, refl, sym, ap, ◌∙◌, subst, arith, append-nil}
+use Rattle.std.specs.Prelude.{◌==◌, ◌-◌, cond, nat_lt, slice_get}
+use Rattle.std.specs.List.{AllByRecursion}
+use Rattle.std.specs.Option.{option_and_then, option_map}
+use Rattle.std.proofs.lemmas.List.{length-append}
+use Rattle.act_words.specs.Checks.{is_word_number}
+use Rattle.ckc_text.specs.declared.place.Span.{Span}
+use Rattle.ckc_tree.specs.declared.stmt.SignedConstant.{SignedConstant}
+use Rattle.pointer_modes.specs.Types.{CType, Int, Char, Struct, Pointer, Member, Structure, members_of}
+use Rattle.pointer_modes.specs.Layout.{size_of}
+use Rattle.ckc_core.specs.Programs.{Initial}
+use Rattle.ckc_core.specs.States.{Shape, number_at, shape, type_at, object_block}
+use Rattle.ckc_core.specs.Steps.{low_byte}
+use Rattle.ckc_names_rules.specs.declared.given.Given.{Given}
+use Rattle.region_typing_rules.specs.Verdicts.{picked}
+use Rattle.region_typing_rules.specs.Items.{negative, unsigned_number, signed_number, strides_of, cell_types, numbered_cells, cells_with, Walked, Missing, Written, Constants, zeros_of, cells_listed, cells_or_break, object_cells, count_of}
+use Rattle.bounds_flow_meaning.specs.Rows.{Slot, slots, HasRow}
+use Rattle.region_typing_rules.specs.Typed.{IsScalar, AreRows}
+use Rattle.region_typing_rules.specs.Lowerable.{cells_size, IsRoomy}
+use Rattle.region_typing_rules.proofs.Verdicts.{Promises, promised_so, Extends}
+use Rattle.region_typing_rules.proofs.Layouts.{IsStart, AreCellsOf, AreSmall, IsWalked, behind_cell, scalar_width, bytes_kept, row_kept, strides_whole, cells_row, whole_size, negative_fits, int_of, char_of, zero_cells, written_promises}
+
+abbrev shape_of : List Initial → Shape
+shape_of cells = shape (object_block cells)
+
+-- ---- cells in front of others
+
+-- the cell that begins at a byte is there, whatever stands behind
+type_front : (xs ys : List Initial) (byte : ℕ) (t : CType) → type_at (shape_of xs) byte ≡ Some t → type_at (shape_of (xs ++ ys)) byte ≡ Some t
+type_front [] ys byte t h = absurd (cc)
+type_front (x ∷ xs) ys byte t h =
+    by (byte == 0) (nat_lt byte x.stride) (number_at (shape_of xs).strides (byte - x.stride)) (number_at (shape_of (xs ++ ys)).strides (byte - x.stride)) (type_front xs ys (byte - x.stride) t) h
+  where
+    by : (first inside : Bool) (o p : Option ℕ)
+        → (option_and_then (λ n. slice_get (shape_of xs).types n) o ≡ Some t → option_and_then (λ n. slice_get (shape_of (xs ++ ys)).types n) p ≡ Some t)
+        → option_and_then (λ n. slice_get (x.type ∷ (shape_of xs).types) n) (cond first (Some 0) (cond inside None (option_map (λ n. suc n) o))) ≡ Some t
+        → option_and_then (λ n. slice_get (x.type ∷ (shape_of (xs ++ ys)).types) n) (cond first (Some 0) (cond inside None (option_map (λ n. suc n) p))) ≡ Some t
+    by true inside o p again h = h
+    by false true o p again h = absurd (cc)
+    by false false None p again h = absurd (cc)
+    by false false (Some n) None again h = let none = again h in absurd (cc)
+    by false false (Some n) (Some k) again h = again h
+
+size_append : (xs ys : List Initial) → cells_size (xs ++ ys) ≡ cells_size xs + cells_size ys
+size_append [] ys = omega arith
+size_append (x ∷ xs) ys = omega (arith, size_append xs ys)
+
+row_front : (structs : List Structure) (t : CType) (xs ys : List Initial) (byte : ℕ) → HasRow structs (shape_of xs) byte t → HasRow structs (shape_of (xs ++ ys)) byte t
+row_front structs t xs ys byte h = record {
+  stands = record { there = h.stands.there; each = λ k slot e. type_front xs ys (byte + slot.offset) slot.type (h.stands.each k slot e); open_ended = refl };
+  room = omega (arith, h.room, strides_whole xs, strides_whole (xs ++ ys), size_append xs ys);
+}
+
+-- ---- and behind them
+
+-- behind cells with room the others stand as they do without them
+type_behind : (xs ys : List Initial) (byte : ℕ) → AllByRecursion IsRoomy xs → type_at (shape_of (xs ++ ys)) (cells_size xs + byte) ≡ type_at (shape_of ys) byte
+type_behind [] ys byte all = let same : 0 + byte ≡ byte = omega arith in ap (type_at (shape_of ys)) same
+type_behind (x ∷ xs) ys byte all =
+    let room = all.0.room in
+    let width = scalar_width x.type in
+    let wide : 0 < x.stride = omega arith in
+    let same : x.stride + cells_size xs + byte ≡ x.stride + (cells_size xs + byte) = omega arith in
+    ap (type_at (shape_of (x ∷ (xs ++ ys)))) same
+    ∙ (behind_cell x.type (shape_of (xs ++ ys)).types x.stride (shape_of (xs ++ ys)).strides false (cells_size xs + byte) wide ∙ type_behind xs ys byte all.1)
+
+row_behind : (structs : List Structure) (t : CType) (xs ys : List Initial) (byte : ℕ) → AllByRecursion IsRoomy xs → HasRow structs (shape_of ys) byte t → HasRow structs (shape_of (xs ++ ys)) (cells_size xs + byte) t
+row_behind structs t xs ys byte all h = record {
+  stands = record { there = h.stands.there; each = each; open_ended = refl };
+  room = omega (arith, h.room, strides_whole ys, strides_whole (xs ++ ys), size_append xs ys);
+}
+  where
+    each : (k : ℕ) (slot : Slot) → slice_get (slots structs t) k ≡ Some slot → type_at (shape_of (xs ++ ys)) (cells_size xs + byte + slot.offset) ≡ Some slot.type
+    each k slot e =
+        let same : cells_size xs + byte + slot.offset ≡ cells_size xs + (byte + slot.offset) = omega arith in
+        ap (type_at (shape_of (xs ++ ys))) same ∙ (type_behind xs ys (byte + slot.offset) all ∙ h.stands.each k slot e)
+
+-- ---- copies
+
+-- so many times the cells of a value of the type, whatever numbers they hold
+pub data Copies (structs : List Structure) (t : CType) : ℕ → List Initial → Type 0 where
+  no_copy : Copies structs t 0 []
+  one_more : {n : ℕ} {cells others : List Initial} → AreCellsOf structs t cells → Copies structs t n others → Copies structs t (suc n) (cells ++ others)
+
+all_beside : (P : Initial → Type 0) (xs ys : List Initial) → AllByRecursion P xs → AllByRecursion P ys → AllByRecursion P (xs ++ ys)
+all_beside P [] ys first second = second
+all_beside P (x ∷ xs) ys first second = (first.0, all_beside P xs ys first.1 second)
+
+same_length : (a b : ℤ) (ts : List CType) (strides : List ℕ) → length (numbered_cells a ts strides) ≡ length (numbered_cells b ts strides)
+same_length a b [] strides = refl
+same_length a b (t ∷ ts) [] = refl
+same_length a b (t ∷ ts) (stride ∷ strides) = ap suc (same_length a b ts strides)
+
+module _ (structs : List Structure) (t : CType) where
+  -- a value of the type has cells
+  abbrev HasCells : Type 0
+  HasCells = 0 < length (cells_with structs t (pos 0))
+
+  each_some : (number : ℤ) → HasCells → 0 < length (cells_with structs t number)
+  each_some number some = omega (arith, same_length number (pos 0) (cell_types structs t) (strides_of structs t))
+
+  pub copies_start : (n : ℕ) (cells : List Initial) → Copies structs t n cells → AllByRecursion IsStart cells
+  copies_start n _ no_copy = tt
+  copies_start n _ (one_more {cells = cells} {others = others} is more) = all_beside IsStart cells others is.start (copies_start _ others more)
+
+  pub copies_roomy : (n : ℕ) (cells : List Initial) → Copies structs t n cells → AllByRecursion IsRoomy cells
+  copies_roomy n _ no_copy = tt
+  copies_roomy n _ (one_more {cells = cells} {others = others} is more) = all_beside IsRoomy cells others is.roomy (copies_roomy _ others more)
+
+  -- where there are cells at all, each value has some
+  copies_some : (n : ℕ) (cells : List Initial) → Copies structs t n cells → 0 < length cells → HasCells
+  copies_some n _ no_copy some = absurd (omega arith)
+  copies_some n _ (one_more {cells = cells} {others = others} is more) some = by (length cells) refl (copies_some _ others more)
+    where
+      by : (m : ℕ) → length cells ≡ m → (0 < length others → HasCells) → HasCells
+      by zero e again = again (omega (arith, some, length-append cells others))
+      by (suc m) e again = omega (arith, ap length is.same, same_length is.number (pos 0) (cell_types structs t) (strides_of structs t))
+
+  one_size : (cells : List Initial) → AreCellsOf structs t cells → HasCells → cells_size cells ≡ size_of structs t
+  one_size cells is some = ap cells_size is.same ∙ whole_size structs t is.number (each_some is.number some)
+
+  one_row : (cells : List Initial) → AreCellsOf structs t cells → HasCells → HasRow structs (shape_of cells) 0 t
+  one_row cells is some = subst (λ c. HasRow structs (shape_of c) 0 t) (sym is.same) (cells_row structs t is.number (each_some is.number some))
+
+  size_of_copies : HasCells → (n : ℕ) (cells : List Initial) → Copies structs t n cells → cells_size cells ≡ n * size_of structs t
+  size_of_copies some n _ no_copy = omega arith
+  size_of_copies some n _ (one_more {n = k} {cells = cells} {others = others} is more) =
+      omega (arith, size_append cells others, one_size cells is some, size_of_copies some k others more)
+
+  rows_of_copies : HasCells → (n : ℕ) (cells : List Initial) → Copies structs t n cells → AreRows structs (shape_of cells) t n
+  rows_of_copies some n _ no_copy = λ k low. absurd (omega arith)
+  rows_of_copies some n _ (one_more {n = m} {cells = cells} {others = others} is more) = row (rows_of_copies some m others more)
+    where
+      row : AreRows structs (shape_of others) t m → (k : ℕ) → k < suc m → HasRow structs (shape_of (cells ++ others)) (k * size_of structs t) t
+      row rest zero low =
+          let first : 0 ≡ 0 * size_of structs t = omega arith in
+          subst (λ byte. HasRow structs (shape_of (cells ++ others)) byte t) first (row_front structs t cells others 0 (one_row cells is some))
+      row rest (suc k) low =
+          let size = one_size cells is some in
+          let next : cells_size cells + k * size_of structs t ≡ suc k * size_of structs t = omega (arith, size) in
+          subst (λ byte. HasRow structs (shape_of (cells ++ others)) byte t) next
+          (row_behind structs t cells others (k * size_of structs t) is.roomy (rest k (omega (arith, low))))
+
+  -- as many bytes as the values take, which stand one behind another
+  pub copies_size : (n : ℕ) (cells : List Initial) → Copies structs t n cells → 0 < length cells → cells_size cells ≡ n * size_of structs t
+  copies_size n cells copies some = size_of_copies (copies_some n cells copies some) n cells copies
+
+  pub copies_rows : (n : ℕ) (cells : List Initial) → Copies structs t n cells → 0 < length cells → AreRows structs (shape_of cells) t n
+  copies_rows n cells copies some = rows_of_copies (copies_some n cells copies some) n cells copies
+
+-- rows stay when more structs are declared
+pub rows_kept : (a b : List Structure) (s : Shape) (t : CType) (n : ℕ) → Extends a b → AreRows a s t n → AreRows b s t n
+rows_kept a b s t n ext rows k low =
+    let row = rows k low in
+    subst (λ size. HasRow b s (k * size) t) (bytes_kept a b t ext row.stands.there) (row_kept a b s (k * size_of a t) t ext row)
+
+-- ---- the cells of variables
+
+module _ (structs : List Structure) (scalars : (n : ℕ) → AllByRecursion (λ (m : Member). IsScalar m.ctype) (members_of structs n)) where
+  zeros_copies : (t : CType) (n : ℕ) → Copies structs t n (zeros_of n structs t)
+  zeros_copies t zero = no_copy
+  zeros_copies t (suc n) = one_more (zero_cells structs t scalars) (zeros_copies t n)
+
+  -- each constant of a list makes the cells of a value
+  abbrev AreListed : CType → (ℤ → ℤ) → List SignedConstant → Type 0
+  AreListed t kept cs = AllByRecursion (λ (c : SignedConstant). AreCellsOf structs t (cells_with structs t (kept (signed_number c)))) cs
+
+  listed_copies : (t : CType) (kept : ℤ → ℤ) (n : ℕ) (cs : List SignedConstant) (span : Span) → AreListed t kept cs → Promises (Copies structs t n) (cells_or_break (cells_listed structs t kept n cs) span)
+  listed_copies t kept n [] span all = zeros_copies t n
+  listed_copies t kept zero (c ∷ cs) span all = tt
+  listed_copies t kept (suc n) (c ∷ cs) span all = by (cells_listed structs t kept n cs) (listed_copies t kept n cs span all.1)
+    where
+      by : (o : Option (List Initial)) → Promises (Copies structs t n) (cells_or_break o span) → Promises (Copies structs t (suc n)) (cells_or_break (option_map (λ cells. cells_with structs t (kept (signed_number c)) ++ cells) o) span)
+      by None h = tt
+      by (Some cells) h = one_more all.0 h
+
+  signed_fits : (c : SignedConstant) → nat_lt (unsigned_number c.constant) (2 ^ 31) ≡ true → is_word_number (signed_number c) ≡ true
+  signed_fits c low = by c.negative
+    where
+      by : (test : Bool) → is_word_number (picked test (negative (unsigned_number c.constant)) (pos (unsigned_number c.constant))) ≡ true
+      by true = negative_fits (unsigned_number c.constant) low
+      by false = low
+
+  ints_listed : (cs : List SignedConstant) → AreSmall cs → AreListed Int (λ z. z) cs
+  ints_listed [] h = tt
+  ints_listed (c ∷ cs) h = (int_of structs (signed_number c) (signed_fits c h.0), ints_listed cs h.1)
+
+  chars_listed : (cs : List SignedConstant) → AreListed Char low_byte cs
+  chars_listed [] = tt
+  chars_listed (c ∷ cs) = (char_of structs (signed_number c), chars_listed cs)
+
+  one_copy : (t : CType) (cells : List Initial) → AreCellsOf structs t cells → Copies structs t 1 cells
+  one_copy t cells is = subst (Copies structs t 1) (append-nil cells) (one_more is no_copy)
+
+  pub object_promises : (given : Given) (t : CType) (length : Option ℕ) (x : Walked) (span : Span) → IsWalked x → Promises (Copies structs t (count_of length)) (object_cells given structs t length x span)
+  object_promises given t None Missing span h = one_copy t (cells_with structs t (pos 0)) (zero_cells structs t scalars)
+  object_promises given t None (Written value x) span h =
+      promised_so (AreCellsOf structs t) (Copies structs t 1) _ (written_promises given structs t value x span (h given)) (λ cells is. one_copy t cells is)
+  object_promises given t None (Constants cs) span h = tt
+  object_promises given t (Some n) Missing span h = zeros_copies t n
+  object_promises given t (Some n) (Written value x) span h = tt
+  object_promises given Int (Some n) (Constants cs) span h = listed_copies Int (λ z. z) n cs span (ints_listed cs h)
+  object_promises given Char (Some n) (Constants cs) span h = listed_copies Char low_byte n cs span (chars_listed cs)
+  object_promises given (Struct k) (Some n) (Constants cs) span h = tt
+  object_promises given (Pointer m k t) (Some n) (Constants cs) span h = tt

@@ -1,0 +1,43 @@
+-- Inside: the bounds that an expression is asked for as a value of a type, and whether they are met.
+use Rattle.std.specs.Prelude.{ℕ, nat_lt, Bool, true, ◌||◌, Option, Some, None}
+use Rattle.ckc_text.specs.declared.place.Span.{Span}
+use Rattle.bounds_exprs.specs.declared.term.Bounds.{Bounds}
+use Rattle.bounds_flow.specs.Flows.{Knowledge}
+use Rattle.bounds_flow.specs.Settling.{bounds_find}
+use Rattle.pointer_modes.specs.Types.{CType}
+use Rattle.ckc_core.specs.Core as core
+use Rattle.region_typing_rules.specs.Verdicts.{Verdict, Passes, picked}
+use Rattle.region_typing_rules.specs.Readings.{own_bounds, based_bounds, is_null}
+use Rattle.region_typing_rules.specs.Expressions.{Typed, Value, AStruct, is_met, meets, asked_of, bounds_met, converted}
+
+-- the variable, if it is one, is below this number
+abbrev pub is_below : ℕ → Option ℕ → Bool
+is_below vars None = true
+is_below vars (Some x) = nat_lt x vars
+
+-- the bounds of an expression meet those that it is asked for as a value of a type
+abbrev pub is_met_as : Knowledge → Typed → CType → Bool
+is_met_as f (Value type zero value place) to = zero || meets f value (asked_of type to)
+is_met_as f (AStruct number place) to = true
+
+-- the bounds that it is asked for; null is asked for none
+abbrev pub asked_for : Typed → CType → Option Bounds
+asked_for (Value type zero value place) to = picked (zero || is_null value) None (asked_of type to)
+asked_for (AStruct number place) to = None
+
+abbrev pub own_of : Typed → Option Bounds
+own_of (Value type zero value place) = own_bounds value
+own_of (AStruct number place) = None
+
+abbrev pub based_of : Typed → Option Bounds
+based_of (Value type zero value place) = based_bounds value
+based_of (AStruct number place) = None
+
+-- one of two bounds meets what is asked for
+abbrev pub met_by : Knowledge → Option Bounds → Option Bounds → Option Bounds → Bool
+met_by f None own based = true
+met_by f (Some asked) own based = is_met (bounds_find f.facts asked own) || is_met (bounds_find f.facts asked based)
+
+-- a value as one of a type that it converts to, where its bounds are met (E13, E17)
+abbrev pub fitted : Knowledge → Typed → CType → Span → Verdict core.Expression
+fitted f t to span = converted t to span (λ value. bounds_met f t to span (Passes value))

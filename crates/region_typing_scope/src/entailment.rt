@@ -1,0 +1,165 @@
+// Whether what is known where the walk stands entails the bounds that a pointer is asked for.
+
+ghost use Rattle.std.specs.Prelude.{◌≡◌, IfOk};
+ghost use Rattle.pointer_modes.specs.Types.{ctype as ctype_of};
+ghost use Rattle.subsumption.specs.ClosedTables.{entails_terms};
+ghost use Rattle.subsumption.specs.ShownTables.{is_yes as says_yes};
+ghost use Rattle.bounds_flow.specs.Settling.{ends_find, bounds_find};
+ghost use Rattle.region_typing_rules.specs.Expressions.{is_met as is_met_by, asked_as as asked_of_kinds, asked_of as asked_of_types};
+ghost use Rattle.region_typing_scope.specs.Entailing.{asked_for as asked_for_in, is_below, is_met_as, own_of, based_of};
+ghost use Rattle.region_typing_scope.specs.Typed.{typed};
+
+use crate::bounds::row_of;
+use crate::scope::Scope;
+use crate::typed::Typed;
+use bounds_exprs::expression::constant;
+use bounds_exprs::term::{Bounds, Term};
+use ckc_text::fault::NoMemory;
+use pointer_modes::ctype::{CType, Kind};
+use region_typing_flow::conditions::is_null;
+use region_typing_flow::readings::{based_bounds, local_bounds, own_bounds};
+use subsumption::fact::Answer;
+
+// Whether a term is of one of so many variables, or of none.
+fn is_among(vars: u32, t: &Term) -> bool
+    ensures { result ≡ is_below vars t.now.var }
+{
+    match t.var {
+        None => true,
+        Some(var) => var < vars,
+    }
+}
+
+// Whether an answer is yes.
+fn is_yes(answer: &Answer) -> bool
+    ensures { result ≡ says_yes answer.now }
+{
+    matches!(answer, Answer::Yes(_))
+}
+
+// The bounds that a pointer of the one kind is asked for as one of the other.
+fn asked_as(from: Kind, to: Kind) -> Option<Bounds>
+    ensures { result ≡ asked_of_kinds from to }
+{
+    match (from, to) {
+        (Kind::Array, Kind::One) | (Kind::Nt, Kind::One) => Some(row_of(1)),
+        _ => None,
+    }
+}
+
+// The bounds that a value of the one type is asked for as one of the other.
+fn asked_of(from: &CType, to: &CType) -> Option<Bounds>
+    ensures { result ≡ asked_of_types (ctype_of from.now) (ctype_of to.now) }
+{
+    match from {
+        CType::Pointer(_, from, _) => match to {
+            CType::Pointer(_, to, _) => asked_as(*from, *to),
+            CType::Int | CType::Char | CType::Struct(_) => None,
+        },
+        CType::Int | CType::Char | CType::Struct(_) => None,
+    }
+}
+
+// The bounds that an expression is asked for as a value of a type; null is asked for none.
+fn asked_for(t: &Typed, to: &CType) -> Option<Bounds>
+    ensures { result ≡ asked_for_in (typed t.now) (ctype_of to.now) }
+{
+    match t {
+        Typed::Value { ctype, zero, value } => {
+            if *zero || is_null(value) {
+                None
+            } else {
+                asked_of(ctype, to)
+            }
+        }
+        Typed::Local { ctype, .. } | Typed::Cell { ctype, .. } | Typed::Array { ctype, .. } => {
+            asked_of(ctype, to)
+        }
+        Typed::Struct { .. } => None,
+    }
+}
+
+// The bounds of an expression, as its node has them.
+fn own(t: &Typed) -> Option<Bounds>
+    ensures { result ≡ own_of (typed t.now) }
+{
+    match t {
+        Typed::Value { value, .. } => own_bounds(value),
+        Typed::Local { bounds, .. } | Typed::Cell { bounds, .. } | Typed::Array { bounds, .. } => {
+            match bounds {
+                None => None,
+                Some(noted) => Some(noted.bounds),
+            }
+        }
+        Typed::Struct { .. } => None,
+    }
+}
+
+// The bounds from a base that an expression has beside those.
+fn based(t: &Typed) -> Option<Bounds>
+    ensures { result ≡ based_of (typed t.now) }
+{
+    match t {
+        Typed::Value { value, .. } => based_bounds(value),
+        Typed::Local { local, bounds, .. } => local_bounds(*local, *bounds),
+        Typed::Cell { .. } | Typed::Array { .. } | Typed::Struct { .. } => None,
+    }
+}
+
+impl Scope {
+    // Whether the one term is at most the other wherever what is known holds. Of a variable that it hasn't a flow entails
+    // something only where it entails everything.
+    fn entails(&self, a: &Term, b: &Term) -> Result<bool, NoMemory>
+        ensures { IfOk result (λ yes. yes ≡ entails_terms a.now b.now self.now.flow.facts) }
+    {
+        self.flow.is_flow();
+        if is_among(self.most_locals, a) && is_among(self.most_locals, b) {
+            let answer = self.flow.entails(a, b)?;
+            return Ok(is_yes(&answer));
+        }
+        let answer = self.flow.entails(&constant(1), &constant(0))?;
+        Ok(is_yes(&answer))
+    }
+
+    // Whether bounds are entailed to lie around others.
+    fn ends_meet(&self, asked: &Bounds, b: &Bounds) -> Result<bool, NoMemory>
+        ensures { IfOk result (λ met. met ≡ is_met_by (ends_find self.now.flow.facts asked.now b.now)) }
+    {
+        if !self.entails(&b.lo, &asked.lo)? {
+            return Ok(false);
+        }
+        self.entails(&asked.hi, &b.hi)
+    }
+
+    // Whether bounds, if there are any, are entailed to lie around others, from the same base.
+    fn bounds_meet(&self, asked: &Bounds, bounds: &Option<Bounds>) -> Result<bool, NoMemory>
+        ensures { IfOk result (λ met. met ≡ is_met_by (bounds_find self.now.flow.facts asked.now bounds.now)) }
+    {
+        match bounds {
+            None => Ok(false),
+            Some(b) => {
+                if asked.base == b.base {
+                    self.ends_meet(asked, b)
+                } else {
+                    Ok(false)
+                }
+            }
+        }
+    }
+
+    /// Whether the bounds of an expression, without a base or with one, are entailed to lie around those that it is asked for
+    /// as a value of a type.
+    pub fn is_met(&self, t: &Typed, to: &CType) -> Result<bool, NoMemory>
+        ensures { IfOk result (λ met. met ≡ is_met_as self.now.flow (typed t.now) (ctype_of to.now)) }
+    {
+        match asked_for(t, to) {
+            None => Ok(true),
+            Some(asked) => {
+                if self.bounds_meet(&asked, &own(t))? {
+                    return Ok(true);
+                }
+                self.bounds_meet(&asked, &based(t))
+            }
+        }
+    }
+}
