@@ -126,6 +126,10 @@ pub fn run_prints(alloc: Global, source: &str, expected: &str, dumps: bool) -> b
 const BEFORE: &str =
     "struct s { int a; ptr<struct s> n; }; struct s v; ptr<struct s> p; int g; int f(int a, ptr<int> b) { return a; } void h(void) { } _Tainted int t(int a);\nint main(void) {\n";
 
+// The same, with arrays.
+const BEFORE_ELEMENTS: &str =
+    "int a _Checked[4] = {1, 2, 3}; char c _Checked[3] = {'a', -1, 256}; struct s { int x; char c; }; struct s v _Checked[3]; ptr<int> q; ptr<int> ps _Checked[2]; int get(ptr<int> p) { return *p; } int two(ptr<int> p, ptr<int> q) { return *p + *q; } ptr<int> at(void) { return a + 3; } _Tainted int t(int x);\nint main(void) { int i = 4;\n";
+
 const BEHIND: &str = "\nreturn 0; }\n";
 
 // Whether the run of a program with this between its front and its end prints this.
@@ -145,4 +149,9 @@ pub fn value_prints(alloc: Global, value: &str, expected: &str) -> bool {
 /// Whether the run of a program with these statements in its third line prints this.
 pub fn statements_print(alloc: Global, statements: &str, expected: &str) -> bool {
     pieces_print(alloc, BEFORE, statements, BEHIND, expected)
+}
+
+/// Whether the run of a program with arrays and these statements in its third line prints this.
+pub fn elements_print(alloc: Global, statements: &str, expected: &str) -> bool {
+    pieces_print(alloc, BEFORE_ELEMENTS, statements, BEHIND, expected)
 }

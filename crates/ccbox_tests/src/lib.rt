@@ -6,6 +6,8 @@ mod actors;
 #[cfg(test)]
 mod acts;
 #[cfg(test)]
+mod arrays;
+#[cfg(test)]
 mod bounds;
 #[cfg(test)]
 mod calls;

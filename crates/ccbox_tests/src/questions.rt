@@ -2,7 +2,7 @@
 
 use crate::actors::gives_all;
 use crate::acts::is_act;
-use crate::calls::{call_prints, run_prints, statements_print, value_prints};
+use crate::calls::{call_prints, elements_print, run_prints, statements_print, value_prints};
 use crate::lines::is_number;
 use crate::shapes::has_shape;
 use crate::sources::tree_of;
@@ -34,6 +34,8 @@ pub enum Question {
     Value,
     /// What the run of a program prints that has these statements.
     Statements,
+    /// What the run of a program prints that has arrays and these statements.
+    Elements,
     /// What a call prints; the case has the words, the acts and the source.
     Call,
 }
@@ -51,6 +53,7 @@ pub fn is_answer(alloc: Global, question: Question, case: &str, expected: &str) 
         Question::Dump => run_prints(alloc, case, expected, true),
         Question::Value => value_prints(alloc, case, expected),
         Question::Statements => statements_print(alloc, case, expected),
+        Question::Elements => elements_print(alloc, case, expected),
         Question::Call => call_prints(alloc, case, expected),
     }
 }

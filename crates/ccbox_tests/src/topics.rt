@@ -1,6 +1,7 @@
 // The tests, each of several topics, since each test is a program of its own.
 
 use crate::acts::acts;
+use crate::arrays::arrays;
 use crate::corners::{corners, large_inputs};
 use crate::facts::entailment;
 use crate::files::files_and_outputs;
@@ -34,6 +35,7 @@ fn programs(rt: HostRuntime) -> Result<(), Fail> {
     let alloc = rt.alloc();
     runs(alloc)?;
     dumps(alloc)?;
+    arrays(alloc)?;
     limits(alloc)?;
     options(alloc)
 }
