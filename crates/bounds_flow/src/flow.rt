@@ -85,6 +85,22 @@ impl Flow {
         self.held[var as usize].bounds
     }
 
+    /// How many variables there are.
+    pub fn vars(&self) -> u32
+        ensures { result ≡ self.now.vars }
+    {
+        self.facts.is_narrow();
+        self.held.len() as u32
+    }
+
+    /// The bounds that are written at the declaration; `None` exactly where there are none.
+    pub fn declared(&self, var: u32) -> Option<Bounds>
+        requires { var < self.now.vars }
+        ensures { result ≡ (held_at self.now.held var).declared }
+    {
+        self.held[var as usize].declared
+    }
+
     /// Whether the pointer is known not to be null.
     pub fn not_null(&self, var: u32) -> bool
         requires { var < self.now.vars }

@@ -10,7 +10,7 @@ use Rattle.ckc_tree.specs.Statements as s
 use Rattle.ckc_tree.specs.Statements.{Initializer, Declarator, Declaration, Assignment, ForInitial, Statement, Statements}
 use Rattle.ckc_tree.specs.Items as i
 use Rattle.ckc_tree.specs.Items.{Member, ResultForm, Parameters, Body, Function, Item, Tree}
-use Rattle.built_forms.specs.Built.{built_type, is_number_type, built_expression, built_expressions, optional, built_initializer, built_declarator, built_variable, built_declaration, built_assignment, built_initial, built_statement, built_statements, built_member, is_number_parameter, built_parameters, built_result, is_number_result, built_body, built_of_kind, built_function, built_item, is_built}
+use Rattle.built_forms.specs.Built.{built_type, is_number_type, built_expression, built_expressions, built_bounds, optional, built_initializer, built_declarator, built_variable, built_declaration, built_assignment, built_initial, built_statement, built_statements, built_member, is_number_parameter, built_parameters, built_result, is_number_result, built_body, built_of_kind, built_item, is_built}
 use Rattle.ckc_tree.specs.declared.item.FunctionKind.{FunctionKind}
 use Rattle.ckc_tree.specs.declared.item.FunctionKind.TheVariants as function_kinds
 use Rattle.ckc_tree.specs.Numbers.{Numbers, number_type, number_expression, number_expressions, number_bounds, number_initializer, number_declarator, number_declaration, number_assignment, number_initial, number_statement, number_statements, number_member, number_result, number_parameters, number_body, number_function, number_item, numbered}
@@ -52,6 +52,13 @@ module _ (of : Numbers) where
   optional_expression_same None = refl
   optional_expression_same (Some x) = expression_same x
 
+  bounds_same : (o : Option Bounds) → optional built_bounds (option_map (number_bounds of) o) ≡ optional built_bounds o
+  bounds_same None = refl
+  bounds_same (Some (e.Count count span)) = expression_same count
+  bounds_same (Some (e.ByteCount count span)) = expression_same count
+  bounds_same (Some (e.Unknown span)) = refl
+  bounds_same (Some (e.Range low high span)) = rw (expression_same low, expression_same high) refl
+
   initializer_same : (o : Option Initializer) → optional built_initializer (option_map (number_initializer of) o) ≡ optional built_initializer o
   initializer_same None = refl
   initializer_same (Some (s.Value value)) = expression_same value
@@ -59,7 +66,7 @@ module _ (of : Numbers) where
 
   declarators_same : (ds : List Declarator) → list_all built_declarator (map (number_declarator of) ds) ≡ list_all built_declarator ds
   declarators_same [] = refl
-  declarators_same (d ∷ ds) = rw (is_none_same (number_bounds of) d.bounds, initializer_same d.initializer, declarators_same ds) refl
+  declarators_same (d ∷ ds) = rw (bounds_same d.bounds, initializer_same d.initializer, declarators_same ds) refl
 
   variables_same : (ds : List Declarator) → list_all built_variable (map (number_declarator of) ds) ≡ list_all built_variable ds
   variables_same [] = refl

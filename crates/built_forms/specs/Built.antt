@@ -1,10 +1,9 @@
 -- Which trees have only forms that are built.
-use Rattle.std.specs.Prelude.{ℕ, Bool, true, false, not, ◌&&◌, ◌==◌, bytes_eq, List, [], ◌∷◌, Option, Some, None, is_none}
+use Rattle.std.specs.Prelude.{Bool, true, false, not, ◌&&◌, ◌==◌, bytes_eq, Option, Some, None, is_none}
 use Rattle.std.specs.List.{list_all}
 use Rattle.ckc_names_rules.specs.Given.{strlen}
 use Rattle.ckc_tree.specs.declared.item.FunctionKind.{FunctionKind}
 use Rattle.ckc_tree.specs.declared.item.FunctionKind.TheVariants as function_kinds
-use Rattle.ckc_tree.specs.declared.type_form.PointerWord.{PointerWord}
 use Rattle.ckc_tree.specs.declared.type_form.PointerMode.{PointerMode}
 use Rattle.ckc_tree.specs.declared.type_form.PointerMode.TheVariants as modes
 use Rattle.ckc_tree.specs.declared.type_form.PointerKind.{PointerKind}
@@ -12,9 +11,9 @@ use Rattle.ckc_tree.specs.declared.type_form.PointerKind.TheVariants as kinds
 use Rattle.ckc_tree.specs.declared.stmt.ArrayKind.{ArrayKind}
 use Rattle.ckc_tree.specs.declared.stmt.ArrayKind.TheVariants as arrays
 use Rattle.ckc_tree.specs.declared.stmt.ArrayForm.{ArrayForm}
-use Rattle.ckc_tree.specs.Types.{TypeTree, IntType, CharType, StructType, PointerType, TypeName}
+use Rattle.ckc_tree.specs.Types.{TypeTree, IntType, CharType, StructType, PointerType}
 use Rattle.ckc_tree.specs.Expressions as e
-use Rattle.ckc_tree.specs.Expressions.{Expression, Expressions}
+use Rattle.ckc_tree.specs.Expressions.{Expression, Expressions, Bounds}
 use Rattle.ckc_tree.specs.Statements as s
 use Rattle.ckc_tree.specs.Statements.{Initializer, Declarator, Declaration, Assignment, ForInitial, Statement, Statements}
 use Rattle.ckc_tree.specs.Items as i
@@ -26,17 +25,17 @@ abbrev pub is_checked_mode : PointerMode → Bool
 is_checked_mode modes.Checked = true
 is_checked_mode modes.Tainted = false
 
-abbrev pub is_one : PointerKind → Bool
-is_one kinds.One = true
-is_one kinds.Array = false
-is_one kinds.NullTerminated = false
+abbrev pub is_built_kind : PointerKind → Bool
+is_built_kind kinds.One = true
+is_built_kind kinds.Array = true
+is_built_kind kinds.NullTerminated = false
 
--- of the pointer words, `ptr` is built; stars are, too
+-- of the pointer words, `ptr` and `array_ptr` are built; stars are, too
 abbrev pub built_type : TypeTree → Bool
 built_type (IntType span) = true
 built_type (CharType span) = true
 built_type (StructType tag span) = true
-built_type (PointerType word element stars span) = is_checked_mode word.mode && (is_one word.kind && built_type element)
+built_type (PointerType word element stars span) = is_checked_mode word.mode && (is_built_kind word.kind && built_type element)
 
 -- what crosses to the sandbox
 abbrev pub is_number_type : TypeTree → Bool
@@ -70,6 +69,12 @@ abbrev mutual
   built_expressions e.NoMore = true
   built_expressions (e.Then first others) = built_expression first && built_expressions others
 
+abbrev pub built_bounds : Bounds → Bool
+built_bounds (e.Count count span) = built_expression count
+built_bounds (e.ByteCount count span) = built_expression count
+built_bounds (e.Unknown span) = true
+built_bounds (e.Range low high span) = built_expression low && built_expression high
+
 -- ---- statements
 
 -- a part that may be left out
@@ -81,9 +86,9 @@ abbrev pub built_initializer : Initializer → Bool
 built_initializer (s.Value value) = built_expression value
 built_initializer (s.Constants constants span) = true
 
--- a local is no array, and has no bounds
+-- a local is no array, and may have bounds
 abbrev pub built_declarator : Declarator → Bool
-built_declarator d = is_none d.array && (is_none d.bounds && optional built_initializer d.initializer)
+built_declarator d = is_none d.array && (optional built_bounds d.bounds && optional built_initializer d.initializer)
 
 abbrev pub built_declaration : Declaration → Bool
 built_declaration d = built_type d.base && list_all built_declarator d.declarators

@@ -3,11 +3,11 @@
 ghost use Rattle.std.specs.Prelude.{◌≡◌};
 ghost use Rattle.std.specs.List.{list_all};
 ghost use Rattle.ckc_tree.specs.Types.{type_tree};
-ghost use Rattle.ckc_tree.specs.Expressions.{expression};
+ghost use Rattle.ckc_tree.specs.Expressions.{bounds, expression};
 ghost use Rattle.built_forms.specs.Built as built;
 
 use ckc_names_rules::given::STRLEN;
-use ckc_tree::expr::Expr;
+use ckc_tree::expr::{BoundsText, Expr};
 use ckc_tree::type_form::{PointerKind, PointerMode, TypeForm};
 
 /// Whether a type has only forms that are built.
@@ -17,7 +17,7 @@ pub fn built_type(base: &TypeForm) -> bool
     match base {
         TypeForm::Int { .. } | TypeForm::Char { .. } | TypeForm::Struct { .. } => true,
         TypeForm::Pointer { word, element, .. } => {
-            is_checked(word.mode) && is_one(word.kind) && built_type(element)
+            is_checked(word.mode) && is_built_kind(word.kind) && built_type(element)
         }
     }
 }
@@ -31,12 +31,12 @@ fn is_checked(mode: PointerMode) -> bool
     }
 }
 
-fn is_one(kind: PointerKind) -> bool
-    ensures { result ≡ built.is_one kind }
+fn is_built_kind(kind: PointerKind) -> bool
+    ensures { result ≡ built.is_built_kind kind }
 {
     match kind {
-        PointerKind::One => true,
-        PointerKind::Array | PointerKind::NullTerminated => false,
+        PointerKind::One | PointerKind::Array => true,
+        PointerKind::NullTerminated => false,
     }
 }
 
@@ -82,4 +82,17 @@ fn built_arguments(arguments: &[Expr]) -> bool
         }
     }
     true
+}
+
+/// Whether the expressions in bounds have only forms that are built.
+pub fn built_bounds(written: &BoundsText) -> bool
+    ensures { result ≡ built.built_bounds (bounds written.now) }
+{
+    match written {
+        BoundsText::Count { count, .. } | BoundsText::ByteCount { count, .. } => {
+            built_expression(count)
+        }
+        BoundsText::Unknown { .. } => true,
+        BoundsText::Range { low, high, .. } => built_expression(low) && built_expression(high),
+    }
 }

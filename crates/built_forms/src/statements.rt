@@ -3,11 +3,12 @@
 ghost use Rattle.std.specs.Prelude.{◌≡◌, ◌&&◌};
 ghost use Rattle.std.specs.List.{list_all};
 ghost use Rattle.std.specs.Option.{option_map};
+ghost use Rattle.ckc_tree.specs.Expressions.{bounds};
 ghost use Rattle.ckc_tree.specs.Statements.{initializer, declarator, declaration, assignment, for_initial, on_heap, statement};
 ghost use Rattle.built_forms.specs.Built as built;
 
-use crate::expressions::{built_expression, built_type};
-use ckc_tree::expr::Expr;
+use crate::expressions::{built_bounds, built_expression, built_type};
+use ckc_tree::expr::{BoundsText, Expr};
 use ckc_tree::stmt::{
     ArrayForm, ArrayKind, Assignment, Declaration, Declarator, ForInitial, Initializer, Stmt,
 };
@@ -30,12 +31,21 @@ fn built_optional_initializer(written: &Option<Initializer>) -> bool
     }
 }
 
-// Whether a local has only forms that are built: it is no array, and has no bounds.
+fn built_optional_bounds(written: &Option<BoundsText>) -> bool
+    ensures { result ≡ built.optional built.built_bounds (option_map bounds written.now) }
+{
+    match written {
+        None => true,
+        Some(bounds) => built_bounds(bounds),
+    }
+}
+
+// Whether a local has only forms that are built: it is no array, and may have bounds.
 fn built_declarator(written: &Declarator) -> bool
     ensures { result ≡ built.built_declarator (declarator written.now) }
 {
     written.array.is_none()
-        && written.bounds.is_none()
+        && built_optional_bounds(&written.bounds)
         && built_optional_initializer(&written.initializer)
 }
 

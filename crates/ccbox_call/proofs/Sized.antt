@@ -1,5 +1,5 @@
 -- The elements of what is accepted have sizes: each check asks for a pointer that isn't null, or for an element within bounds.
-use Rattle.std.proofs.Common.{◌≡◌, ℕ, zero, ◌≤◌, ℤ, pos, ◌+ℤ◌, Bool, true, false, cond, List, [], ◌∷◌, Option, Some, None, refl, sym, ap, subst, arith}
+use Rattle.std.proofs.Common.{◌≡◌, ℕ, zero, ◌≤◌, ℤ, pos, ◌+ℤ◌, Bool, true, false, cond, List, [], ◌∷◌, Option, Some, None, is_some, refl, sym, ap, subst, arith}
 use Rattle.std.specs.Prelude.{All}
 use Rattle.std.specs.Int.Signed.{le_z}
 use Rattle.std.proofs.lemmas.Bool.{le-leb}
@@ -21,7 +21,8 @@ use Rattle.check_insertion.specs.declared.erased.Check.TheVariants.{NotNull, Bel
 use Rattle.check_insertion.specs.Insert.{access_checks, sum_checks, size_of, expression, arguments_of, place, statement, statements}
 use Rattle.lowering_code.specs.Sized.{AreWithin, IsSmall, SizedExpression, SizedArguments, SizedPlace, SizedStatement, SizedStatements}
 use Rattle.region_typing_rules.specs.Expressions.{bounds_at}
-use Rattle.region_typing_rules.specs.Readings.{against}
+use Rattle.region_typing_rules.specs.Readings.{against, from_base, based_bounds}
+use Rattle.region_typing_rules.specs.Verdicts.{picked}
 use Rattle.region_typing_rules.specs.Scopes.{Scope}
 use Rattle.region_typing_rules.specs.Typed as typed
 use Rattle.region_typing_rules.specs.Typed.{Frame, HasBounds, HasElements, AreSumBounds, HasType, HaveTypes, HasPlace, IsSimple, IsStatement, AreStatements}
@@ -75,12 +76,52 @@ moved_within c b q h =
     between_within b.base (within_limit b.lo.var (b.lo.plus +ℤ c)) (within_limit b.hi.var (b.hi.plus +ℤ c)) q
     (within_there b.lo.var (b.lo.plus +ℤ c)) (within_there b.hi.var (b.hi.plus +ℤ c)) h
 
-sum_constants : (types : List CType) (row : CType) (e : core.Expression) (direction : Direction) (i : core.Expression) (p : PointerBounds) (b : Option PointerBounds)
-    → AreWithin p.bounds → AreSumBounds types row e direction i p b → AreConstants b
-sum_constants types row e direction i p b h typed.unknown = tt
-sum_constants types row e direction i p b h (typed.based base) = h
-sum_constants types row e direction i p b h (typed.own local found none) = record { low = h.low; high = h.high }
-sum_constants types row e direction i p b h (typed.moved {c = c} {q = q} none is moved) = moved_within (against direction c) p.bounds q moved
+-- the bounds of a local, counted from it
+own_within : (k : ℕ) (b : Bounds) → AreWithin b → AreWithin (from_base k b)
+own_within k b h = by (is_some b.base)
+  where
+    by : (c : Bool) → AreWithin (picked c b (record b { base = Some k }))
+    by true = h
+    by false = record { low = h.low; high = h.high }
+
+local_within : (k : ℕ) (b : Option PointerBounds) (d : Bounds) → AreConstants b → based_bounds (core.Local k b) ≡ Some d → AreWithin d
+local_within k None d h based = absurd (cc)
+local_within k (Some p) d h based = let same : from_base k p.bounds ≡ d = cc in subst AreWithin same (own_within k p.bounds h)
+
+-- the bounds that a pointer has beside its own are those of a local pointer
+beside_within : {g : Frame} {locals : List CType} {here : Scope} {t : CType} (e : core.Expression) (d : Bounds) → HasType g locals here e t → based_bounds e ≡ Some d → AreWithin d
+beside_within _ d (typed.word ok) based = absurd (cc)
+beside_within _ d (typed.byte ok) based = absurd (cc)
+beside_within _ d typed.null based = absurd (cc)
+beside_within {g = g} {t = t} (core.Local k b) d (typed.local found told) based = local_within k b d (noted_constants g.structs t b told) based
+beside_within _ d (typed.bounded {k = k} {p = p} found size limited force) based = local_within k (Some p) d (record { low = limited.low; high = limited.high }) based
+beside_within _ d (typed.widened e) based = beside_within _ d e based
+beside_within _ d (typed.single e elements leads) based = beside_within _ d e based
+beside_within _ d (typed.row e bounds) based = beside_within _ d e based
+beside_within _ d (typed.ended_row e none) based = beside_within _ d e based
+beside_within _ d (typed.load scalar place told) based = absurd (cc)
+beside_within _ d (typed.address_of place told) based = absurd (cc)
+beside_within _ d (typed.array found some few rows bounds size) based = absurd (cc)
+beside_within _ d (typed.sum pointer elements number bounds) based = beside_within _ d pointer based
+beside_within _ d (typed.negate e) based = absurd (cc)
+beside_within _ d (typed.complement e) based = absurd (cc)
+beside_within _ d (typed.inverse e) based = absurd (cc)
+beside_within _ d (typed.arithmetic a b) based = absurd (cc)
+beside_within _ d (typed.compare a b) based = absurd (cc)
+beside_within _ d (typed.same a b) based = absurd (cc)
+beside_within _ d (typed.order a from_a b from_b) based = absurd (cc)
+beside_within _ d (typed.both a b) based = absurd (cc)
+beside_within _ d (typed.either a b) based = absurd (cc)
+beside_within _ d (typed.low_byte e) based = absurd (cc)
+beside_within _ d (typed.call callee arguments told) based = absurd (cc)
+beside_within _ d typed.next_input based = absurd (cc)
+
+sum_constants : (types : List CType) (e : core.Expression) (direction : Direction) (i : core.Expression) (p : PointerBounds) (b : Option PointerBounds)
+    → AreWithin p.bounds → ((d : Bounds) → based_bounds e ≡ Some d → AreWithin d) → AreSumBounds types e direction i p b → AreConstants b
+sum_constants types e direction i p b h beside typed.unknown = tt
+sum_constants types e direction i p b h beside (typed.based base) = h
+sum_constants types e direction i p b h beside (typed.beside {d = d} based) = beside d based
+sum_constants types e direction i p b h beside (typed.moved {c = c} {q = q} none is moved) = moved_within (against direction c) p.bounds q moved
 
 -- the bounds at a node of an expression
 constants : {g : Frame} {locals : List CType} {here : Scope} {t : CType} (e : core.Expression) → HasType g locals here e t → AreConstants (bounds_of e)
@@ -97,14 +138,15 @@ constants {g = g} {t = t} (core.Load type p b) (typed.load scalar place told) = 
 constants {g = g} (core.AddressOf p b) (typed.address_of {mode = m} {t = t} place told) = noted_constants g.structs (Pointer m kinds.One t) b told
 constants _ (typed.array {n = n} {p = p} found some few rows bounds size) =
     subst AreWithin (sym bounds) (record { low = refl; high = few_within n few })
-constants {here = here} (core.Sum e direction i site b) (typed.sum {mode = m} {t = t} {p = p} pointer elements number bounds) =
-    sum_constants here.locals (Pointer m kinds.Array t) e direction i p b (subst AreConstants elements.bounds (constants e pointer)) bounds
+constants {here = here} (core.Sum e direction i site b) (typed.sum {p = p} pointer elements number bounds) =
+    sum_constants here.locals e direction i p b (subst AreConstants elements.bounds (constants e pointer)) (λ d based. beside_within e d pointer based) bounds
 constants _ (typed.negate e) = tt
 constants _ (typed.complement e) = tt
 constants _ (typed.inverse e) = tt
 constants _ (typed.arithmetic a b) = tt
 constants _ (typed.compare a b) = tt
 constants _ (typed.same a b) = tt
+constants _ (typed.order a from_a b from_b) = tt
 constants _ (typed.both a b) = tt
 constants _ (typed.either a b) = tt
 constants _ (typed.low_byte e) = tt
@@ -171,6 +213,7 @@ mutual
   sized_expression n _ (typed.arithmetic a b) = (sized_expression n _ a, sized_expression n _ b)
   sized_expression n _ (typed.compare a b) = (sized_expression n _ a, sized_expression n _ b)
   sized_expression n _ (typed.same a b) = (sized_expression n _ a, sized_expression n _ b)
+  sized_expression n _ (typed.order {site = site} a from_a b from_b) = (sized_expression n _ a, sized_expression n _ b, small_first n site, small_first n site)
   sized_expression n _ (typed.both a b) = (sized_expression n _ a, sized_expression n _ b)
   sized_expression n _ (typed.either a b) = (sized_expression n _ a, sized_expression n _ b)
   sized_expression n _ (typed.low_byte e) = sized_expression n _ e

@@ -54,10 +54,10 @@ for_parameters n body few = (limited_so 256 (n + all_declared body) (nat_lt 256 
 
 -- what is known where its body begins
 pub entered : (f : Signature) (ps : List code_prototype.TypedParameter.TypedParameter) (body : Statements) (n : ℕ) (g mid new : Scope) → n ≡ variables_in (length ps) body
-    → mid ≡ record g { locals = []; visible = []; result = f.result; in_loop = false; flow = at_entry n; breaks = None; continues = None } → new ≡ with_parameters (map variable ps) mid → new ≡ inside f (map variable ps) body g
+    → mid ≡ record g { locals = []; visible = []; result = f.result; in_loop = false; outside = 0; flow = at_entry n; breaks = None; continues = None } → new ≡ with_parameters (map variable ps) mid → new ≡ inside f (map variable ps) body g
 entered f ps body n g mid new count start is =
     let all : n ≡ variables_in (length (map variable ps)) body = count ∙ ap (λ (k : ℕ). variables_in k body) (sym (length-map ps variable)) in
-    is ∙ ap (with_parameters (map variable ps)) (start ∙ ap (λ (k : ℕ). record g { locals = []; visible = []; result = f.result; in_loop = false; flow = at_entry k; breaks = None; continues = None }) all)
+    is ∙ ap (with_parameters (map variable ps)) (start ∙ ap (λ (k : ℕ). record g { locals = []; visible = []; result = f.result; in_loop = false; outside = 0; flow = at_entry k; breaks = None; continues = None }) all)
 
 -- ---- a function is left
 
@@ -70,19 +70,19 @@ pub record Added (g h : Scope) : Type 0 where
 
 parameters_added : (ps : List Variable) (g : Scope) → Added g (with_parameters ps g)
 parameters_added [] g = record { types = g.locals; names = g.visible; flow = g.flow; same = refl }
-parameters_added (p ∷ ps) g = let rest = parameters_added ps (with_local p.name p.type g) in record { types = rest.types; names = rest.names; flow = rest.flow; same = rest.same }
+parameters_added (p ∷ ps) g = let rest = parameters_added ps (with_local p.name p.type None g) in record { types = rest.types; names = rest.names; flow = rest.flow; same = rest.same }
 
 -- a scope in which no function is walked
 abbrev pub left_scope : Scope → Scope
-left_scope g = record g { locals = []; visible = []; result = None; in_loop = false; flow = at_entry 0; breaks = None; continues = None }
+left_scope g = record g { locals = []; visible = []; result = None; in_loop = false; outside = 0; flow = at_entry 0; breaks = None; continues = None }
 
 -- what was known before a function is known behind it
 pub left_function : (f : Signature) (ps : List Variable) (body : Statements) (old entered walked new : code.Scope.Scope) → Outside (scope old) → scope entered ≡ inside f ps body (scope old) → Grows entered walked → scope new ≡ left_scope (scope walked) → scope new ≡ scope old
 left_function f ps body old entered walked new outside inside_is grows known =
-    let start : Scope = record (scope old) { locals = []; visible = []; result = f.result; in_loop = false; flow = at_entry (variables_in (length ps) body); breaks = None; continues = None } in
+    let start : Scope = record (scope old) { locals = []; visible = []; result = f.result; in_loop = false; outside = 0; flow = at_entry (variables_in (length ps) body); breaks = None; continues = None } in
     let added = parameters_added ps start in
     known
-    ∙ ap left_scope (grows.file ∙ ap (λ (g : Scope). record g { locals = grows.types; visible = grows.names; in_loop = grows.loop; flow = grows.flow; breaks = grows.breaks; continues = grows.continues }) (inside_is ∙ added.same))
+    ∙ ap left_scope (grows.file ∙ ap (λ (g : Scope). record g { locals = grows.types; visible = grows.names; in_loop = grows.loop; outside = grows.outside; flow = grows.flow; breaks = grows.breaks; continues = grows.continues }) (inside_is ∙ added.same))
     ∙ sym outside
 
 -- the core of a function whose statements break no rule
@@ -160,13 +160,13 @@ core_built f heading ps n count locals g are xs c same is =
 
 -- ---- parameters as locals
 
-pub parameter_added : (ps : List code_prototype.TypedParameter.TypedParameter) (k : ℕ) (p : code_prototype.TypedParameter.TypedParameter) (g h : Scope) → k < length ps → p ≡ get_or ps k p → h ≡ with_local p.name (ctype p.ctype) g → with_parameters (map variable (drop k ps)) g ≡ with_parameters (map variable (drop (k + 1) ps)) h
+pub parameter_added : (ps : List code_prototype.TypedParameter.TypedParameter) (k : ℕ) (p : code_prototype.TypedParameter.TypedParameter) (g h : Scope) → k < length ps → p ≡ get_or ps k p → h ≡ with_local p.name (ctype p.ctype) None g → with_parameters (map variable (drop k ps)) g ≡ with_parameters (map variable (drop (k + 1) ps)) h
 parameter_added ps k p g h less is known = ap (λ qs. with_parameters qs g) (parts_at variable ps k p less is) ∙ ap (λ j. with_parameters (map variable (drop (k + 1) ps)) j) (sym known)
 
 pub parameters_all : (ps : List code_prototype.TypedParameter.TypedParameter) (k : ℕ) (g : Scope) → length ps ≤ k → with_parameters (map variable (drop k ps)) g ≡ g
 parameters_all ps k g end = ap (λ qs. with_parameters qs g) (no_parts variable ps k end)
 
-pub local_counted : (p : Variable) (a b : code.Scope.Scope) (k : ℕ) → scope b ≡ with_local p.name p.type (scope a) → length a.locals.items ≡ k → length b.locals.items ≡ k + 1
+pub local_counted : (p : Variable) (a b : code.Scope.Scope) (k : ℕ) → scope b ≡ with_local p.name p.type None (scope a) → length a.locals.items ≡ k → length b.locals.items ≡ k + 1
 local_counted p a b k known count =
     sym (length-map b.locals.items ctype) ∙ ap (λ (g : Scope). length g.locals) known ∙ length-append (map ctype a.locals.items) (p.type ∷ []) ∙ ap (λ n. n + 1) (length-map a.locals.items ctype ∙ count)
 

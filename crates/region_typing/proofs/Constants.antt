@@ -1,5 +1,5 @@
 -- Constants, and the cells that they are in.
-use Rattle.std.proofs.Common.{◌≡◌, ℕ, zero, suc, ◌+◌, ◌-◌, ◌<◌, ◌≤◌, ◌^◌, Bool, true, false, nat_lt, nat_le, Option, Some, None, List, [], ◌∷◌, ◌++◌, length, map, drop, get_or, slice_index, add-one, append_assoc, refl, ap, sym, ◌∙◌, arith}
+use Rattle.std.proofs.Common.{◌≡◌, ℕ, zero, suc, ◌+◌, ◌-◌, ◌<◌, ◌≤◌, ◌^◌, Bool, true, false, ◌&&◌, nat_lt, nat_le, Option, Some, None, List, [], ◌∷◌, ◌++◌, length, map, drop, get_or, slice_index, add-one, append_assoc, refl, ap, sym, ◌∙◌, arith}
 use Rattle.std.proofs.lemmas.List.{append-nil, map-append, drop_more, drop_all}
 use Rattle.std.proofs.lemmas.Bool.Decides.{nat_tests}
 use Rattle.std.proofs.Common.{ℤ, pos}
@@ -24,7 +24,7 @@ use Rattle.ckc_tree.specs.Statements as s
 use Rattle.region_typing.specs.Items.{judged_initializer}
 use Rattle.ckc_names_rules.specs.declared.given.Given.{Given}
 use Rattle.region_typing_rules.specs.Items as rules
-use Rattle.region_typing_rules.specs.Items.{strides_from, strides_of, cells_with, numbered_cells, is_zero, signed_constant, number_or_break, object_cells, zeros_of, cells_listed, cells_or_break, listed_cells, unsigned_number, signed_number, small_constants}
+use Rattle.region_typing_rules.specs.Items.{negative, strides_from, strides_of, cells_with, numbered_cells, is_zero, are_zeros, signed_constant, number_or_break, object_cells, zeros_of, cells_listed, cells_or_break, listed_cells, unsigned_number, signed_number, small_constants}
 use Rattle.region_typing.specs.Initials.{IsStructOf, constant_cells, judged_as, judged_cells, stride_at, kept_as, elements_of, listed, number_listed, number_more, numbers_listed, judged_numbers, Constants}
 use Rattle.region_typing_scope.proofs.Steps.{parts_at, no_parts}
 
@@ -72,11 +72,22 @@ or_break : (b : Bool) (cells : List Initial) (span : Span) → cells_or_break (p
 or_break true cells span = refl
 or_break false cells span = refl
 
-list_judged : (structs : List Structure) (t : CType) (n : ℕ) (cs : List SignedConstant) (span : Span) → listed_cells structs t n cs span ≡ listed structs t n (map signed_number cs) span
+-- a test before one of the length
+needed_first : (b short : Bool) (cells : List Initial) (span : Span) → needs b E13 span (picked short (Passes cells) (breaks E13 span)) ≡ picked (b && short) (Passes cells) (breaks E13 span)
+needed_first true short cells span = refl
+needed_first false short cells span = refl
+
+list_judged : (structs : List Structure) (t : CType) (n : ℕ) (cs : List SignedConstant) (span : Span) → listed_cells structs t n cs span ≡ listed structs t n (are_zeros cs) (map signed_number cs) span
 list_judged structs Int n cs span = ap (λ cells. cells_or_break cells span) (elements_listed structs Int n cs) ∙ or_break (nat_le (length (map signed_number cs)) n) _ span
 list_judged structs Char n cs span = ap (λ cells. cells_or_break cells span) (elements_listed structs Char n cs) ∙ or_break (nat_le (length (map signed_number cs)) n) _ span
 list_judged structs (Struct number) n cs span = refl
-list_judged structs (Pointer mode kind target) n cs span = refl
+list_judged structs (Pointer mode kind target) n cs span =
+    let t = Pointer mode kind target in
+    let zs = map signed_number cs in
+    let cells = elements_of structs t zs ++ zeros_of (n - length zs) structs t in
+    ap (λ listed. needs (are_zeros cs) E13 span (cells_or_break listed span)) (elements_listed structs t n cs)
+    ∙ ap (λ v. needs (are_zeros cs) E13 span v) (or_break (nat_le (length zs) n) cells span)
+    ∙ needed_first (are_zeros cs) (nat_le (length zs) n) cells span
 
 pub cells_judged : (given : Given) (structs : List Structure) (t : CType) (count : Option ℕ) (w : rules.Walked) (span : Span) → object_cells given structs t count w span ≡ judged_cells structs t count (judged_as given w) span
 cells_judged given structs t None rules.Missing span = refl
@@ -99,7 +110,7 @@ small_then (x ∷ xs) v next = test (nat_lt (unsigned_number x.constant) (2 ^ 31
 
 -- what is judged of a list
 pub list_parts : (at : Places) (g : Scope) (cs : List SignedConstant) (span : Span) → judged_initializer at g (Some (s.Constants cs span)) ≡ judged_numbers cs
-list_parts at g cs span = small_then cs (rules.Constants cs) (judged_as g.given) ∙ sym (small_then cs (map signed_number cs) Constants)
+list_parts at g cs span = small_then cs (rules.Constants cs) (judged_as g.given) ∙ sym (small_then cs (map signed_number cs) (Constants (are_zeros cs)))
 
 -- a constant more, before those that are left
 pub numbers_by_step : (c : SignedConstant) (cs : List SignedConstant) (done : List ℤ) → passing (numbers_listed (c ∷ cs)) (λ zs. Passes (done ++ zs))

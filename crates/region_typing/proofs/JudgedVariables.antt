@@ -1,10 +1,8 @@
 -- File-level variables, by what is judged of their initialisers.
-use Rattle.std.proofs.Common.{◌≡◌, ℕ, ◌==◌, Bool, true, false, nat_lt, List, [], ◌∷◌, ◌++◌, length, map, Result, Ok, Err, refl, ap, sym, ◌∙◌, subst}
+use Rattle.std.proofs.Common.{◌≡◌, ℕ, ◌==◌, Bool, true, false, nat_lt, List, [], ◌∷◌, ◌++◌, length, map, refl, ap, sym, ◌∙◌}
 use Rattle.std.proofs.lemmas.List.{map-append}
 use Rattle.ckc_text.specs.declared.place.Span.{Span}
 use Rattle.ckc_text.specs.declared.code.Code.TheVariants.{E10, E15}
-use Rattle.region_typing_scope.specs.declared.refusals.CheckError.{CheckError}
-use Rattle.region_typing_scope.specs.declared.refusals.CheckError.TheVariants.{Source, Unnamed, NoMemory}
 use Rattle.ckc_tree.specs.Types.{TypeTree, type_span}
 use Rattle.ckc_tree.specs.Items as i
 use Rattle.ckc_tree.specs.Statements.{Declarator}
@@ -16,7 +14,6 @@ use Rattle.region_typing_rules.specs.Expressions.{Places}
 use Rattle.ckc_names_rules.specs.declared.given.Given.{Given}
 use Rattle.region_typing_rules.specs.Items as rules
 use Rattle.region_typing_rules.specs.Items.{Walk, WalkedVariable, with_variable, length_of, room_for, room_for_first, initializer, variables, with_objects, global, in_checked_region}
-use Rattle.region_typing_scope.specs.Answering.{Answers, answers_so}
 use Rattle.region_typing.specs.declared.globals.WalkedVariable as code
 use Rattle.region_typing.specs.declared.initials.Judged as code_judged
 use Rattle.region_typing.specs.Initials.{Judged, judged, judged_as, judged_cells}

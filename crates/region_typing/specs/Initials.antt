@@ -1,5 +1,6 @@
 -- Inside: what a file-level variable is initialised with, as the code holds it.
-use Rattle.std.specs.Prelude.{◌≡◌, ℕ, ◌<◌, ◌+◌, ◌-◌, ◌^◌, Bool, ◌&&◌, List, [], ◌∷◌, ◌++◌, length, map, slice_index, nat_lt, nat_le, Option, Some, None, pos}
+use Rattle.std.specs.Prelude.{◌≡◌, ℕ, ◌<◌, ◌+◌, ◌-◌, ◌^◌, Bool, true, false, ◌&&◌, nat_lt, nat_le, Option, Some, None, pos}
+use Rattle.std.specs.Prelude.{List, [], ◌∷◌, ◌++◌, length, map, slice_index}
 use Rattle.std.proofs.Common.{ℤ}
 use Rattle.ckc_text.specs.declared.place.Span.{Span}
 use Rattle.ckc_text.specs.declared.code.Code.TheVariants.{E04, E13}
@@ -12,30 +13,30 @@ use Rattle.ckc_names_rules.specs.declared.given.Given.{Given}
 use Rattle.ckc_core.specs.Programs.{Initial}
 use Rattle.ckc_core.specs.Steps.{low_byte}
 use Rattle.region_typing_rules.specs.Verdicts.{Verdict, Passes, passing, needs, breaks, picked}
-use Rattle.region_typing_rules.specs.Types.{is_number}
 use Rattle.ckc_tree.specs.declared.stmt.SignedConstant.{SignedConstant}
 use Rattle.region_typing_rules.specs.Items as rules
 use Rattle.region_typing_rules.specs.Items.{cells_with, is_zero, unsigned_constant, signed_constant, number_or_break}
-use Rattle.region_typing_rules.specs.Items.{unsigned_number, signed_number, small_constants, zeros_of}
+use Rattle.region_typing_rules.specs.Items.{unsigned_number, signed_number, small_constants, zeros_of, are_zeros}
 use Rattle.region_typing.specs.declared.initials.Judged as code
 use Rattle.region_typing.specs.declared.initials.Judged.TheVariants as forms
 
--- what a variable is initialised with: a value, which may be the constant 0, and its number where it is a constant
+-- what a variable is initialised with: a value, which may be the constant 0, and its number where it is a constant; or a list of numbers, each of
+-- which may be the constant 0
 pub data Judged : Type 0 where
   Missing : Judged
   Constant : (zero : Bool) (number : Option ℤ) → Judged
-  Constants : (numbers : List ℤ) → Judged
+  Constants : (zeros : Bool) (numbers : List ℤ) → Judged
 
 abbrev pub judged : code.Judged → Judged
 judged forms.Missing = Missing
 judged (forms.Constant zero number) = Constant zero number
-judged (forms.List numbers) = Constants numbers.items
+judged (forms.List zeros numbers) = Constants zeros numbers.items
 
 -- what is judged of an initialiser whose children were walked
 abbrev pub judged_as : Given → rules.Walked → Judged
 judged_as given rules.Missing = Missing
 judged_as given (rules.Written value t) = Constant (is_zero t) (signed_constant given value)
-judged_as given (rules.Constants constants) = Constants (map signed_number constants)
+judged_as given (rules.Constants constants) = Constants (are_zeros constants) (map signed_number constants)
 
 -- the constant of a list, and all constants of one (E04)
 abbrev pub number_listed : SignedConstant → Verdict ℤ
@@ -50,7 +51,7 @@ numbers_listed constants = small_constants constants (Passes (map signed_number 
 
 -- what is judged of a list
 abbrev pub judged_numbers : List SignedConstant → Verdict Judged
-judged_numbers constants = passing (numbers_listed constants) (λ zs. Passes (Constants zs))
+judged_numbers constants = passing (numbers_listed constants) (λ zs. Passes (Constants (are_zeros constants) zs))
 
 -- the number modulo 256
 abbrev low_number : Option ℤ → Option ℤ
@@ -67,30 +68,37 @@ cell_number (Pointer mode kind target) zero number = picked zero (Some (pos 0)) 
 abbrev pub constant_cells : List Structure → CType → Bool → Option ℤ → Span → Verdict (List Initial)
 constant_cells structs type zero number span = number_or_break (cell_number type zero number) span (cells_with structs type)
 
--- a number as an element of a type keeps it
+-- a number as an element of a type keeps it; the one that a pointer keeps is null
 abbrev pub kept_as : CType → ℤ → ℤ
 kept_as Int number = number
 kept_as Char number = low_byte number
 kept_as (Struct struct) number = number
-kept_as (Pointer mode kind target) number = number
+kept_as (Pointer mode kind target) number = pos 0
 
 -- the cells of elements with these numbers
 abbrev pub elements_of : List Structure → CType → List ℤ → List Initial
 elements_of structs type [] = []
 elements_of structs type (z ∷ zs) = cells_with structs type (kept_as type z) ++ elements_of structs type zs
 
--- an array of so many numbers, of which the first are these (E13)
-abbrev pub listed : List Structure → CType → ℕ → List ℤ → Span → Verdict (List Initial)
-listed structs type n zs span =
-    picked (is_number type && nat_le (length zs) n) (Passes (elements_of structs type zs ++ zeros_of (n - length zs) structs type)) (breaks E13 span)
+-- what may be listed for elements of a type: any numbers for numbers, the constant 0 alone for pointers
+abbrev pub may_be_listed : CType → (zeros : Bool) → Bool
+may_be_listed Int zeros = true
+may_be_listed Char zeros = true
+may_be_listed (Struct struct) zeros = false
+may_be_listed (Pointer mode kind target) zeros = zeros
+
+-- an array of so many elements, of which the first have these numbers (E13)
+abbrev pub listed : List Structure → CType → ℕ → Bool → List ℤ → Span → Verdict (List Initial)
+listed structs type n zeros zs span =
+    picked (may_be_listed type zeros && nat_le (length zs) n) (Passes (elements_of structs type zs ++ zeros_of (n - length zs) structs type)) (breaks E13 span)
 
 abbrev pub judged_cells : List Structure → CType → Option ℕ → Judged → Span → Verdict (List Initial)
 judged_cells structs type None Missing span = Passes (cells_with structs type (pos 0))
 judged_cells structs type None (Constant zero number) span = constant_cells structs type zero number span
-judged_cells structs type None (Constants zs) span = breaks E13 span
+judged_cells structs type None (Constants zeros zs) span = breaks E13 span
 judged_cells structs type (Some n) Missing span = Passes (zeros_of n structs type)
 judged_cells structs type (Some n) (Constant zero number) span = breaks E13 span
-judged_cells structs type (Some n) (Constants zs) span = listed structs type n zs span
+judged_cells structs type (Some n) (Constants zeros zs) span = listed structs type n zeros zs span
 
 -- the number under a sign, or without one
 abbrev magnitude : Given → Expression → Option ℕ

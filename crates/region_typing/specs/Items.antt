@@ -30,7 +30,8 @@ walk w = record { scope = scope w.scope; objects = map object w.objects.items; t
 
 -- no function is walked
 abbrev pub Outside : Scope → Type 0
-Outside g = g ≡ record g { locals = []; visible = []; result = None; in_loop = false; flow = at_entry 0; breaks = None; continues = None }
+Outside g =
+    g ≡ record g { locals = []; visible = []; result = None; in_loop = false; outside = 0; flow = at_entry 0; breaks = None; continues = None }
 
 -- a member more (E08)
 abbrev pub one_member : Scope → i.Member → List types.Member → Verdict (List types.Member)

@@ -7,10 +7,10 @@ ghost use Rattle.pointer_modes.specs.Layout.{cells_of as cells_in};
 ghost use Rattle.ckc_core.specs.Core.{initial as initial_of};
 ghost use Rattle.ckc_core.specs.Steps.{low_byte as low_byte_of};
 ghost use Rattle.region_typing_rules.specs.Types.{is_scalar};
-ghost use Rattle.region_typing_rules.specs.Items.{Written, negative as negative_of, null_number as null_number_of, unsigned_constant as unsigned_of, signed_constant as signed_of, zeros_of, cells_with as cells_as};
+ghost use Rattle.region_typing_rules.specs.Items.{Written, are_zeros as are_zeros_in, is_zero_constant as is_zero_in, negative as negative_of, null_number as null_number_of, unsigned_constant as unsigned_of, signed_constant as signed_of, zeros_of, cells_with as cells_as};
 ghost use Rattle.region_typing_scope.specs.Answering.{Answers};
 ghost use Rattle.region_typing_scope.specs.Typed.{typed as typed_view};
-ghost use Rattle.region_typing.specs.Initials.{IsSmall, elements_of, judged_numbers, kept_as as kept_as_in, listed, number_listed, number_more, numbers_listed, IsStructOf, judged_as, judged_cells, cell_number as cell_number_as, constant_cells as constant_cells_as, judged as judged_of, stride_at};
+ghost use Rattle.region_typing.specs.Initials.{IsSmall, elements_of, judged_numbers, kept_as as kept_as_in, listed, may_be_listed as may_be_listed_for, number_listed, number_more, numbers_listed, IsStructOf, judged_as, judged_cells, cell_number as cell_number_as, constant_cells as constant_cells_as, judged as judged_of, stride_at};
 
 use ckc_core::program::Initial;
 use ckc_names_rules::given::Given;
@@ -24,7 +24,7 @@ use pointer_modes::structs::Structs;
 use region_typing_scope::context::Context;
 use region_typing_scope::refusals::{CheckError, refusal};
 use region_typing_scope::typed::{Typed, is_zero};
-use region_typing_scope::types::{copied, is_number};
+use region_typing_scope::types::copied;
 
 /// What a variable is initialised with.
 #[derive(Drop)]
@@ -32,8 +32,8 @@ pub enum Judged {
     Missing,
     /// The constant 0 or not, and the number where the value is a constant.
     Constant { zero: bool, number: Option<i32> },
-    /// The numbers of a list.
-    List(Vec<i32>),
+    /// The numbers of a list, and whether each is the constant 0.
+    List { zeros: bool, numbers: Vec<i32> },
 }
 
 // A constant without a sign.
@@ -128,12 +128,28 @@ fn listed_numbers(context: &Context, constants: &[SignedConstant]) -> Result<Vec
     Ok(numbers)
 }
 
+// Whether a constant of a list is 0 as it stands, without a sign.
+fn is_zero_constant(constant: &SignedConstant) -> bool
+    ensures { result ≡ is_zero_in constant.now }
+{
+    !constant.negative && matches!(constant.constant, Constant::Number(0))
+}
+
+fn are_zeros(constants: &[SignedConstant]) -> bool
+    ensures { result ≡ are_zeros_in constants.now }
+{
+    constants.iter().all(|constant| is_zero_constant(constant))
+}
+
 /// What is judged of a list of constants.
 pub fn judged_list(context: &Context, constants: &[SignedConstant]) -> Result<Judged, CheckError>
     ensures { Answers judged_of (judged_numbers constants.now) result }
 {
     let numbers = listed_numbers(context, constants)?;
-    Ok(Judged::List(numbers))
+    Ok(Judged::List {
+        zeros: are_zeros(constants),
+        numbers,
+    })
 }
 
 /// What is judged of a value.
@@ -265,7 +281,8 @@ fn kept_as(t: &CType, number: i32) -> i32
 {
     match t {
         CType::Char => low_byte(number),
-        CType::Int | CType::Struct(_) | CType::Pointer(..) => number,
+        CType::Int | CType::Struct(_) => number,
+        CType::Pointer(..) => 0,
     }
 }
 
@@ -316,22 +333,34 @@ fn elements_with(
     Ok(cells)
 }
 
-// The cells of an array of numbers that is initialised with a list.
+// Whether a list may stand for elements of a type: any for numbers, one of zeros for pointers.
+fn may_be_listed(t: &CType, zeros: bool) -> bool
+    ensures { result ≡ may_be_listed_for (ctype_of t.now) zeros }
+{
+    match t {
+        CType::Int | CType::Char => true,
+        CType::Struct(_) => false,
+        CType::Pointer(..) => zeros,
+    }
+}
+
+// The cells of an array that is initialised with a list.
 fn listed_cells(
     context: &Context,
     structs: &Structs,
     t: &CType,
     count: u32,
+    zeros: bool,
     numbers: &[i32],
     span: Span,
 ) -> Result<Vec<Initial>, CheckError>
-    ensures { Answers (λ v. map initial_of v.items) (listed structs.now (ctype_of t.now) count numbers.now span) result }
+    ensures { Answers (λ v. map initial_of v.items) (listed structs.now (ctype_of t.now) count zeros numbers.now span) result }
 {
-    if !is_number(t) || numbers.len() > count as usize {
+    if !may_be_listed(t, zeros) || numbers.len() > count as usize {
         return Err(refusal(Code::E13, span));
     }
-    let zeros = count - numbers.len() as u32;
-    Ok(elements_with(context, structs, t, zeros, numbers)?)
+    let rest = count - numbers.len() as u32;
+    Ok(elements_with(context, structs, t, rest, numbers)?)
 }
 
 // What the cells of a type hold by a value, if it may stand for them: the number of a constant, or null.
@@ -378,7 +407,7 @@ fn value_cells(
         Judged::Constant { zero, number } => constant_cells(
             context, structs, t, *zero, *number, span,
         ),
-        Judged::List(_) => Err(refusal(Code::E13, span)),
+        Judged::List { .. } => Err(refusal(Code::E13, span)),
     }
 }
 
@@ -396,7 +425,9 @@ fn array_cells(
     match initial {
         Judged::Missing => Ok(elements_with(context, structs, t, count, &[])?),
         Judged::Constant { .. } => Err(refusal(Code::E13, span)),
-        Judged::List(numbers) => listed_cells(context, structs, t, count, numbers.as_slice(), span),
+        Judged::List { zeros, numbers } => {
+            listed_cells(context, structs, t, count, *zeros, numbers.as_slice(), span)
+        }
     }
 }
 

@@ -1,7 +1,7 @@
 -- The rules of operators by tests of their operands.
 use Rattle.std.proofs.Common.{◌≡◌, Bool, true, false, not, ◌&&◌, ◌||◌, refl}
 use Rattle.ckc_text.specs.declared.place.Span.{Span}
-use Rattle.ckc_text.specs.declared.code.Code.TheVariants.{E13, E18, E19, E26}
+use Rattle.ckc_text.specs.declared.code.Code.TheVariants.{E13, E18, E19}
 use Rattle.act_words.specs.declared.operator.Comparison.{Comparison}
 use Rattle.ckc_core.specs.declared.program.Direction.{Direction}
 use Rattle.ckc_core.specs.declared.program.Site.{Site}
@@ -14,7 +14,7 @@ use Rattle.region_typing_rules.specs.Expressions.{Typed, Value, AStruct, equated
 use Rattle.region_typing_rules.specs.Expressions.{is_single_value, lacks_bounds, without_ptr}
 use Rattle.region_typing_expressions.specs.declared.equality.Equality.{Equality}
 use Rattle.region_typing_expressions.specs.declared.equality.Equality.TheVariants.{Numbers, Pointers, RightNull, LeftNull}
-use Rattle.region_typing_expressions.specs.Comparing.{is_number_value, is_pointer_value, are_comparable_values, compared}
+use Rattle.region_typing_expressions.specs.Comparing.{is_number_value, is_pointer_value, are_comparable_values, compared, related}
 use Rattle.region_typing_expressions.specs.Moves.{moved}
 use Rattle.region_typing_scope.specs.Operands.{operand_of}
 use Rattle.region_typing_scope.proofs.Entailing.{needs_then}
@@ -45,26 +45,29 @@ equated_parts (Value t z v p) (AStruct n q) span = rw (and_false (is_number t), 
 equated_parts (AStruct n p) (Value u y w q) span = rw (and_false (is_pointer u)) refl
 equated_parts (AStruct n p) (AStruct m q) span = refl
 
-numbers_ordered : (comparison : Comparison) (v w : core.Expression) (z y : Bool) (u : CType) (p q : _) (span : Span) (number : Bool) → is_number u ≡ number → ordered comparison (Value Int z v p) (Value u y w q) span ≡ two_numbers (Value Int z v p) (Value u y w q) span (compared comparison)
-numbers_ordered comparison v w z y u p q span true is = rw is refl
-numbers_ordered comparison v w z y u p q span false is = rw is refl
+numbers_ordered : (comparison : Comparison) (v w : core.Expression) (z y : Bool) (u : CType) (p q : _) (site : Site) (span : Span) (number : Bool) → is_number u ≡ number
+    → ordered comparison (Value Int z v p) (Value u y w q) site span ≡ two_numbers (Value Int z v p) (Value u y w q) span (compared comparison)
+numbers_ordered comparison v w z y u p q site span true is = rw is refl
+numbers_ordered comparison v w z y u p q site span false is = rw is refl
 
--- an order of what aren't pointers of one mode and element is that of two numbers
-pub ordered_parts : (comparison : Comparison) (a b : Typed) (span : Span) → ordered comparison a b span ≡ needs (not (are_comparable_values a b)) E26 span (two_numbers a b span (compared comparison))
-ordered_parts comparison (Value Int z v p) (Value u y w q) span = numbers_ordered comparison v w z y u p q span _ refl
-ordered_parts comparison (Value Char z v p) (Value u y w q) span = numbers_ordered comparison v w z y u p q span _ refl
-ordered_parts comparison (Value (Struct n) z v p) (Value u y w q) span = refl
-ordered_parts comparison (Value (Pointer mode kind target) z v p) (Value u y w q) span = pointers_ordered (are_comparable (Pointer mode kind target) u) refl
+-- an order by whether its operands are pointers of one mode and element
+pub ordered_parts : (comparison : Comparison) (a b : Typed) (site : Site) (span : Span)
+    → ordered comparison a b site span ≡ picked (are_comparable_values a b) (related comparison a b site span) (two_numbers a b span (compared comparison))
+ordered_parts comparison (Value Int z v p) (Value u y w q) site span = numbers_ordered comparison v w z y u p q site span _ refl
+ordered_parts comparison (Value Char z v p) (Value u y w q) site span = numbers_ordered comparison v w z y u p q site span _ refl
+ordered_parts comparison (Value (Struct n) z v p) (Value u y w q) site span = refl
+ordered_parts comparison (Value (Pointer mode kind target) z v p) (Value u y w q) site span = pointers_ordered (are_comparable (Pointer mode kind target) u) refl
   where
-    pointers_ordered : (like : Bool) → are_comparable (Pointer mode kind target) u ≡ like → ordered comparison (Value (Pointer mode kind target) z v p) (Value u y w q) span ≡ needs (not (are_comparable (Pointer mode kind target) u)) E26 span (breaks E13 span)
+    pointers_ordered : (like : Bool) → are_comparable (Pointer mode kind target) u ≡ like → ordered comparison (Value (Pointer mode kind target) z v p) (Value u y w q) site span
+        ≡ picked (are_comparable (Pointer mode kind target) u) (related comparison (Value (Pointer mode kind target) z v p) (Value u y w q) site span) (breaks E13 span)
     pointers_ordered true is = rw is refl
     pointers_ordered false is = rw is refl
-ordered_parts comparison (Value t z v p) (AStruct n q) span = numbers_or_not (is_number t)
+ordered_parts comparison (Value t z v p) (AStruct n q) site span = numbers_or_not (is_number t)
   where
     numbers_or_not : (number : Bool) → breaks {A = Typed} E13 span ≡ needs number E13 span (breaks E13 span)
     numbers_or_not true = refl
     numbers_or_not false = refl
-ordered_parts comparison (AStruct n p) b span = refl
+ordered_parts comparison (AStruct n p) b site span = refl
 
 -- an element by tests of what is indexed
 pub indexed_parts : (a b : Typed) (site : Site) (span : Span) → indexed a b site span

@@ -3,12 +3,12 @@ use Rattle.std.proofs.Common.{◌≡◌, Bool, true, false, not, ◌&&◌, ◌||
 use Rattle.std.specs.Prelude.{is_none}
 use Rattle.ckc_text.specs.declared.place.Span.{Span}
 use Rattle.ckc_text.specs.declared.code.Code.TheVariants.{E13, E17, E18, E19}
-use Rattle.pointer_modes.specs.Types.{CType, Int}
+use Rattle.pointer_modes.specs.Types.{CType, Int, Char, Struct, Pointer}
 use Rattle.ckc_core.specs.declared.program.Site.{Site}
 use Rattle.ckc_core.specs.Meaning.{bounds_of}
 use Rattle.ckc_core.specs.Core as core
 use Rattle.bounds_flow.specs.Flows.{Knowledge}
-use Rattle.act_words.specs.declared.operator.Operator.{Operator}
+use Rattle.ckc_core.specs.declared.program.Direction.{Direction}
 use Rattle.region_typing_rules.specs.Verdicts.{Verdict, Passes, Stops, passing, needs, picked}
 use Rattle.region_typing_rules.specs.Scopes.{Scope, Signature}
 use Rattle.region_typing_rules.specs.Types.{is_number}
@@ -24,21 +24,26 @@ pub number_then : {A : Type 0} (t : Typed) (span : Span) (next : core.Expression
 number_then (Value type null value place) span next = needs_then (is_number type) _ span value next
 number_then (AStruct struct place) span next = refl
 
-update_value : {A : Type 0} (right : Typed) (span : Span) (single unbounded numeric : Bool) (next : core.Expression → Verdict A)
-    → needs (not single) E19 span (needs (not unbounded) E18 span (needs numeric E13 span (number_of right span next)))
-    ≡ passing (needs (not single) E19 span (needs (not unbounded) E18 span (needs numeric E13 span (Passes tt)))) (λ (u : Unit {0}). passing (number_of right span Passes) next)
-update_value right span true unbounded numeric next = refl
-update_value right span false true numeric next = refl
+update_value : {A : Type 0} (right : Typed) (span : Span) (single unbounded scalar : Bool) (next : core.Expression → Verdict A)
+    → needs (not single) E19 span (needs (not unbounded) E18 span (needs scalar E13 span (number_of right span next)))
+    ≡ passing (needs (not single) E19 span (needs (not unbounded) E18 span (needs scalar E13 span (Passes tt)))) (λ (u : Unit {0}). passing (number_of right span Passes) next)
+update_value right span true unbounded scalar next = refl
+update_value right span false true scalar next = refl
 update_value right span false false true next = number_then right span next
 update_value right span false false false next = refl
 
 -- an update as one of its target
-pub updated_parts : (at : Places) (operator : Operator) (left right : Typed) (span : Span) → updated at operator left right span ≡ passing (target_of left span) (λ t. updated_target operator t right (site_at at span) span)
-updated_parts at operator (Value type null value ForNothing) right span = refl
-updated_parts at operator (Value type null value ForArray) right span = refl
-updated_parts at operator (Value type null value (For place)) right span =
-    update_value right span (is_single type || is_single_value right) ((is_row type && is_none (bounds_of value)) || lacks_bounds right) (is_number type) _
-updated_parts at operator (AStruct struct place) right span = refl
+pub updated_parts : (at : Places) (s : Scope) (direction : Direction) (left right : Typed) (span : Span)
+    → updated at s direction left right span ≡ passing (target_of left span) (λ t. updated_target s direction t right (site_at at span) span)
+updated_parts at s direction (Value type zero value ForNothing) right span = refl
+updated_parts at s direction (Value type zero value ForArray) right span = refl
+updated_parts at s direction (Value Int zero value (For place)) right span = update_value right span (is_single_value right) (lacks_bounds right) true _
+updated_parts at s direction (Value Char zero value (For place)) right span = update_value right span (is_single_value right) (lacks_bounds right) true _
+updated_parts at s direction (Value (Struct n) zero value (For place)) right span = update_value right span (is_single_value right) (lacks_bounds right) false _
+updated_parts at s direction (Value (Pointer mode kind target) zero value (For place)) right span =
+    let t : CType = Pointer mode kind target in
+    update_value right span (is_single t || is_single_value right) ((is_row t && is_none (bounds_of value)) || lacks_bounds right) true _
+updated_parts at s direction (AStruct struct place) right span = refl
 
 one_value : {B : Type 0} (v : Verdict core.Expression) (next : core.Arguments → Verdict B) → passing (passing v (λ x. passing (Passes core.Done) (λ others. Passes (core.More x others)))) next ≡ passing v (λ x. next (core.More x core.Done))
 one_value (Passes x) next = refl

@@ -1,5 +1,5 @@
 -- What pointers lead to, by what they are as values.
-use Rattle.std.proofs.Common.{◌≡◌, Option, Some, None, refl}
+use Rattle.std.proofs.Common.{◌≡◌, Some, refl}
 use Rattle.std.specs.Prelude.{is_some}
 use Rattle.ckc_text.specs.declared.place.Span.{Span}
 use Rattle.pointer_modes.specs.declared.ctype.Mode.{Mode}

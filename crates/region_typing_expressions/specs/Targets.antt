@@ -7,14 +7,15 @@ use Rattle.pointer_modes.specs.Types.{CType, ctype}
 use Rattle.ckc_core.specs.declared.program.Site.{Site}
 use Rattle.ckc_core.specs.declared.program.PointerBounds.{PointerBounds}
 use Rattle.ckc_core.specs.Meaning.{bounds_of}
-use Rattle.act_words.specs.declared.operator.Operator.{Operator}
+use Rattle.ckc_core.specs.declared.program.Direction.{Direction}
 use Rattle.ckc_core.specs.Core as core
 use Rattle.ckc_core.specs.Core.{place}
-use Rattle.region_typing_rules.specs.Verdicts.{Verdict, Passes, passing, needs, breaks}
-use Rattle.region_typing_rules.specs.Types.{is_number}
+use Rattle.region_typing_rules.specs.Verdicts.{Verdict, Passes, passing, needs, breaks, picked}
+use Rattle.region_typing_rules.specs.Scopes.{Scope}
+use Rattle.region_typing_rules.specs.Types.{is_scalar, is_pointer}
 use Rattle.region_typing_rules.specs.Expressions.{Typed, Value, AStruct, ForNothing, ForArray, For, Lvalue, OfLocal, OfCell, number_of}
-use Rattle.region_typing_rules.specs.Expressions.{is_single, is_row, is_single_value, lacks_bounds}
-use Rattle.region_typing_rules.specs.Statements.{update}
+use Rattle.region_typing_rules.specs.Expressions.{is_single, is_row, is_single_value, lacks_bounds, operator_along, sum_node}
+use Rattle.region_typing_rules.specs.Statements.{update, moved}
 use Rattle.region_typing_expressions.specs.declared.assignments.Lvalue as code
 use Rattle.region_typing_expressions.specs.declared.assignments.Lvalue.TheVariants as lvalues
 use Rattle.region_typing_expressions.specs.declared.assignments.Target as code_target
@@ -23,14 +24,19 @@ abbrev pub lvalue : code.Lvalue → Lvalue
 lvalue (lvalues.Local local) = OfLocal local
 lvalue (lvalues.Cell cell) = OfCell (place cell)
 
--- a place, its type, and the bounds of what it holds
+-- what a place of a type holds, with bounds at its node
+abbrev pub held : CType → code.Lvalue → Option PointerBounds → core.Expression
+held type (lvalues.Local local) bounds = core.Local local bounds
+held type (lvalues.Cell cell) bounds = core.Load type (place cell) bounds
+
+-- a place, its type, and what it holds
 pub record Target : Type 0 where
   pub type : CType
   pub place : Lvalue
-  pub bounds : Option PointerBounds
+  pub value : core.Expression
 
 abbrev pub target : code_target.Target → Target
-target t = record { type = ctype t.ctype; place = lvalue t.place; bounds = t.bounds }
+target t = record { type = ctype t.ctype; place = lvalue t.place; value = held (ctype t.ctype) t.place t.bounds }
 
 abbrev pub target_on_heap : Box code_target.Target Global → Target
 target_on_heap t = target t.value
@@ -39,20 +45,30 @@ target_on_heap t = target t.value
 abbrev pub target_of : Typed → Span → Verdict Target
 target_of (Value type zero value ForNothing) span = breaks E12 span
 target_of (Value type zero value ForArray) span = breaks E12 span
-target_of (Value type zero value (For place)) span = Passes (record { type = type; place = place; bounds = bounds_of value })
+target_of (Value type zero value (For place)) span = Passes (record { type = type; place = place; value = value })
 target_of (AStruct number place) span = breaks E13 span
 
 -- a pointer whose bounds are unknown
 abbrev pub is_unbounded : Target → Bool
-is_unbounded t = is_row t.type && is_none t.bounds
+is_unbounded t = is_row t.type && is_none (bounds_of t.value)
 
--- the target of an update and what it is updated by are numbers, as far as the target tells (E19, E18, E13)
+-- the target of an update is a number or a pointer with bounds, and what it is updated by is neither a `ptr` nor a pointer
+-- whose bounds are unknown (E19, E18, E13)
 abbrev pub may_update : Target → Typed → Span → Verdict (Unit {0})
 may_update t right span =
     needs (not (is_single t.type || is_single_value right)) E19 span
-    (needs (not (is_unbounded t || lacks_bounds right)) E18 span (needs (is_number t.type) E13 span (Passes tt)))
+    (needs (not (is_unbounded t || lacks_bounds right)) E18 span (needs (is_scalar t.type) E13 span (Passes tt)))
 
--- an update of a place
-abbrev pub updated_target : Operator → Target → Typed → Site → Span → Verdict core.Statement
-updated_target operator t right site span =
-    passing (may_update t right span) (λ (u : Unit {0}). passing (number_of right span Passes) (λ value. Passes (update t.place t.type operator value site)))
+-- a pointer that becomes a sum of it (E18)
+abbrev pub moved_target : Scope → Direction → Target → core.Expression → Site → Span → Verdict core.Statement
+moved_target s direction t value site span = moved t.place (core.Sum t.value direction value site (sum_node s.locals direction t.value value site)) span
+
+-- a pointer is moved, and a number is updated in its place
+abbrev pub update_by : Scope → Direction → Target → core.Expression → Site → Span → Verdict core.Statement
+update_by s direction t value site span =
+    picked (is_pointer t.type) (moved_target s direction t value site span) (Passes (update t.place t.type (operator_along direction) value site))
+
+-- an update of a place by a number (E13)
+abbrev pub updated_target : Scope → Direction → Target → Typed → Site → Span → Verdict core.Statement
+updated_target s direction t right site span =
+    passing (may_update t right span) (λ (u : Unit {0}). passing (number_of right span Passes) (λ value. update_by s direction t value site span))

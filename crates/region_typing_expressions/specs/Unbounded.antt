@@ -10,7 +10,7 @@ use Rattle.region_typing_rules.specs.Expressions.{Places, Typed, site_at, name_t
 
 -- what a name stands for
 abbrev pub name_verdict : Scope → ℕ → Site → Verdict Typed
-name_verdict s name site = passing (named s name) (λ n. Passes (name_typed s.structs n site))
+name_verdict s name site = passing (named s name) (λ n. Passes (name_typed s n site))
 
 -- an element, with the bounds at its node
 abbrev pub element_verdict : Scope → Typed → Typed → Site → Span → Verdict Typed

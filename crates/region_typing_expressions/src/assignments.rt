@@ -12,14 +12,15 @@ ghost use Rattle.region_typing_scope.specs.Answering.{Answers};
 ghost use Rattle.region_typing_scope.specs.Views.{scope as scope_of};
 ghost use Rattle.region_typing_scope.specs.Typed.{typed as inline_typed};
 ghost use Rattle.region_typing_scope.specs.OnHeap.{typed as typed_view, expression as expression_on_heap, statement as statement_on_heap};
-ghost use Rattle.region_typing_expressions.specs.Targets.{target as target_view, target_on_heap, lvalue, target_of as target_in, is_unbounded as is_unbounded_in, may_update as may_update_in, updated_target};
+ghost use Rattle.region_typing_expressions.specs.Targets.{target as target_view, target_on_heap, lvalue, target_of as target_in, is_unbounded as is_unbounded_in, may_update as may_update_in, moved_target as moved_to, update_by as update_in, updated_target};
 
 use crate::expressions::typed;
 use crate::operand_tests::{is_row, is_single, is_single_value, lacks_bounds};
-use act_words::operator::{ArithmeticOperator, Operator};
+use crate::operators::{operator_along, pointer_sum};
+use act_words::operator::Operator;
 use ckc_core::char_cells::has_one_byte;
 use ckc_core::program;
-use ckc_core::program::{CellPlace, PointerBounds, Site, Stmt};
+use ckc_core::program::{CellPlace, Direction, PointerBounds, Site, Stmt};
 use ckc_text::code::Code;
 use ckc_text::fault::NoMemory;
 use ckc_text::place::Span;
@@ -32,7 +33,7 @@ use region_typing_scope::operands::{number, scalar};
 use region_typing_scope::refusals::{CheckError, needs, refusal};
 use region_typing_scope::scope::Scope;
 use region_typing_scope::typed::{Typed, plain};
-use region_typing_scope::types::is_number;
+use region_typing_scope::types::{is_pointer, is_scalar};
 
 /// Where a value may be stored.
 #[derive(Drop)]
@@ -169,39 +170,85 @@ fn may_update(target: &Target, right: &Typed, span: Span) -> Result<(), CheckErr
     needs(!single, Code::E19, span)?;
     let unbounded = is_unbounded(target) || lacks_bounds(right);
     needs(!unbounded, Code::E18, span)?;
-    needs(is_number(&target.ctype), Code::E13, span)
+    needs(is_scalar(&target.ctype), Code::E13, span)
+}
+
+// A pointer in a place becomes a sum of it; in a cell it has no bounds, so it has no sums.
+fn moved(
+    context: &Context,
+    scope: &Scope,
+    direction: Direction,
+    target: Target,
+    number: Box<program::Expr>,
+    site: Site,
+    span: Span,
+) -> Result<Stmt, CheckError>
+    ensures { Answers statement (moved_to (scope_of scope.now) direction (target_view target) (expression number.value) site span) result }
+{
+    let Target { place, bounds, .. } = target;
+    match place {
+        Lvalue::Local(local) => {
+            let pointer = context.boxed(program::Expr::Local { local, bounds })?;
+            let value = pointer_sum(scope, direction, pointer, number, site);
+            Ok(Stmt::SetLocal { local, value })
+        }
+        Lvalue::Cell(_) => Err(refusal(Code::E18, span)),
+    }
+}
+
+// An update of a target by a number.
+fn update_by(
+    context: &Context,
+    scope: &Scope,
+    direction: Direction,
+    target: Target,
+    number: Box<program::Expr>,
+    site: Site,
+    span: Span,
+) -> Result<Stmt, CheckError>
+    ensures { Answers statement (update_in (scope_of scope.now) direction (target_view target) (expression number.value) site span) result }
+{
+    if is_pointer(&target.ctype) {
+        moved(context, scope, direction, target, number, site, span)
+    } else {
+        let operator = operator_along(direction);
+        Ok(update(target, operator, Box::into_inner(number), site))
+    }
 }
 
 // An update of a target.
 fn update_target(
     context: &Context,
-    operator: Operator,
+    scope: &Scope,
+    direction: Direction,
     target: Box<Target>,
     right: Box<Typed>,
     site: Site,
     span: Span,
 ) -> Result<Box<Stmt>, CheckError>
-    ensures { Answers statement_on_heap (updated_target operator (target_on_heap target) (typed_view right) site span) result }
+    ensures { Answers statement_on_heap (updated_target (scope_of scope.now) direction (target_on_heap target) (typed_view right) site span) result }
 {
     may_update(&target, &right, span)?;
-    let value = number(context, right, span)?;
+    let number = number(context, right, span)?;
     let target = Box::into_inner(target);
-    let value = Box::into_inner(value);
-    Ok(context.boxed(update(target, operator, value, site))?)
+    let updated = update_by(context, scope, direction, target, number, site, span)?;
+    Ok(context.boxed(updated)?)
 }
 
 // An update by the rules of the sum or the difference.
 fn updated(
     context: &Context,
-    operator: Operator,
+    scope: &Scope,
+    direction: Direction,
     left: Box<Typed>,
     right: Box<Typed>,
     span: Span,
 ) -> Result<Box<Stmt>, CheckError>
-    ensures { Answers statement_on_heap (updated_of (place_at context.now) operator (typed_view left) (typed_view right) span) result }
+    ensures { Answers statement_on_heap (updated_of (place_at context.now) (scope_of scope.now) direction (typed_view left) (typed_view right) span) result }
 {
     let target = target_of(context, left, span)?;
-    update_target(context, operator, target, right, context.site(span), span)
+    let site = context.site(span);
+    update_target(context, scope, direction, target, right, site, span)
 }
 
 // An assignment by its operator.
@@ -213,33 +260,23 @@ fn stored(
     right: Box<Typed>,
     span: Span,
 ) -> Result<Box<Stmt>, CheckError>
-    ensures { Answers statement_on_heap (stored_of (place_at context.now) (scope_of scope.now).flow operator (typed_view left) (typed_view right) span) result }
+    ensures { Answers statement_on_heap (stored_of (place_at context.now) (scope_of scope.now) operator (typed_view left) (typed_view right) span) result }
 {
     match operator {
         StoreOperator::Set => set_to(context, scope, left, right, span),
-        StoreOperator::Add => updated(
-            context,
-            Operator::Arithmetic(ArithmeticOperator::Add),
-            left,
-            right,
-            span,
-        ),
-        StoreOperator::Subtract => updated(
-            context,
-            Operator::Arithmetic(ArithmeticOperator::Subtract),
-            left,
-            right,
-            span,
-        ),
+        StoreOperator::Add => updated(context, scope, Direction::Forward, left, right, span),
+        StoreOperator::Subtract => {
+            updated(context, scope, Direction::Backward, left, right, span)
+        }
     }
 }
 
-fn step_of(operator: StepOperator) -> Operator
+fn step_of(operator: StepOperator) -> Direction
     ensures { result ≡ step_from operator }
 {
     match operator {
-        StepOperator::Increment => Operator::Arithmetic(ArithmeticOperator::Add),
-        StepOperator::Decrement => Operator::Arithmetic(ArithmeticOperator::Subtract),
+        StepOperator::Increment => Direction::Forward,
+        StepOperator::Decrement => Direction::Backward,
     }
 }
 
@@ -277,7 +314,7 @@ pub fn assignment(
         } => {
             let left = typed(context, scope, target)?;
             let right = one(context)?;
-            updated(context, step_of(*operator), left, right, *span)
+            updated(context, scope, step_of(*operator), left, right, *span)
         }
     }
 }

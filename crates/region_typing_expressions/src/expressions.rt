@@ -83,7 +83,7 @@ fn object_value(
     object: &KnownObject,
     site: Site,
 ) -> Result<Box<Typed>, NoMemory>
-    ensures { IfOk result (λ t. typed_view t ≡ name_typed (scope_of scope.now).structs (object_of object.now.number (ctype_of object.now.ctype.now) object.now.length) site) }
+    ensures { IfOk result (λ t. typed_view t ≡ name_typed (scope_of scope.now) (object_of object.now.number (ctype_of object.now.ctype.now) object.now.length) site) }
 {
     let ctype = copied(context, object.ctype)?;
     let value = match object.length {
@@ -104,7 +104,8 @@ fn named(
 {
     if let Some(local) = scope.local(name) {
         let ctype = copied(context, local.ctype)?;
-        return Ok(context.boxed(at_local(ctype, local.number))?);
+        let value = at_local(&scope.structs, &scope.flow, ctype, local.number, site);
+        return Ok(context.boxed(value)?);
     }
     if let Some(object) = scope.object(name) {
         return Ok(object_value(context, scope, &object, site)?);

@@ -3,15 +3,16 @@
 ghost use Rattle.std.specs.Prelude.{◌≡◌, ◌&&◌};
 ghost use Rattle.pointer_modes.specs.Types.{ctype as ctype_of};
 ghost use Rattle.region_typing_rules.specs.Verdicts.{Passes};
-ghost use Rattle.region_typing_rules.specs.Expressions.{is_single as single_type, is_row as row_type, is_single_value as single_value, lacks_bounds as lacking_bounds, without_ptr as without_ptr_in};
+ghost use Rattle.region_typing_rules.specs.Expressions.{have_one_base as one_base, is_single as single_type, is_row as row_type, is_single_value as single_value, lacks_bounds as lacking_bounds, without_ptr as without_ptr_in};
 ghost use Rattle.region_typing_scope.specs.Answering.{Answers};
 ghost use Rattle.region_typing_scope.specs.Typed.{typed};
-ghost use Rattle.region_typing_expressions.specs.Comparing.{is_number_value as number_value_of, is_pointer_value as pointer_value_of, is_comparable_value, are_comparable_values as comparable_values};
+ghost use Rattle.region_typing_expressions.specs.Comparing.{is_number_value as number_value_of, is_pointer_value as pointer_value_of, is_comparable_value, are_comparable_values as comparable_values, is_row_value as row_value, based_value as based_value_of, are_related_values as related_values};
 
+use bounds_exprs::term::Bounds;
 use ckc_text::code::Code;
 use ckc_text::place::Span;
 use pointer_modes::ctype::{CType, Kind};
-use region_typing_flow::readings::bounds_of;
+use region_typing_flow::readings::{based_bounds, bounds_of, local_bounds};
 use region_typing_scope::refusals::{CheckError, needs};
 use region_typing_scope::typed::Typed;
 use region_typing_scope::types::{are_comparable, is_number, is_pointer};
@@ -135,4 +136,47 @@ pub fn are_comparable_values(left: &Typed, right: &Typed) -> bool
         Typed::Array { ctype, .. } => is_comparable(ctype, right),
         Typed::Struct { .. } => false,
     }
+}
+
+// Whether an expression is a pointer that has its bounds at its node.
+fn is_row_value(t: &Typed) -> bool
+    ensures { result ≡ row_value (typed t.now) }
+{
+    match t {
+        Typed::Value { ctype, .. } => is_row(ctype),
+        Typed::Local { ctype, .. } => is_row(ctype),
+        Typed::Cell { ctype, .. } => is_row(ctype),
+        Typed::Array { ctype, .. } => is_row(ctype),
+        Typed::Struct { .. } => false,
+    }
+}
+
+// The bounds from a base that an expression has.
+fn based_value(t: &Typed) -> Option<Bounds>
+    ensures { result ≡ based_value_of (typed t.now) }
+{
+    match t {
+        Typed::Value { value, .. } => based_bounds(value),
+        Typed::Local { local, bounds, .. } => local_bounds(*local, *bounds),
+        Typed::Cell { .. } | Typed::Array { .. } | Typed::Struct { .. } => None,
+    }
+}
+
+// Whether both bounds count from one base.
+fn have_one_base(a: Option<Bounds>, b: Option<Bounds>) -> bool
+    ensures { result ≡ one_base a b }
+{
+    match (a, b) {
+        (Some(a), Some(b)) => a.base == b.base,
+        _ => false,
+    }
+}
+
+/// Whether two expressions are pointers with bounds that count from one base.
+pub fn are_related_values(left: &Typed, right: &Typed) -> bool
+    ensures { result ≡ related_values (typed left.now) (typed right.now) }
+{
+    is_row_value(left)
+        && is_row_value(right)
+        && have_one_base(based_value(left), based_value(right))
 }

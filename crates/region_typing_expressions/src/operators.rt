@@ -3,18 +3,20 @@
 ghost use Rattle.std.specs.Prelude.{◌≡◌};
 ghost use Rattle.ckc_text.specs.Places.{place_at};
 ghost use Rattle.act_words.specs.declared.operator.Operator.TheVariants as operators;
-ghost use Rattle.ckc_core.specs.Core.{expression, Not};
+ghost use Rattle.ckc_core.specs.Core.{expression, Not, Sum};
 ghost use Rattle.region_typing_rules.specs.Verdicts.{passing};
-ghost use Rattle.region_typing_rules.specs.Expressions.{site_at, number as number_typed, unary_typed as unary_of, binary_typed as binary_of, two_numbers, two_scalars, arithmetic as arithmetic_of, operator_along as operator_in, summed as summed_in, sum_typed, equated as equated_in, ordered as ordered_in};
+ghost use Rattle.region_typing_rules.specs.Expressions.{site_at, sum_node as sum_node_of, number as number_typed, unary_typed as unary_of, binary_typed as binary_of, two_numbers, two_scalars, arithmetic as arithmetic_of, operator_along as operator_in, summed as summed_in, sum_typed, equated as equated_in, ordered as ordered_in};
 ghost use Rattle.region_typing_scope.specs.Answering.{Answers};
 ghost use Rattle.region_typing_scope.specs.OnHeap.{typed};
 ghost use Rattle.region_typing_scope.specs.Operands.{and_also, or_else, operand as operand_view};
 ghost use Rattle.region_typing_scope.specs.Views.{scope as scope_of};
-ghost use Rattle.region_typing_expressions.specs.Comparing.{compared as comparison_of};
+ghost use Rattle.region_typing_expressions.specs.Comparing.{compared as comparison_of, ordered_pointers, related as related_in};
 ghost use Rattle.region_typing_expressions.specs.Moves.{moved as moved_by};
 
 use crate::equality::{equality_of, equated_by};
-use crate::operand_tests::{are_comparable_values, is_pointer_value, without_ptr};
+use crate::operand_tests::{
+    are_comparable_values, are_related_values, is_pointer_value, without_ptr,
+};
 use crate::places::{address, pointed_at};
 use act_words::operator::ArithmeticOperator::{
     Add, Divide, Multiply, Remainder, ShiftLeft, ShiftRight, Subtract,
@@ -29,7 +31,7 @@ use pointer_modes::ctype::CType;
 use region_typing_scope::bounds::sum_node;
 use region_typing_scope::context::Context;
 use region_typing_scope::operands::{Operand, number, scalar, value_of};
-use region_typing_scope::refusals::{CheckError, refusal};
+use region_typing_scope::refusals::{CheckError, needs};
 use region_typing_scope::scope::Scope;
 use region_typing_scope::typed::{Typed, plain};
 
@@ -117,8 +119,8 @@ fn arithmetic(
     operated(context, Operator::Arithmetic(operator), left, right, span)
 }
 
-// The operator that moves so.
-fn operator_along(direction: Direction) -> Operator
+/// The operator that moves so.
+pub fn operator_along(direction: Direction) -> Operator
     ensures { result ≡ operator_in direction }
 {
     match direction {
@@ -127,7 +129,27 @@ fn operator_along(direction: Direction) -> Operator
     }
 }
 
-// A pointer that is moved by a number.
+/// A pointer that is moved by a number, with the bounds that it has then.
+pub fn pointer_sum(
+    scope: &Scope,
+    direction: Direction,
+    pointer: Box<Expr>,
+    number: Box<Expr>,
+    site: Site,
+) -> Expr
+    ensures { expression result ≡ Sum (expression pointer.value) direction (expression number.value) site (sum_node_of (scope_of scope.now).locals direction (expression pointer.value) (expression number.value) site) }
+{
+    let bounds = sum_node(scope.locals.as_slice(), direction, &pointer, &number, site);
+    Expr::Sum {
+        pointer,
+        direction,
+        number,
+        site,
+        bounds,
+    }
+}
+
+// A pointer that is moved by a number, as an expression.
 fn moved(
     context: &Context,
     scope: &Scope,
@@ -144,15 +166,7 @@ fn moved(
         value: pointer,
     } = left;
     let number = number(context, right, span)?;
-    let site = context.site(span);
-    let bounds = sum_node(scope.locals.as_slice(), direction, &pointer, &number, site);
-    let value = Expr::Sum {
-        pointer,
-        direction,
-        number,
-        site,
-        bounds,
-    };
+    let value = pointer_sum(scope, direction, pointer, number, context.site(span));
     Ok(plain(context, ctype, value)?)
 }
 
@@ -260,6 +274,43 @@ fn different(
     numeric(context, Expr::Not(value))
 }
 
+// The order of two pointers.
+fn ordered_pair(
+    context: &Context,
+    comparison: Comparison,
+    left: Box<Typed>,
+    right: Box<Typed>,
+    span: Span,
+) -> Result<Box<Typed>, CheckError>
+    ensures { Answers typed (two_scalars (typed left) (typed right) span (ordered_pointers comparison (site_at (place_at context.now) span))) result }
+{
+    let left = scalar(context, left, span)?;
+    let right = scalar(context, right, span)?;
+    numeric(
+        context,
+        Expr::Order {
+            comparison,
+            left,
+            right,
+            site: context.site(span),
+        },
+    )
+}
+
+// The order of two pointers of one mode and element, which need bounds that count from one base.
+fn related(
+    context: &Context,
+    comparison: Comparison,
+    left: Box<Typed>,
+    right: Box<Typed>,
+    span: Span,
+) -> Result<Box<Typed>, CheckError>
+    ensures { Answers typed (related_in comparison (typed left) (typed right) (site_at (place_at context.now) span) span) result }
+{
+    needs(are_related_values(&left, &right), Code::E26, span)?;
+    ordered_pair(context, comparison, left, right, span)
+}
+
 // How two expressions compare.
 fn ordered(
     context: &Context,
@@ -268,12 +319,13 @@ fn ordered(
     right: Box<Typed>,
     span: Span,
 ) -> Result<Box<Typed>, CheckError>
-    ensures { Answers typed (ordered_in comparison (typed left) (typed right) span) result }
+    ensures { Answers typed (ordered_in comparison (typed left) (typed right) (site_at (place_at context.now) span) span) result }
 {
     if are_comparable_values(&left, &right) {
-        return Err(refusal(Code::E26, span));
+        related(context, comparison, left, right, span)
+    } else {
+        compared(context, comparison, left, right, span)
     }
-    compared(context, comparison, left, right, span)
 }
 
 // How two numbers compare.

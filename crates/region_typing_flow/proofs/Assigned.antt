@@ -2,12 +2,13 @@
 use Rattle.std.proofs.Common.{◌≡◌, ℕ, suc, ◌<◌, List, length, Option, Some, None, refl}
 use Rattle.std.specs.Prelude.{slice_get}
 use Rattle.std.proofs.lemmas.Option.{slice_get_within}
-use Rattle.bounds_flow.specs.Flows.{Knowledge, left, number_assigned, pointer_assigned}
+use Rattle.bounds_flow.specs.Flows.{Knowledge, left, number_assigned}
+use Rattle.pointer_modes.specs.declared.ctype.Kind.{Kind}
 use Rattle.pointer_modes.specs.Types.{CType, Int, Char, Struct, Pointer}
 use Rattle.ckc_core.specs.Core.{Expression}
-use Rattle.region_typing_rules.specs.Readings.{term, behind_local, is_not_null}
-use Rattle.region_typing_rules.specs.Knowing.{moved_from, source, value_assigned, without_locals}
-use Rattle.region_typing_flow.specs.declared.steps.Tracked.TheVariants.{Number, Bounds, Nothing}
+use Rattle.region_typing_rules.specs.Readings.{term}
+use Rattle.region_typing_rules.specs.Knowing.{value_assigned, without_locals}
+use Rattle.region_typing_flow.specs.declared.steps.Tracked.TheVariants.{Number, Bounds}
 use Rattle.region_typing_flow.specs.Views.{tracked}
 
 pub number_set : (o : Option CType) (types : List CType) (local : ℕ) (e : Expression) (f : Knowledge) → Number ≡ tracked o → value_assigned o types local e f ≡ number_assigned local (term types e) f
@@ -17,25 +18,10 @@ number_set (Some (Struct number)) types local e f is = absurd (cc)
 number_set (Some (Pointer mode kind target)) types local e f is = absurd (cc)
 number_set None types local e f is = absurd (cc)
 
-pub bounds_set : (o : Option CType) (types : List CType) (local : ℕ) (e : Expression) (f : Knowledge) → Bounds ≡ tracked o
-    → value_assigned o types local e f ≡ pointer_assigned local (source e) (moved_from local (behind_local types e)) (is_not_null types f e) f
-bounds_set (Some Int) types local e f is = absurd (cc)
-bounds_set (Some Char) types local e f is = absurd (cc)
-bounds_set (Some (Struct number)) types local e f is = absurd (cc)
-bounds_set (Some (Pointer mode kind target)) types local e f is = refl
-bounds_set None types local e f is = absurd (cc)
-
-pub nothing_set : (o : Option CType) (types : List CType) (local : ℕ) (e : Expression) (f : Knowledge) → Nothing ≡ tracked o → value_assigned o types local e f ≡ f
-nothing_set (Some Int) types local e f is = absurd (cc)
-nothing_set (Some Char) types local e f is = refl
-nothing_set (Some (Struct number)) types local e f is = refl
-nothing_set (Some (Pointer mode kind target)) types local e f is = absurd (cc)
-nothing_set None types local e f is = refl
-
 -- a pointer is one of the locals
-pub bounds_below : (types : List CType) (local : ℕ) (o : Option CType) → slice_get types local ≡ o → Bounds ≡ tracked o → local < length types
-bounds_below types local None e is = absurd (cc)
-bounds_below types local (Some t) e is = slice_get_within types local t e
+pub bounds_below : (types : List CType) (local : ℕ) (o : Option CType) (kind : Kind) → slice_get types local ≡ o → Bounds kind ≡ tracked o → local < length types
+bounds_below types local None kind e is = absurd (cc)
+bounds_below types local (Some t) kind e is = slice_get_within types local t e
 
 -- a local more has left its scope
 pub left_more : (x y n m : ℕ) (f g all : Knowledge) → y ≡ suc x → n ≡ suc m → g ≡ left x f → without_locals x n f ≡ all → without_locals y m g ≡ all

@@ -19,7 +19,7 @@ constant_behind local (Some t) = Some (record { local = local; elements = t.plus
 -- what a flow tracks of a local of a type
 abbrev pub tracked : Option CType → Tracked
 tracked (Some Int) = Number
-tracked (Some (Pointer mode kind target)) = Bounds
+tracked (Some (Pointer mode kind target)) = Bounds kind
 tracked (Some Char) = Nothing
 tracked (Some (Struct number)) = Nothing
 tracked None = Nothing

@@ -4,4 +4,5 @@
 pub mod conditions;
 pub mod counts;
 pub mod readings;
+pub mod sources;
 pub mod steps;

@@ -5,24 +5,25 @@ ghost use Rattle.pointer_modes.specs.Types.{ctype as ctype_of};
 ghost use Rattle.ckc_core.specs.declared.program.Site.{Site};
 ghost use Rattle.ckc_core.specs.Core.{Arithmetic, Local, expression as expression_of, statement as statement_of};
 ghost use Rattle.region_typing_rules.specs.Readings.{behind_local as behind_local_of, is_not_null as is_not_null_in};
-ghost use Rattle.region_typing_rules.specs.Knowing.{assigned_by, moved_from, source as source_of, value_assigned, without_locals};
+ghost use Rattle.region_typing_rules.specs.Knowing.{assigned_by, moved_from, value_assigned, without_locals};
 ghost use Rattle.region_typing_flow.specs.Views.{behind, tracked as tracked_by};
 
 use crate::readings::{Behind, behind_local, combined, local_term, pointer_local, term};
+use crate::sources::source;
 use act_words::operator::Operator;
 use bounds_flow::flow::Flow;
 use bounds_flow::steps::Source;
 use ckc_core::program::{Expr, Stmt};
 use ckc_text::fault::NoMemory;
-use pointer_modes::ctype::CType;
+use pointer_modes::ctype::{CType, Kind};
 
 // What a flow tracks of a local.
 #[derive(Clone, Copy)]
 enum Tracked {
     /// Its number: of an `int`.
     Number,
-    /// Its bounds, and whether it is null: of a pointer.
-    Bounds,
+    /// Its bounds, and whether it is null: of a pointer of a kind.
+    Bounds(Kind),
     /// Nothing.
     Nothing,
 }
@@ -33,18 +34,8 @@ fn tracked_of(locals: &[CType], local: u32) -> Tracked
 {
     match locals.get(local as usize) {
         Some(CType::Int) => Tracked::Number,
-        Some(CType::Pointer(..)) => Tracked::Bounds,
+        Some(CType::Pointer(_, kind, _)) => Tracked::Bounds(*kind),
         _ => Tracked::Nothing,
-    }
-}
-
-// What a local pointer is assigned: null, or a pointer of whose bounds nothing is known.
-fn source(value: &Expr) -> Source
-    ensures { result ≡ source_of (expression_of value.now) }
-{
-    match value {
-        Expr::Null => Source::Null,
-        _ => Source::Lost,
     }
 }
 
@@ -89,8 +80,8 @@ fn set(locals: &[CType], local: u32, value: &Expr, flow: &mut Flow) -> Result<()
             let to = term(locals, value);
             flow.assign_int(local, to)
         }
-        Tracked::Bounds => {
-            let from = source(value);
+        Tracked::Bounds(kind) => {
+            let from = source(flow.vars(), kind, flow.declared(local), value);
             let moved = moved(local, behind_local(locals, value));
             let known = is_not_null(locals, flow, value);
             flow.assign_pointer(local, &from, moved, known)
@@ -116,7 +107,7 @@ fn update(
             let to = combined(operator, local_term(locals, local), term(locals, value));
             flow.assign_int(local, to)
         }
-        Tracked::Bounds => flow.assign_pointer(local, &Source::Lost, None, false),
+        Tracked::Bounds(_) => flow.assign_pointer(local, &Source::Lost, None, false),
         Tracked::Nothing => Ok(()),
     }
 }

@@ -18,6 +18,14 @@ use Rattle.region_typing_rules.proofs.Terms.{IsFormedTerm, IsNumberOf}
 pub alike_here : (n : ℕ) (s : State) → IsAlike n s s
 alike_here n s = record { blocks = refl; same = refl; types = λ h. h; tracked = λ x low other. refl }
 
+pub alike_on : (n : ℕ) (r s t : State) → IsAlike n r s → IsAlike n s t → IsAlike n r t
+alike_on n r s t a b = record {
+  blocks = b.blocks ∙ a.blocks;
+  same = b.same ∙ a.same;
+  types = λ h. b.types (a.types h);
+  tracked = λ x low other. b.tracked x low (λ c. other (subst (λ ts. slice_get ts x ≡ Some Char) a.same c)) ∙ a.tracked x low other;
+}
+
 pub types_alike : (structs : List Structure) (n : ℕ) (f : Knowledge) (s : State) → HoldsAlike structs n f s → HaveTypes s.locals
 types_alike structs n f s h = (h s (alike_here n s)).met.types
 

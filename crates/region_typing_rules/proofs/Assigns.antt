@@ -11,10 +11,15 @@ use Rattle.bounds_exprs.specs.declared.term.Term.{Term}
 use Rattle.bounds_exprs.specs.Values.{value as term_number}
 use Rattle.pointer_modes.specs.declared.ctype.Mode.{Mode}
 use Rattle.pointer_modes.specs.declared.ctype.Kind.{Kind}
+use Rattle.pointer_modes.specs.declared.ctype.Kind.TheVariants as kinds
 use Rattle.pointer_modes.specs.Types.{CType, Int, Char, Struct, Pointer, Structure}
 use Rattle.bounds_flow.specs.Flows.{Knowledge, held_at, number_assigned, pointer_assigned}
 use Rattle.bounds_flow.specs.Conditions.{IsFlow}
 use Rattle.bounds_flow_meaning.specs.Holding.{HaveTypes, Holds, numbers_in, target_size, types_of}
+use Rattle.bounds_exprs.specs.declared.term.Bounds.{Bounds}
+use Rattle.bounds_exprs.specs.Normal.{is_same}
+use Rattle.bounds_flow.specs.declared.steps.Source.{Source}
+use Rattle.bounds_flow.specs.declared.steps.Source.TheVariants as sources
 use Rattle.bounds_flow_meaning.specs.Laws.{IsGiven, IsMoved, IsMovedBy, IsPointer, IsTermOf, with_local}
 use Rattle.bounds_flow_meaning.proofs.AllSteps.{flows_hold}
 use Rattle.bounds_flow_meaning.proofs.Numbers.{local_there, found_other, found_same, int_term, same_number, same_types, still_types, type_there}
@@ -24,14 +29,16 @@ use Rattle.ckc_core.specs.Core as core
 use Rattle.ckc_core.specs.States.{Value, Number, Null, At, Cell, Local, State, cell_at, same_type, has_type}
 use Rattle.ckc_core.specs.Steps.{Result, Flow, Next, Broke, Continued, Returned, given, arithmetic_of, is_char, kept_if, set_if, set_local, set_over, pointer_to, store_if, store_over, store_at, leaves_zero, load_at, printed, put, no_result, called}
 use Rattle.ckc_core.specs.Meaning.{Knot, Setting, audit, effect, place, place_from, site_of, target_of, value, values}
-use Rattle.region_typing_rules.specs.Readings.{Behind, term, is_null, pointer_local, known_at, behind_local, is_not_null}
-use Rattle.region_typing_rules.specs.Knowing.{source, moved_from, value_assigned, assigned_by}
+use Rattle.region_typing_rules.specs.Verdicts.{picked}
+use Rattle.region_typing_rules.specs.Readings.{Behind, term, own_bounds, based_bounds, is_null, pointer_local, known_at, behind_local, is_not_null}
+use Rattle.region_typing_rules.specs.Knowing.{are_below, given_from, given_bounds, known_source, source, moved_from, value_assigned, assigned_by}
 use Rattle.region_typing_rules.specs.KnownIsSo.{WhereGiven, IsAlike, HoldsAlike, HasLocals}
 use Rattle.region_typing_rules.proofs.Keeping.{IsAfter, after_here, value_keeps}
 use Rattle.region_typing_rules.proofs.Moving.{AssignsOnly, IsMovedTo, KnotMoves, effect_moves, set_moved}
 use Rattle.region_typing_rules.proofs.Terms.{so_on, so_always, so_both, so_further, audited_so, IsOfTerm, number_is, term_formed, formed_later, term_so}
 use Rattle.region_typing_rules.proofs.Alike.{has_after, has_alike, holds_moved, holds_after, types_alike, number_alike, IsTracked}
 use Rattle.region_typing_rules.proofs.Told.{pointer_is, pointer_so, null_given}
+use Rattle.region_typing_rules.proofs.Given.{IsGivenIf, AreGivenAt, AreGiven, none_given}
 use Rattle.region_typing_rules.proofs.Between.{term_below}
 
 -- a statement that goes on to the next one, of whose state this is so
@@ -46,7 +53,7 @@ OnNext P (Returned v) s = ⊥
 same_Some : {X : Type 0} (x y : X) → Some x ≡ Some y → x ≡ y
 same_Some x y e = cc
 
-set_again : {X : Type 0} (xs : List X) (k : ℕ) (x : X) → slice_get xs k ≡ Some x → slice_set xs k x ≡ xs
+pub set_again : {X : Type 0} (xs : List X) (k : ℕ) (x : X) → slice_get xs k ≡ Some x → slice_set xs k x ≡ xs
 set_again [] k x h = absurd (cc)
 set_again (y ∷ xs) zero x h = ap (λ y. y ∷ xs) (sym (same_Some y x h))
 set_again (y ∷ xs) (suc k) x h = ap (λ xs. y ∷ xs) (set_again xs k x h)
@@ -117,27 +124,56 @@ pub record IsRead (structs : List Structure) (types : List CType) (e : core.Expr
   pub address : is_address e ≡ true → v ≢ Null
   pub moved : IsBehind structs types e v t
 
-source_given : (structs : List Structure) (e : core.Expression) (l : Local) (s : State) → (is_null e ≡ true → l.value ≡ Null) → IsGiven structs (source e) l s
-source_given structs (core.Number number) l s null = tt
-source_given structs core.Null l s null = null refl
-source_given structs (core.Local x bounds) l s null = tt
-source_given structs (core.Load type place bounds) l s null = tt
-source_given structs (core.AddressOf place bounds) l s null = tt
-source_given structs (core.Negate operand site) l s null = tt
-source_given structs (core.Complement operand) l s null = tt
-source_given structs (core.Not operand) l s null = tt
-source_given structs (core.Arithmetic operator left right site) l s null = tt
-source_given structs (core.Compare comparison left right) l s null = tt
-source_given structs (core.Same left right) l s null = tt
-source_given structs (core.AndAlso left right) l s null = tt
-source_given structs (core.OrElse left right) l s null = tt
-source_given structs (core.LowByte operand) l s null = tt
-source_given structs (core.Call callee arguments bounds) l s null = tt
-source_given structs core.NextInput l s null = tt
-source_given structs (core.Sum pointer direction number site bounds) l s null = tt
-source_given structs (core.Order comparison left right site) l s null = tt
-source_given structs (core.Allocate count element bounds) l s null = tt
-source_given structs (core.Cast pointer bounds) l s null = tt
+-- what is given to a pointer is so of it: where it has bounds, they are those at its expression's node or from its declared base
+picked_given : (structs : List Structure) (c : CType) (test : Bool) (a b : Option Bounds) (v : Value) (s : State) → IsGivenIf structs c a v s → IsGivenIf structs c b v s → IsGivenIf structs c (picked test a b) v s
+picked_given structs c true a b v s h k = h
+picked_given structs c false a b v s h k = k
+
+from_given : (structs : List Structure) (c : CType) (base : Option ℕ) (based own : Option Bounds) (v : Value) (s : State) → IsGivenIf structs c own v s → IsGivenIf structs c based v s → IsGivenIf structs c (given_from base based own) v s
+from_given structs c base None own v s h k = h
+from_given structs c base (Some b) own v s h k = picked_given structs c (is_same base b.base) (Some b) own v s k h
+
+bounds_given : (structs : List Structure) (c : CType) (declared : Option Bounds) (e : core.Expression) (v : Value) (s : State) → AreGivenAt structs c e v s → IsGivenIf structs c (given_bounds declared e) v s
+bounds_given structs c None e v s h = h.0
+bounds_given structs c (Some d) e v s h = from_given structs c d.base (based_bounds e) (own_bounds e) v s h.0 h.1
+
+tested_given : (structs : List Structure) (c : CType) (b : Bounds) (test : Bool) (v : Value) (s : State) → IsGivenIf structs c (Some b) v s → IsGiven structs (picked test (sources.Known b) sources.Lost) (record { type = c; value = v }) s
+tested_given structs c b true v s h = h
+tested_given structs c b false v s h = tt
+
+known_given : (structs : List Structure) (vars : ℕ) (c : CType) (o : Option Bounds) (v : Value) (s : State) → IsGivenIf structs c o v s → IsGiven structs (known_source vars o) (record { type = c; value = v }) s
+known_given structs vars c None v s h = tt
+known_given structs vars c (Some b) v s h = tested_given structs c b (are_below vars b) v s h
+
+null_given_by : (structs : List Structure) (test : Bool) (from : Source) (l : Local) (s : State) → (test ≡ true → l.value ≡ Null) → (test ≡ false → IsGiven structs from l s) → IsGiven structs (picked test sources.Null from) l s
+null_given_by structs true from l s null other = null refl
+null_given_by structs false from l s null other = other refl
+
+-- what is read of a value that a pointer of a kind is given
+abbrev pub IsGivenTo : List Structure → ℕ → CType → core.Expression → Value → State → Type 0
+IsGivenTo structs n Int e v s = Unit {0}
+IsGivenTo structs n Char e v s = Unit {0}
+IsGivenTo structs n (Struct number) e v s = Unit {0}
+IsGivenTo structs n (Pointer m kinds.One t) e v s = Unit {0}
+IsGivenTo structs n (Pointer m kinds.Array t) e v s = AreGiven structs n (Pointer m kinds.Array t) e v s
+IsGivenTo structs n (Pointer m kinds.Nt t) e v s = Unit {0}
+
+-- a value without bounds
+none_given_to : (structs : List Structure) (n : ℕ) (c : CType) (e : core.Expression) (v : Value) (s : State) → own_bounds e ≡ None → based_bounds e ≡ None → IsGivenTo structs n c e v s
+none_given_to structs n Int e v s own based = tt
+none_given_to structs n Char e v s own based = tt
+none_given_to structs n (Struct number) e v s own based = tt
+none_given_to structs n (Pointer m kinds.One t) e v s own based = tt
+none_given_to structs n (Pointer m kinds.Array t) e v s own based = none_given structs n (Pointer m kinds.Array t) e v s own based
+none_given_to structs n (Pointer m kinds.Nt t) e v s own based = tt
+
+source_given : (structs : List Structure) (vars n : ℕ) (m : Mode) (kind : Kind) (t : CType) (declared : Option Bounds) (e : core.Expression) (v : Value) (s w : State) → (is_null e ≡ true → v ≡ Null) → IsAlike n s w → IsGivenTo structs n (Pointer m kind t) e v s
+    → IsGiven structs (source vars kind declared e) (record { type = Pointer m kind t; value = v }) w
+source_given structs vars n m kinds.Array t declared e v s w null alike h =
+    null_given_by structs (is_null e) (known_source vars (given_bounds declared e)) (record { type = Pointer m kinds.Array t; value = v }) w null
+    (λ other. known_given structs vars (Pointer m kinds.Array t) (given_bounds declared e) v w (bounds_given structs (Pointer m kinds.Array t) declared e v w (h w alike)))
+source_given structs vars n m kinds.One t declared e v s w null alike h = null_given_by structs (is_null e) sources.Lost (record { type = Pointer m kinds.One t; value = v }) w null (λ other. tt)
+source_given structs vars n m kinds.Nt t declared e v s w null alike h = null_given_by structs (is_null e) sources.Lost (record { type = Pointer m kinds.Nt t; value = v }) w null (λ other. tt)
 
 -- known not to be null
 known_value : (types : List CType) (f : Knowledge) (e : core.Expression) (o : Option ℕ) (v : Value) → known_at f o ≡ true → ((p : ℕ) → o ≡ Some p → (held_at f.held p).known ≡ true → v ≢ Null) → v ≢ Null
@@ -243,17 +279,20 @@ module _ (structs : List Structure) (types : List CType) (f : Knowledge) (flow :
         (before_there (length types) x old v t w there typed alike now) (subst (λ v. has_type old.type v ≡ true) is typed)
         (is_term (term types e) z b held.met.types (has_alike types t b b_alike has) numbers refl) held)
 
-    pointer_set : (mode : Mode) (kind : Kind) (target : CType) → slice_get types x ≡ Some (Pointer mode kind target) → HoldsAlike structs (length types) (pointer_assigned x (source e) (moved_from x (behind_local types e)) (is_not_null types f e) f) (with_local x old v t)
-    pointer_set mode kind target is w alike =
+    pointer_set : (mode : Mode) (kind : Kind) (target : CType) → slice_get types x ≡ Some (Pointer mode kind target) → IsGivenTo structs (length types) (Pointer mode kind target) e v t
+        → HoldsAlike structs (length types) (pointer_assigned x (source f.vars kind (held_at f.held x).declared e) (moved_from x (behind_local types e)) (is_not_null types f e) f) (with_local x old v t)
+    pointer_set mode kind target is given w alike =
+        let from = source f.vars kind (held_at f.held x).declared e in
         let now = there_now w alike (Pointer mode kind target) is (λ q. absurd (cc)) in
         let b = before (length types) x old v t w there typed alike now in
         let b_alike = before_alike (length types) x old v t w there typed alike now in
         let held = h b b_alike in
         let b_there = before_there (length types) x old v t w there typed alike now in
-        subst (λ w. Holds structs (pointer_assigned x (source e) (moved_from x (behind_local types e)) (is_not_null types f e) f) w) (before_back (length types) x old v t w there typed alike now)
-        ((flows_hold structs f flow).assign_pointer x (source e) (moved_from x (behind_local types e)) (is_not_null types f e) b old v b_there
-        (pointer_value mode kind target v (subst (λ c. has_type c v ≡ true) (old_type (Pointer mode kind target) is) typed)) typed
-        (source_given structs e (record old { value = v }) b read.null)
+        let type = old_type (Pointer mode kind target) is in
+        subst (λ w. Holds structs (pointer_assigned x from (moved_from x (behind_local types e)) (is_not_null types f e) f) w) (before_back (length types) x old v t w there typed alike now)
+        ((flows_hold structs f flow).assign_pointer x from (moved_from x (behind_local types e)) (is_not_null types f e) b old v b_there
+        (pointer_value mode kind target v (subst (λ c. has_type c v ≡ true) type typed)) typed
+        (subst (λ c. IsGiven structs from (record { type = c; value = v }) b) (sym type) (source_given structs f.vars (length types) mode kind target (held_at f.held x).declared e v t b read.null b_alike given))
         (moved_read structs types x e (behind_local types e) old v t refl read.moved there)
         (not_null_read types f e v read.address (known b b_alike held))
         ((flows_hold structs f flow).forget x b held))
@@ -264,27 +303,27 @@ module _ (structs : List Structure) (types : List CType) (f : Knowledge) (flow :
             let l = local_there t.locals p it.there.0 (has p it.there.0 it.there.1) in
             λ n. (held.pointers p l.local (b_alike.tracked p it.below (λ c. it.untold (it.there.1 ∙ (sym (has p it.there.0 it.there.1) ∙ c))) ∙ l.there)).known k (read.local p q l.local l.there ∙ n)
 
-    type_set : (c : CType) → slice_get types x ≡ Some c → HoldsAlike structs (length types) (value_assigned (Some c) types x e f) (with_local x old v t)
-    type_set Int is = let z = int_value v (subst (λ c. has_type c v ≡ true) (old_type Int is) typed) in number_set z.0 z.1 is
-    type_set Char is = holds_moved structs (length types) f flow (λ y. y == x) t (with_local x old v t) (set_moved (λ y. y == x) t x old v (itself_equal x) there typed) (char_untracked types x is t has) h
-    type_set (Struct n) is = absurd (struct_value n v (subst (λ c. has_type c v ≡ true) (old_type (Struct n) is) typed))
-    type_set (Pointer mode kind target) is = pointer_set mode kind target is
+    type_set : (c : CType) → slice_get types x ≡ Some c → IsGivenTo structs (length types) c e v t → HoldsAlike structs (length types) (value_assigned (Some c) types x e f) (with_local x old v t)
+    type_set Int is given = let z = int_value v (subst (λ c. has_type c v ≡ true) (old_type Int is) typed) in number_set z.0 z.1 is
+    type_set Char is given = holds_moved structs (length types) f flow (λ y. y == x) t (with_local x old v t) (set_moved (λ y. y == x) t x old v (itself_equal x) there typed) (char_untracked types x is t has) h
+    type_set (Struct n) is given = absurd (struct_value n v (subst (λ c. has_type c v ≡ true) (old_type (Struct n) is) typed))
+    type_set (Pointer mode kind target) is given = pointer_set mode kind target is given
 
   module _ (x : ℕ) (e : core.Expression) (c : CType) (is : slice_get types x ≡ Some c) where
     abbrev Assigned : Flow → State → Type 0
     Assigned flow u = OnNext (HoldsAlike structs (length types) (value_assigned (slice_get types x) types x e f)) flow u
 
-    set_so_if : (v : Value) (t : State) → HasLocals types t → HoldsAlike structs (length types) f t → IsRead structs types e v t → (old : Local) → slice_get t.locals x ≡ Some old → (test : Bool) → has_type old.type v ≡ test → WhereGiven Assigned (set_if test old x v t)
-    set_so_if v t has h read old there true typed =
-        subst (λ o. HoldsAlike structs (length types) (value_assigned o types x e f) (with_local x old v t)) (sym is) (type_set x e v t has h read old there typed c is)
-    set_so_if v t has h read old there false typed = tt
+    set_so_if : (v : Value) (t : State) → HasLocals types t → HoldsAlike structs (length types) f t → IsRead structs types e v t → IsGivenTo structs (length types) c e v t → (old : Local) → slice_get t.locals x ≡ Some old → (test : Bool) → has_type old.type v ≡ test → WhereGiven Assigned (set_if test old x v t)
+    set_so_if v t has h read given old there true typed =
+        subst (λ o. HoldsAlike structs (length types) (value_assigned o types x e f) (with_local x old v t)) (sym is) (type_set x e v t has h read old there typed c is given)
+    set_so_if v t has h read given old there false typed = tt
 
-    set_so_over : (v : Value) (t : State) → HasLocals types t → HoldsAlike structs (length types) f t → IsRead structs types e v t → (o : Option Local) → slice_get t.locals x ≡ o → WhereGiven Assigned (set_over o x v t)
-    set_so_over v t has h read None there = tt
-    set_so_over v t has h read (Some old) there = set_so_if v t has h read old there (has_type old.type v) refl
+    set_so_over : (v : Value) (t : State) → HasLocals types t → HoldsAlike structs (length types) f t → IsRead structs types e v t → IsGivenTo structs (length types) c e v t → (o : Option Local) → slice_get t.locals x ≡ o → WhereGiven Assigned (set_over o x v t)
+    set_so_over v t has h read given None there = tt
+    set_so_over v t has h read given (Some old) there = set_so_if v t has h read given old there (has_type old.type v) refl
 
-    pub set_so : (v : Value) (t : State) → HasLocals types t → HoldsAlike structs (length types) f t → IsRead structs types e v t → WhereGiven Assigned (set_local x v t)
-    set_so v t has h read = set_so_over v t has h read (slice_get t.locals x) refl
+    pub set_so : (v : Value) (t : State) → HasLocals types t → HoldsAlike structs (length types) f t → IsRead structs types e v t → IsGivenTo structs (length types) c e v t → WhereGiven Assigned (set_local x v t)
+    set_so v t has h read given = set_so_over v t has h read given (slice_get t.locals x) refl
 
 -- ---- statements that go on
 
@@ -387,10 +426,10 @@ module _ (audited : Bool) (g : Setting) (k : Knot) (moves : KnotMoves audited g 
   IsLocalOf e v t = (p : ℕ) → pointer_local types e ≡ Some p → (l : Local) → slice_get t.locals p ≡ Some l → l.value ≡ v
 
   -- what is moved, where it is a local pointer plus a constant
-  abbrev pub IsMoving : core.Expression → State → Type 0
-  IsMoving e s = WhereGiven (IsBehind structs types e) (value audited g k e s)
+  abbrev pub IsMoving : CType → core.Expression → State → Type 0
+  IsMoving c e s = WhereGiven (λ v t. IsBehind structs types e v t × IsGivenTo structs (length types) c e v t) (value audited g k e s)
 
-  pub read_so : (e : core.Expression) (s : State) → IsMoving e s → HaveTypes s.locals → HasLocals types s → WhereGiven (λ v t. IsAfter s t × IsRead structs types e v t) (value audited g k e s)
+  pub read_so : (e : core.Expression) (s : State) → WhereGiven (IsBehind structs types e) (value audited g k e s) → HaveTypes s.locals → HasLocals types s → WhereGiven (λ v t. IsAfter s t × IsRead structs types e v t) (value audited g k e s)
   read_so e s moving good has =
       so_further (λ v t. IsAfter s t × (IsOfTerm s.locals (term types e) v × (IsLocalOf e v t × ((is_null e ≡ true → v ≡ Null) × ((is_address e ≡ true → v ≢ Null) × IsBehind structs types e v t))))) (λ v t. IsAfter s t × IsRead structs types e v t) (value audited g k e s)
       (so_both (λ v t. IsAfter s t) (λ v t. IsOfTerm s.locals (term types e) v × (IsLocalOf e v t × ((is_null e ≡ true → v ≡ Null) × ((is_address e ≡ true → v ≢ Null) × IsBehind structs types e v t)))) (value audited g k e s) (value_here e s)
@@ -434,11 +473,14 @@ module _ (audited : Bool) (g : Setting) (k : Knot) (moves : KnotMoves audited g 
   nothing_assigned : (x : core.Statement) → IsPlain types x → AssignsOnly (λ y. false) x → (s : State) → HoldsAlike structs (length types) f s → WhereGiven (OnNext (HoldsAlike structs (length types) f)) (effect audited g k x s)
   nothing_assigned x plain only s h = unchanged (λ y. false) x plain only s (λ y tracked. refl) h
 
-  set_local_so : (x : ℕ) (e : core.Expression) (c : CType) → slice_get types x ≡ Some c → (s : State) → IsMoving e s → HasLocals types s → HoldsAlike structs (length types) f s
+  set_local_so : (x : ℕ) (e : core.Expression) (c : CType) → slice_get types x ≡ Some c → (s : State) → IsMoving c e s → HasLocals types s → HoldsAlike structs (length types) f s
       → WhereGiven (OnNext (HoldsAlike structs (length types) (value_assigned (slice_get types x) types x e f))) (effect audited g k (core.SetLocal x e) s)
   set_local_so x e c is s moving has h =
-      so_on (λ v t. IsAfter s t × IsRead structs types e v t) (OnNext (HoldsAlike structs (length types) (value_assigned (slice_get types x) types x e f))) (value audited g k e s) (set_local x) (read_so e s moving (types_alike structs (length types) f s h) has)
-      (λ v t r. set_so structs types f flow few x e c is v t (has_after types s t r.0 has) (holds_after structs (length types) f s t flow r.0 h) r.1)
+      so_on (λ v t. (IsAfter s t × IsRead structs types e v t) × IsGivenTo structs (length types) c e v t) (OnNext (HoldsAlike structs (length types) (value_assigned (slice_get types x) types x e f))) (value audited g k e s) (set_local x)
+      (so_both (λ v t. IsAfter s t × IsRead structs types e v t) (IsGivenTo structs (length types) c e) (value audited g k e s)
+      (read_so e s (so_further (λ v t. IsBehind structs types e v t × IsGivenTo structs (length types) c e v t) (IsBehind structs types e) (value audited g k e s) moving (λ v t m. m.0)) (types_alike structs (length types) f s h) has)
+      (so_further (λ v t. IsBehind structs types e v t × IsGivenTo structs (length types) c e v t) (IsGivenTo structs (length types) c e) (value audited g k e s) moving (λ v t m. m.1)))
+      (λ v t r. set_so structs types f flow few x e c is v t (has_after types s t r.0.0 has) (holds_after structs (length types) f s t flow r.0.0 h) r.0.1 r.1)
 
   -- an update that keeps no byte is an assignment
   update_is : (x : ℕ) (operator : Operator) (e : core.Expression) (site : Site) (s : State) → effect audited g k (core.UpdateLocal false x operator e site) s ≡ effect audited g k (core.SetLocal x (core.Arithmetic operator (core.Local x None) e site)) s
@@ -452,7 +494,8 @@ module _ (audited : Bool) (g : Setting) (k : Knot) (moves : KnotMoves audited g 
       → WhereGiven (OnNext (HoldsAlike structs (length types) (value_assigned (slice_get types x) types x (core.Arithmetic operator (core.Local x None) e site) f))) (effect audited g k (core.UpdateLocal char x operator e site) s)
   update_so x operator e site c false is fits s has h =
       subst (λ o. WhereGiven (OnNext (HoldsAlike structs (length types) (value_assigned (slice_get types x) types x (core.Arithmetic operator (core.Local x None) e site) f))) o) (sym (update_is x operator e site s))
-      (set_local_so x (core.Arithmetic operator (core.Local x None) e site) c is s (so_always (IsBehind structs types (core.Arithmetic operator (core.Local x None) e site)) (value audited g k (core.Arithmetic operator (core.Local x None) e site) s) (λ v t b q. absurd (cc))) has h)
+      (set_local_so x (core.Arithmetic operator (core.Local x None) e site) c is s (so_always (λ v t. IsBehind structs types (core.Arithmetic operator (core.Local x None) e site) v t × IsGivenTo structs (length types) c (core.Arithmetic operator (core.Local x None) e site) v t) (value audited g k (core.Arithmetic operator (core.Local x None) e site) s)
+      (λ v t. ((λ b q. absurd (cc)), none_given_to structs (length types) c (core.Arithmetic operator (core.Local x None) e site) v t refl refl))) has h)
   update_so x operator e site Char true is fits s has h =
       subst (λ o. WhereGiven (OnNext (HoldsAlike structs (length types) (value_assigned o types x (core.Arithmetic operator (core.Local x None) e site) f))) (effect audited g k (core.UpdateLocal true x operator e site) s)) (sym is)
       (unchanged (λ y. y == x) (core.UpdateLocal true x operator e site) (Char, is, refl) (itself_equal x) s (char_untracked types x is s has) h)
@@ -463,7 +506,7 @@ module _ (audited : Bool) (g : Setting) (k : Knot) (moves : KnotMoves audited g 
   -- of a statement, what it assigns to a pointer
   abbrev pub AreMoving : core.Statement → State → Type 0
   AreMoving core.Nothing s = Unit {0}
-  AreMoving (core.SetLocal local value) s = IsMoving value s
+  AreMoving (core.SetLocal local value) s = (c : CType) → slice_get types local ≡ Some c → IsMoving c value s
   AreMoving (core.Store type place value) s = Unit {0}
   AreMoving (core.UpdateLocal char local operator value site) s = Unit {0}
   AreMoving (core.Update type place operator value site) s = Unit {0}
@@ -481,7 +524,7 @@ module _ (audited : Bool) (g : Setting) (k : Knot) (moves : KnotMoves audited g 
 
   pub plain_so : (x : core.Statement) → IsPlain types x → (s : State) → AreMoving x s → HasLocals types s → HoldsAlike structs (length types) f s → WhereGiven (OnNext (HoldsAlike structs (length types) (assigned_by types x f))) (effect audited g k x s)
   plain_so core.Nothing plain s moving has h = nothing_assigned core.Nothing plain tt s h
-  plain_so (core.SetLocal x e) plain s moving has h = set_local_so x e plain.0 plain.1 s moving has h
+  plain_so (core.SetLocal x e) plain s moving has h = set_local_so x e plain.0 plain.1 s (moving plain.0 plain.1) has h
   plain_so (core.Store type p e) plain s moving has h = nothing_assigned (core.Store type p e) plain tt s h
   plain_so (core.UpdateLocal char x operator e site) plain s moving has h = update_so x operator e site plain.0 char plain.1 plain.2 s has h
   plain_so (core.Update type p operator e site) plain s moving has h = nothing_assigned (core.Update type p operator e site) plain tt s h

@@ -1,38 +1,107 @@
 -- Flows between statements stay such ones.
-use Rattle.std.proofs.Common.{◌≡◌, ℕ, zero, suc, ◌≤◌, Bool, false, List, [], ◌∷◌, length, map, Option, Some, None, refl, sym, ◌∙◌, subst, arith}
-use Rattle.std.specs.Prelude.{slice_get, slice_index_or}
+use Rattle.std.proofs.Common.{◌≡◌, ℕ, zero, suc, ◌+◌, ◌-◌, ◌<◌, ◌≤◌, ℤ, Bool, true, false, cond, List, [], ◌∷◌, length, map, Option, Some, None, refl, sym, ap, ◌∙◌, subst, arith, ◌⊎◌, inl, inr}
+use Rattle.std.specs.Prelude.{◌≢◌, nat_lt, slice_get, slice_set, slice_index_or}
+use Rattle.std.proofs.lemmas.Bool.{cases_eq}
+use Rattle.std.proofs.lemmas.Bool.Decides.{nat_tests}
+use Rattle.std.proofs.lemmas.List.{get_or-set_other}
 use Rattle.std.proofs.lemmas.Option.{slice_get_within}
 use Rattle.ckc_text.specs.declared.place.Span.{Span}
+use Rattle.bounds_exprs.specs.declared.term.Bounds.{Bounds}
 use Rattle.bounds_exprs.specs.declared.term.Term.{Term}
+use Rattle.bounds_exprs.specs.Terms.{is_var}
+use Rattle.bounds_exprs.specs.Changes.{is_named, moved_back}
 use Rattle.subsumption.specs.ClosedTables.{ClosedTable}
+use Rattle.subsumption.specs.Facts.{IsBelow}
+use Rattle.pointer_modes.specs.declared.ctype.Kind.{Kind}
+use Rattle.pointer_modes.specs.declared.ctype.Kind.TheVariants as kinds
 use Rattle.pointer_modes.specs.Types.{CType, Int, Char, Struct, Pointer}
 use Rattle.bounds_flow.specs.declared.held.Held.{Held}
-use Rattle.bounds_flow.specs.Pointers.{after_leaving, fresh, no_pointer}
-use Rattle.bounds_flow.specs.Flows.{Knowledge, held_at, entered, left, at_head, cut_off, met, settled}
+use Rattle.bounds_flow.specs.declared.held.Mark.{Mark}
+use Rattle.bounds_flow.specs.declared.held.Mark.TheVariants as marks
+use Rattle.bounds_flow.specs.declared.steps.Source.{Source}
+use Rattle.bounds_flow.specs.declared.steps.Source.TheVariants as sources
+use Rattle.bounds_flow.specs.Pointers.{after_base, after_leaving, after_number, after_shift, assigned_from, dropped, fresh, is_settled, lost, moved_off, moved_to, no_pointer, same_bounds, settled_pointer, where_bounds, with_declared}
+use Rattle.bounds_flow.specs.Flows.{Knowledge, held_at, entered, left, at_head, cut_off, met, number_held, pointer_assigned, settled}
 use Rattle.bounds_flow.specs.Settling.{Finding, Meets, WasLost, Falls, MeetBelow, finding}
-use Rattle.bounds_flow.specs.Conditions.{IsFlow, IsTermBelow, IsSourceBelow}
+use Rattle.bounds_flow.specs.Conditions.{AreBoundsBelow, AreEndsBelow, IsFlow, IsTermBelow, IsSourceBelow}
 use Rattle.bounds_flow.proofs.FlowSteps.{are_kept}
-use Rattle.bounds_flow_meaning.specs.Holding.{IsSettled}
 use Rattle.bounds_flow_meaning.specs.Laws.{AreBeside}
 use Rattle.bounds_flow_meaning.proofs.Beside.{flows_stay_alike}
 use Rattle.bounds_flow_meaning.proofs.Steps.{each_map, each_put}
-use Rattle.bounds_flow_meaning.proofs.Ways.{leaving}
+use Rattle.bounds_flow_meaning.proofs.Validity.{both_true}
+use Rattle.bounds_flow_meaning.proofs.Ways.{head_at, joined_at, leaving}
 use Rattle.ckc_core.specs.Core as core
-use Rattle.region_typing_rules.specs.Readings.{told, term, behind_local, is_not_null}
-use Rattle.region_typing_rules.specs.Knowing.{source, moved_from, value_assigned, assigned_by, or_later, first_found, settled_as, settling, without_locals, with_way, meeting_others}
-use Rattle.region_typing_rules.specs.KnownIsSo.{IsBetween, AreBetween}
+use Rattle.region_typing_rules.specs.Verdicts.{picked}
+use Rattle.region_typing_rules.specs.Readings.{told, term, behind_local, is_null, is_not_null}
+use Rattle.region_typing_rules.specs.Knowing.{is_below, are_below, given_bounds, known_source, source, moved_from, value_assigned, assigned_by, or_later, first_found, settled_as, settling, without_locals, with_way, with_others}
+use Rattle.region_typing_rules.specs.KnownIsSo.{AreLimitedIf, IsLimited, IsBetween, declared_at, IsOutside, AreBetween}
 use Rattle.region_typing_rules.proofs.Verdicts.{Promises}
 use Rattle.region_typing_rules.proofs.Terms.{term_formed, formed_below}
 use Rattle.region_typing_rules.proofs.Told.{told_here, told_is}
 
-pub beside_of : (vars : ℕ) (f g : Knowledge) → IsBetween vars f → IsBetween vars g → AreBeside f g
-beside_of vars f g a b = record { vars = b.size ∙ sym a.size; declared = λ p. b.declared p ∙ sym (a.declared p) }
+-- ---- limited bounds
+
+limited_if : (test : Bool) (a b : Option Bounds) → AreLimitedIf a → AreLimitedIf b → AreLimitedIf (cond test a b)
+limited_if true a b h k = h
+limited_if false a b h k = k
+
+bare_if : (test : Bool) (a b : Option Bounds) → a ≡ None → b ≡ None → cond test a b ≡ None
+bare_if true a b h k = h
+bare_if false a b h k = k
+
+limited_met : (f g : Knowledge) → length g.held ≡ length f.held → ((p : ℕ) → IsLimited (held_at f.held p)) → (p : ℕ) → IsLimited (held_at (met f g).held p)
+limited_met f g same h p =
+    let k = h p in
+    subst IsLimited (sym (joined_at f.held g.held (sym same) p))
+    (record {
+      declared = k.declared;
+      bounds = limited_if (same_bounds (held_at f.held p).bounds (held_at g.held p).bounds) (held_at f.held p).bounds (held_at f.held p).declared k.bounds k.declared;
+      bare = λ none. bare_if (same_bounds (held_at f.held p).bounds (held_at g.held p).bounds) (held_at f.held p).bounds (held_at f.held p).declared (k.bare none) none;
+    })
+
+limited_same : (h k : Held) → k.declared ≡ h.declared → k.bounds ≡ h.bounds → IsLimited h → IsLimited k
+limited_same h k declared bounds it = record { declared = subst AreLimitedIf (sym declared) it.declared; bounds = subst AreLimitedIf (sym bounds) it.bounds; bare = λ none. bounds ∙ it.bare (sym declared ∙ none) }
+
+limited_reset : (h : Held) → IsLimited h → IsLimited (with_declared h)
+limited_reset h it = record { declared = it.declared; bounds = it.declared; bare = λ none. none }
+
+limited_head : (changed : List ℕ) (f : Knowledge) → ((p : ℕ) → IsLimited (held_at f.held p)) → (p : ℕ) → IsLimited (held_at (at_head changed f).held p)
+limited_head changed f h p =
+    let at = head_at changed f p in
+    record { declared = subst AreLimitedIf (sym at.declared) (h p).declared; bounds = subst AreLimitedIf (sym at.bounds) (h p).declared; bare = λ none. at.bounds ∙ (sym at.declared ∙ none) }
+
+-- ---- declared bounds
+
+-- those of a flow at the same place
+pub outside_beside : (n : ℕ) (f g h : Knowledge) → AreBeside g h → IsOutside n f g → IsOutside n f h
+outside_beside n f g h beside out = record { within = λ p low. beside.declared p ∙ out.within p low; beyond = λ p far. beside.declared p ∙ out.beyond p far }
+
+pub outside_here : (n : ℕ) (f : Knowledge) → ((p : ℕ) → n ≤ p → declared_at f p ≡ None) → IsOutside n f f
+outside_here n f beyond = record { within = λ p low. refl; beyond = beyond }
+
+-- flows of two ways that lead to one place
+pub beside_of : (vars n : ℕ) (f g h : Knowledge) → IsBetween vars g → IsBetween vars h → IsOutside n f g → IsOutside n f h → AreBeside g h
+beside_of vars n f g h a b to_g to_h = record {
+  vars = b.size ∙ sym a.size;
+  declared = λ p. elim (order p) [ inl low ↦ to_h.within p low ∙ sym (to_g.within p low) | inr far ↦ to_h.beyond p far ∙ sym (to_g.beyond p far) ];
+}
+  where
+    order : (p : ℕ) → (p < n) ⊎ (n ≤ p)
+    order p = decided (nat_lt p n) refl
+      where
+        decided : (test : Bool) → nat_lt p n ≡ test → (p < n) ⊎ (n ≤ p)
+        decided true e = inl (grind (arith, nat_tests))
+        decided false e = inr (grind (arith, nat_tests))
 
 same_lengths : (vars : ℕ) (f g : Knowledge) → IsBetween vars f → IsBetween vars g → length g.held ≡ length f.held
 same_lengths vars f g a b = b.flow.variables.pointers ∙ (b.size ∙ (sym a.size ∙ sym a.flow.variables.pointers))
 
-between_by : (vars : ℕ) (f g : Knowledge) → IsBetween vars f → IsFlow g → IsSettled g → AreBeside f g → IsBetween vars g
-between_by vars f g b flow still beside = record { flow = flow; size = beside.vars ∙ b.size; settled = still; declared = λ p. beside.declared p ∙ b.declared p }
+-- ---- flows between statements
+
+pub told_beside : (types : List CType) (vars : ℕ) (e : core.Expression) (truth : Bool) (f : Knowledge) → length types ≤ vars → IsBetween vars f → AreBeside f (told types e truth f)
+told_beside types vars e truth f few b =
+    let t = told_is types f (subst (λ n. length types ≤ n) (sym b.size) few) e truth f (told_here f b.flow) in
+    record { vars = t.tested.vars; declared = t.tested.declared }
 
 pub between_told : (types : List CType) (vars : ℕ) (e : core.Expression) (truth : Bool) (f : Knowledge) → length types ≤ vars → IsBetween vars f → IsBetween vars (told types e truth f)
 between_told types vars e truth f few b =
@@ -41,30 +110,45 @@ between_told types vars e truth f few b =
       flow = t.flow;
       size = t.tested.vars ∙ b.size;
       settled = record { marks = λ p. t.tested.marks p ∙ b.settled.marks p; assigned = λ y. subst (λ xs. slice_index_or xs y false ≡ false) (sym t.tested.assigned) (b.settled.assigned y) };
-      declared = λ p. t.tested.declared p ∙ b.declared p;
+      limited = λ p. limited_same (held_at f.held p) (held_at (told types e truth f).held p) (t.tested.declared p) (t.tested.bounds p) (b.limited p);
     }
 
 pub between_cut : (vars : ℕ) (f : Knowledge) → IsBetween vars f → IsBetween vars (cut_off f)
-between_cut vars f b = between_by vars f (cut_off f) b (are_kept.steps f b.flow).cut ((flows_stay_alike.1 f).cut b.settled) (flows_stay_alike.0 f).cut
+between_cut vars f b = record { flow = (are_kept.steps f b.flow).cut; size = b.size; settled = (flows_stay_alike.1 f).cut b.settled; limited = b.limited }
 
 pub between_head : (vars : ℕ) (changed : List ℕ) (f : Knowledge) → IsBetween vars f → IsBetween vars (at_head changed f)
-between_head vars changed f b =
-    between_by vars f (at_head changed f) b ((are_kept.steps f b.flow).enter_loop changed) ((flows_stay_alike.1 f).enter_loop changed b.settled) ((flows_stay_alike.0 f).enter_loop changed)
+between_head vars changed f b = record {
+  flow = (are_kept.steps f b.flow).enter_loop changed;
+  size = b.size;
+  settled = (flows_stay_alike.1 f).enter_loop changed b.settled;
+  limited = limited_head changed f b.limited;
+}
 
 pub between_met : (vars : ℕ) (f g : Knowledge) → IsBetween vars f → IsBetween vars g → IsBetween vars (met f g)
 between_met vars f g a b =
     let same = same_lengths vars f g a b in
-    between_by vars f (met f g) a ((are_kept.steps f a.flow).join g b.flow (b.size ∙ sym a.size)) ((flows_stay_alike.1 f).join g same a.settled) ((flows_stay_alike.0 f).join g same)
+    record {
+      flow = (are_kept.steps f a.flow).join g b.flow (b.size ∙ sym a.size);
+      size = a.size;
+      settled = (flows_stay_alike.1 f).join g same a.settled;
+      limited = limited_met f g same a.limited;
+    }
 
-abbrev IsNone : ℕ → Held → Type 0
-IsNone q h = h.declared ≡ None
+pub met_beside : (vars : ℕ) (f g : Knowledge) → IsBetween vars f → IsBetween vars g → AreBeside f (met f g)
+met_beside vars f g a b = (flows_stay_alike.0 f).join g (same_lengths vars f g a b)
 
-pub between_entered : (vars x : ℕ) (f : Knowledge) → IsBetween vars f → IsBetween vars (entered x None f)
-between_entered vars x f b = record {
-  flow = (are_kept.steps f b.flow).enter x None tt;
+fresh_limited : (declared : Option Bounds) → AreLimitedIf declared → IsLimited (fresh declared)
+fresh_limited declared h = record { declared = h; bounds = h; bare = λ none. none }
+
+abbrev Limited : ℕ → Held → Type 0
+Limited q h = IsLimited h
+
+pub between_entered : (vars x : ℕ) (declared : Option Bounds) (f : Knowledge) → AreBoundsBelow vars declared → AreLimitedIf declared → IsBetween vars f → IsBetween vars (entered x declared f)
+between_entered vars x declared f below limited b = record {
+  flow = (are_kept.steps f b.flow).enter x declared (subst (λ n. AreBoundsBelow n declared) (sym b.size) below);
   size = b.size;
-  settled = (flows_stay_alike.1 f).enter x None b.settled;
-  declared = each_put IsNone f.held x (fresh None) refl b.declared;
+  settled = (flows_stay_alike.1 f).enter x declared b.settled;
+  limited = each_put Limited f.held x (fresh declared) (fresh_limited declared limited) b.limited;
 }
 
 pub between_left : (vars x : ℕ) (f : Knowledge) → IsBetween vars f → IsBetween vars (left x f)
@@ -72,88 +156,239 @@ between_left vars x f b = record {
   flow = (are_kept.steps f b.flow).leave x;
   size = b.size;
   settled = (flows_stay_alike.1 f).leave x b.settled;
-  declared = each_put IsNone (map (after_leaving x) f.held) x no_pointer refl
-      (each_map IsNone (after_leaving x) refl f.held (λ q. leaving (λ h. h.declared ≡ None) (held_at f.held q) x (b.declared q) (b.declared q)));
+  limited = each_put Limited (map (after_leaving x) f.held) x no_pointer (record { declared = tt; bounds = tt; bare = λ none. refl })
+      (each_map Limited (after_leaving x) refl f.held (λ q. leaving IsLimited (held_at f.held q) x (b.limited q) (limited_reset (held_at f.held q) (b.limited q))));
 }
 
 pub between_without : (vars local count : ℕ) (f : Knowledge) → IsBetween vars f → IsBetween vars (without_locals local count f)
 between_without vars local zero f b = b
 between_without vars local (suc count) f b = between_without vars (suc local) count (left local f) (between_left vars local f b)
 
-pub between_way : (vars : ℕ) (f : Knowledge) (o : Option Knowledge) → IsBetween vars f → AreBetween vars o → IsBetween vars (with_way f o)
-between_way vars f None a b = a
-between_way vars f (Some before) a b = between_met vars before f b a
+-- ---- scopes that begin and end
 
-pub between_others : (vars local count : ℕ) (o : Option Knowledge) (f : Knowledge) → AreBetween vars o → IsBetween vars f → IsBetween vars (meeting_others local count o f)
-between_others vars local count None f b a = a
-between_others vars local count (Some others) f b a = between_met vars f (without_locals local count others) a (between_without vars local count others b)
+pub entered_here : (x : ℕ) (declared : Option Bounds) (f : Knowledge) (b : Bounds) → declared_at (entered x declared f) x ≡ Some b → declared ≡ Some b
+entered_here x declared f b e = by f.held x e
+  where
+    by : (held : List Held) (x : ℕ) → (held_at (slice_set held x (fresh declared)) x).declared ≡ Some b → declared ≡ Some b
+    by [] x e = absurd (cc)
+    by (h ∷ held) zero e = e
+    by (h ∷ held) (suc x) e = by held x e
+
+pub entered_other : (x p : ℕ) (declared : Option Bounds) (f : Knowledge) → p ≢ x → declared_at (entered x declared f) p ≡ declared_at f p
+entered_other x p declared f ne = ap (λ (h : Held). h.declared) (get_or-set_other f.held x p (fresh declared) no_pointer ne)
+
+pub entered_below : (n : ℕ) (declared : Option Bounds) (f : Knowledge) (p : ℕ) → p < n → declared_at (entered n declared f) p ≡ declared_at f p
+entered_below n declared f p low = entered_other n p declared f (λ e. absurd (omega (arith, low, e)))
+
+pub entered_beyond : (n : ℕ) (declared : Option Bounds) (f : Knowledge) → ((p : ℕ) → n ≤ p → declared_at f p ≡ None) → (p : ℕ) → suc n ≤ p → declared_at (entered n declared f) p ≡ None
+entered_beyond n declared f beyond p far = entered_other n p declared f (λ e. absurd (omega (arith, far, e))) ∙ beyond p (omega (arith, far))
+
+pub entered_outside : (n out : ℕ) (declared : Option Bounds) (f h : Knowledge) → out ≤ n → IsOutside out f h → IsOutside out (entered n declared f) h
+entered_outside n out declared f h few o = record {
+  within = λ p low. o.within p low ∙ sym (entered_other n p declared f (λ e. absurd (omega (arith, low, few, e))));
+  beyond = o.beyond;
+}
+
+left_other : (x p : ℕ) (f : Knowledge) → p ≢ x → declared_at (left x f) p ≡ declared_at f p
+left_other x p f ne =
+    ap (λ (h : Held). h.declared) (get_or-set_other (map (after_leaving x) f.held) x p no_pointer no_pointer ne)
+    ∙ each_map (λ q h. h.declared ≡ declared_at f q) (after_leaving x) refl f.held (λ q. leaving (λ h. h.declared ≡ declared_at f q) (held_at f.held q) x refl refl) p
+
+left_none : (x : ℕ) (f : Knowledge) → declared_at (left x f) x ≡ None
+left_none x f = by (map (after_leaving x) f.held) x
+  where
+    by : (held : List Held) (x : ℕ) → (held_at (slice_set held x no_pointer) x).declared ≡ None
+    by [] x = refl
+    by (h ∷ held) zero = refl
+    by (h ∷ held) (suc x) = by held x
+
+-- behind so many locals that left their scopes, none is declared for these
+without_before : (local count p : ℕ) (f : Knowledge) → p < local → declared_at (without_locals local count f) p ≡ declared_at f p
+without_before local zero p f low = refl
+without_before local (suc count) p f low = without_before (suc local) count p (left local f) (omega (arith, low)) ∙ left_other local p f (λ e. absurd (omega (arith, low, e)))
+
+without_kept : (local count p : ℕ) (f : Knowledge) → declared_at f p ≡ None → declared_at (without_locals local count f) p ≡ None
+without_kept local zero p f none = none
+without_kept local (suc count) p f none = without_kept (suc local) count p (left local f) (elim (cases_eq p local) [
+  | inl same ↦ subst (λ p. declared_at (left local f) p ≡ None) (sym same) (left_none local f)
+  | inr ne ↦ left_other local p f ne ∙ none
+])
+
+without_none : (local count p : ℕ) (f : Knowledge) → local ≤ p → p < local + count → declared_at (without_locals local count f) p ≡ None
+without_none local zero p f far low = absurd (omega (arith, far, low))
+without_none local (suc count) p f far low = elim (cases_eq p local) [
+  | inl same ↦ without_kept (suc local) count p (left local f) (subst (λ p. declared_at (left local f) p ≡ None) (sym same) (left_none local f))
+  | inr ne ↦ without_none (suc local) count p (left local f) (more ne) (omega (arith, low))
+]
+  where
+    more : p ≢ local → suc local ≤ p
+    more ne = elim (cases_eq p local) [ inl e ↦ absurd (ne e) | inr other ↦ grind (arith, nat_tests) ]
+
+pub without_outside : (n local : ℕ) (f h : Knowledge) → local ≤ n → ((p : ℕ) → n ≤ p → declared_at h p ≡ None) → ((p : ℕ) → p < local → declared_at h p ≡ declared_at f p) → IsOutside local f (without_locals local (n - local) h)
+without_outside n local f h few beyond same = record {
+  within = λ p low. without_before local (n - local) p h low ∙ same p low;
+  beyond = λ p far. elim (order p) [
+    | inl low ↦ without_none local (n - local) p h far (omega (arith, low, few))
+    | inr out ↦ without_kept local (n - local) p h (beyond p out)
+  ];
+}
+  where
+    order : (p : ℕ) → (p < n) ⊎ (n ≤ p)
+    order p = decided (nat_lt p n) refl
+      where
+        decided : (test : Bool) → nat_lt p n ≡ test → (p < n) ⊎ (n ≤ p)
+        decided true e = inl (grind (arith, nat_tests))
+        decided false e = inr (grind (arith, nat_tests))
+
+-- ---- ways
+
+pub between_way : (vars n : ℕ) (f h : Knowledge) (o : Option Knowledge) → IsBetween vars h → IsOutside n f h → AreBetween vars n f o → AreBetween vars n f (Some (with_way h o))
+between_way vars n f h None a out b = (a, out)
+between_way vars n f h (Some before) a out b = (between_met vars before h b.0 a, outside_beside n f before (met before h) (met_beside vars before h b.0 a) b.1)
+
+pub between_others : (vars n : ℕ) (f h : Knowledge) (o : Option Knowledge) → IsBetween vars h → IsOutside n f h → AreBetween vars n f o → IsBetween vars (with_others o h) × IsOutside n f (with_others o h)
+between_others vars n f h None a out b = (a, out)
+between_others vars n f h (Some others) a out b = (between_met vars h others a b.0, outside_beside n f h (met h others) (met_beside vars h others a b.0) out)
+
+-- the ways are those of a flow in which the same bounds are declared
+pub between_same : (vars n : ℕ) (f g : Knowledge) (o : Option Knowledge) → ((p : ℕ) → p < n → declared_at g p ≡ declared_at f p) → AreBetween vars n f o → AreBetween vars n g o
+between_same vars n f g None same b = tt
+between_same vars n f g (Some h) same b = (b.0, record { within = λ p low. b.1.within p low ∙ sym (same p low); beyond = b.1.beyond })
 
 -- ---- in the midst of an assignment
+
+-- bounds of a pointer to which nothing happened are limited, and so are those that are declared for it
+pub record IsLimitedAmid (h : Held) : Type 0 where
+  pub declared : AreLimitedIf h.declared
+  pub bounds : h.mark ≡ marks.Settled → AreLimitedIf h.bounds
+  pub bare : h.mark ≡ marks.Settled → h.declared ≡ None → h.bounds ≡ None
 
 -- a flow in which declared bounds are as in another one
 pub record IsAmid (f g : Knowledge) : Type 0 where
   pub flow : IsFlow g
   pub beside : AreBeside f g
+  pub limited : (p : ℕ) → IsLimitedAmid (held_at g.held p)
 
-amid_here : (f : Knowledge) → IsFlow f → IsAmid f f
-amid_here f flow = record { flow = flow; beside = record { vars = refl; declared = λ p. refl } }
+amid_limited : (h : Held) → IsLimited h → IsLimitedAmid h
+amid_limited h it = record { declared = it.declared; bounds = λ _. it.bounds; bare = λ _. it.bare }
 
-source_below : (vars : ℕ) (e : core.Expression) → IsSourceBelow vars (source e)
-source_below vars (core.Number number) = tt
-source_below vars core.Null = tt
-source_below vars (core.Local x bounds) = tt
-source_below vars (core.Load type place bounds) = tt
-source_below vars (core.AddressOf place bounds) = tt
-source_below vars (core.Negate operand site) = tt
-source_below vars (core.Complement operand) = tt
-source_below vars (core.Not operand) = tt
-source_below vars (core.Arithmetic operator left right site) = tt
-source_below vars (core.Compare comparison left right) = tt
-source_below vars (core.Same left right) = tt
-source_below vars (core.AndAlso left right) = tt
-source_below vars (core.OrElse left right) = tt
-source_below vars (core.LowByte operand) = tt
-source_below vars (core.Call callee arguments bounds) = tt
-source_below vars core.NextInput = tt
-source_below vars (core.Sum pointer direction number site bounds) = tt
-source_below vars (core.Order comparison left right site) = tt
-source_below vars (core.Allocate count element bounds) = tt
-source_below vars (core.Cast pointer bounds) = tt
+pub amid_here : (vars : ℕ) (f : Knowledge) → IsBetween vars f → IsAmid f f
+amid_here vars f b = record { flow = b.flow; beside = record { vars = refl; declared = λ p. refl }; limited = λ p. amid_limited (held_at f.held p) (b.limited p) }
+
+-- ---- one pointer
+
+moved_amid : (o : Option Bounds) (h : Held) → AreLimitedIf h.declared → IsLimitedAmid (moved_to o h)
+moved_amid None h d = record { declared = d; bounds = λ e. absurd (cc); bare = λ e. absurd (cc) }
+moved_amid (Some b) h d = record { declared = d; bounds = λ e. absurd (cc); bare = λ e. absurd (cc) }
+
+cond_amid : (test : Bool) (h k : Held) → IsLimitedAmid h → IsLimitedAmid k → IsLimitedAmid (cond test h k)
+cond_amid true h k a b = a
+cond_amid false h k a b = b
+
+where_amid : (o : Option Bounds) (test : Bounds → Bool) (change : Bounds → Held) (h : Held) → IsLimitedAmid h → ((b : Bounds) → IsLimitedAmid (change b)) → IsLimitedAmid (where_bounds o test change h)
+where_amid None test change h a each = a
+where_amid (Some b) test change h a each = cond_amid (test b) (change b) h (each b) a
+
+shift_amid : (x : ℕ) (c : ℤ) (h : Held) → IsLimitedAmid h → IsLimitedAmid (after_shift x c h)
+shift_amid x c h a = where_amid h.bounds (is_named x) (λ b. moved_to (moved_back x c b) h) h a (λ b. moved_amid (moved_back x c b) h a.declared)
+
+number_amid : (x : ℕ) (assigned : List Bool) (h : Held) → IsLimitedAmid h → IsLimitedAmid (after_number x assigned h)
+number_amid x assigned h a =
+    where_amid h.bounds (is_named x) (λ b. dropped assigned h) h a
+    (λ b. cond_amid _ (with_declared h) (lost h) (record { declared = a.declared; bounds = λ e. a.declared; bare = λ e none. none }) (record { declared = a.declared; bounds = λ e. tt; bare = λ e none. refl }))
+
+base_amid : (p : ℕ) (moved : Option ℤ) (h : Held) → IsLimitedAmid h → IsLimitedAmid (after_base p moved h)
+base_amid p moved h a = where_amid h.bounds (λ b. is_var p b.base) (λ b. moved_to (moved_off moved b) h) h a (λ b. moved_amid (moved_off moved b) h a.declared)
+
+assigned_one_amid : (p : ℕ) (from : Source) (moved : Option ℤ) (known : Bool) (h : Held) → IsLimitedAmid h → IsLimitedAmid (assigned_from p from moved known h)
+assigned_one_amid p sources.Null moved known h a = record { declared = a.declared; bounds = λ e. absurd (cc); bare = λ e. absurd (cc) }
+assigned_one_amid p sources.Lost moved known h a = record { declared = a.declared; bounds = λ e. absurd (cc); bare = λ e. absurd (cc) }
+assigned_one_amid p (sources.Known b) moved known h a = record { declared = a.declared; bounds = λ e. absurd (cc); bare = λ e. absurd (cc) }
+
+abbrev Amid : ℕ → Held → Type 0
+Amid q h = IsLimitedAmid h
+
+number_all_amid : (x : ℕ) (to : Option Term) (assigned : List Bool) (held : List Held) → ((p : ℕ) → IsLimitedAmid (held_at held p)) → (p : ℕ) → IsLimitedAmid (held_at (number_held x to assigned held) p)
+number_all_amid x None assigned held h p = each_map Amid (after_number x assigned) refl held (λ q. number_amid x assigned (held_at held q) (h q)) p
+number_all_amid x (Some e) assigned held h p = by (is_var x e.var)
+  where
+    by : (test : Bool) → IsLimitedAmid (held_at (cond test (map (after_shift x e.plus) held) (map (after_number x assigned) held)) p)
+    by true = each_map Amid (after_shift x e.plus) refl held (λ q. shift_amid x e.plus (held_at held q) (h q)) p
+    by false = each_map Amid (after_number x assigned) refl held (λ q. number_amid x assigned (held_at held q) (h q)) p
+
+pointer_all_amid : (p : ℕ) (from : Source) (moved : Option ℤ) (known : Bool) (f : Knowledge) → ((p : ℕ) → IsLimitedAmid (held_at f.held p)) → (q : ℕ) → IsLimitedAmid (held_at (pointer_assigned p from moved known f).held q)
+pointer_all_amid p from moved known f h =
+    each_put Amid (map (after_base p moved) f.held) p (assigned_from p from moved known (held_at f.held p)) (assigned_one_amid p from moved known (held_at f.held p) (h p))
+    (each_map Amid (after_base p moved) refl f.held (λ q. base_amid p moved (held_at f.held q) (h q)))
+
+-- ---- what is assigned
+
+low_from : (vars : ℕ) (o : Option ℕ) → is_below vars o ≡ true → IsBelow vars o
+low_from vars None h = tt
+low_from vars (Some x) h = grind (arith, nat_tests)
+
+both_low : (vars : ℕ) (b : Bounds) → are_below vars b ≡ true → AreEndsBelow vars b
+both_low vars b h =
+    let parts = both_true (is_below vars b.lo.var) (is_below vars b.hi.var) h in
+    record { lo = low_from vars b.lo.var parts.0; hi = low_from vars b.hi.var parts.1 }
+
+tested_low : (vars : ℕ) (b : Bounds) (test : Bool) → are_below vars b ≡ test → IsSourceBelow vars (picked test (sources.Known b) sources.Lost)
+tested_low vars b true e = both_low vars b e
+tested_low vars b false e = tt
+
+known_low : (vars : ℕ) (o : Option Bounds) → IsSourceBelow vars (known_source vars o)
+known_low vars None = tt
+known_low vars (Some b) = tested_low vars b (are_below vars b) refl
+
+picked_low : (vars : ℕ) (test : Bool) (from : Source) → IsSourceBelow vars from → IsSourceBelow vars (picked test sources.Null from)
+picked_low vars true from h = tt
+picked_low vars false from h = h
+
+source_below : (vars : ℕ) (kind : Kind) (declared : Option Bounds) (e : core.Expression) → IsSourceBelow vars (source vars kind declared e)
+source_below vars kinds.Array declared e = picked_low vars (is_null e) (known_source vars (given_bounds declared e)) (known_low vars (given_bounds declared e))
+source_below vars kinds.One declared e = picked_low vars (is_null e) sources.Lost tt
+source_below vars kinds.Nt declared e = picked_low vars (is_null e) sources.Lost tt
 
 pub term_below : (types : List CType) (vars : ℕ) (e : core.Expression) (o : Option Term) → term types e ≡ o → length types ≤ vars → IsTermBelow vars o
 term_below types vars e None is few = tt
 term_below types vars e (Some t) is few = formed_below types vars t.var few (term_formed types e t is).int
 
-value_amid : (types : List CType) (f : Knowledge) (x : ℕ) (e : core.Expression) (o : Option CType) → slice_get types x ≡ o → IsFlow f → length types ≤ f.vars → IsAmid f (value_assigned o types x e f)
-value_amid types f x e None is flow few = amid_here f flow
-value_amid types f x e (Some Int) is flow few =
+value_amid : (vars : ℕ) (types : List CType) (f : Knowledge) (x : ℕ) (e : core.Expression) (o : Option CType) → slice_get types x ≡ o → IsBetween vars f → length types ≤ f.vars → IsAmid f (value_assigned o types x e f)
+value_amid vars types f x e None is b few = amid_here vars f b
+value_amid vars types f x e (Some Int) is b few =
     let low = slice_get_within types x Int is in
-    record { flow = (are_kept.steps f flow).assign_int x (term types e) (omega (arith, low, few)) (term_below types f.vars e (term types e) refl few); beside = (flows_stay_alike.0 f).assign_int x (term types e) }
-value_amid types f x e (Some Char) is flow few = amid_here f flow
-value_amid types f x e (Some (Struct number)) is flow few = amid_here f flow
-value_amid types f x e (Some (Pointer mode kind target)) is flow few =
     record {
-      flow = (are_kept.steps f flow).assign_pointer x (source e) (moved_from x (behind_local types e)) (is_not_null types f e) (source_below f.vars e);
-      beside = (flows_stay_alike.0 f).assign_pointer x (source e) (moved_from x (behind_local types e)) (is_not_null types f e);
+      flow = (are_kept.steps f b.flow).assign_int x (term types e) (omega (arith, low, few)) (term_below types f.vars e (term types e) refl few);
+      beside = (flows_stay_alike.0 f).assign_int x (term types e);
+      limited = number_all_amid x (term types e) (slice_set f.assigned x true) f.held (λ p. amid_limited (held_at f.held p) (b.limited p));
+    }
+value_amid vars types f x e (Some Char) is b few = amid_here vars f b
+value_amid vars types f x e (Some (Struct number)) is b few = amid_here vars f b
+value_amid vars types f x e (Some (Pointer mode kind target)) is b few =
+    let from = source f.vars kind (held_at f.held x).declared e in
+    record {
+      flow = (are_kept.steps f b.flow).assign_pointer x from (moved_from x (behind_local types e)) (is_not_null types f e) (source_below f.vars kind (held_at f.held x).declared e);
+      beside = (flows_stay_alike.0 f).assign_pointer x from (moved_from x (behind_local types e)) (is_not_null types f e);
+      limited = pointer_all_amid x from (moved_from x (behind_local types e)) (is_not_null types f e) f (λ p. amid_limited (held_at f.held p) (b.limited p));
     }
 
-pub assigned_amid : (types : List CType) (f : Knowledge) (x : core.Statement) → IsFlow f → length types ≤ f.vars → IsAmid f (assigned_by types x f)
-assigned_amid types f core.Nothing flow few = amid_here f flow
-assigned_amid types f (core.SetLocal local value) flow few = value_amid types f local value (slice_get types local) refl flow few
-assigned_amid types f (core.Store type place value) flow few = amid_here f flow
-assigned_amid types f (core.UpdateLocal char local operator value site) flow few = value_amid types f local (core.Arithmetic operator (core.Local local None) value site) (slice_get types local) refl flow few
-assigned_amid types f (core.Update type place operator value site) flow few = amid_here f flow
-assigned_amid types f (core.Evaluate value) flow few = amid_here f flow
-assigned_amid types f (core.CallAlone callee arguments) flow few = amid_here f flow
-assigned_amid types f (core.Print value) flow few = amid_here f flow
-assigned_amid types f (core.PutByte value) flow few = amid_here f flow
-assigned_amid types f (core.Block statements) flow few = amid_here f flow
-assigned_amid types f (core.If condition consequent alternative) flow few = amid_here f flow
-assigned_amid types f (core.Loop condition body step) flow few = amid_here f flow
-assigned_amid types f (core.Return value) flow few = amid_here f flow
-assigned_amid types f core.ReturnNothing flow few = amid_here f flow
-assigned_amid types f core.Break flow few = amid_here f flow
-assigned_amid types f core.Continue flow few = amid_here f flow
+pub assigned_amid : (vars : ℕ) (types : List CType) (f : Knowledge) (x : core.Statement) → IsBetween vars f → length types ≤ f.vars → IsAmid f (assigned_by types x f)
+assigned_amid vars types f core.Nothing b few = amid_here vars f b
+assigned_amid vars types f (core.SetLocal local value) b few = value_amid vars types f local value (slice_get types local) refl b few
+assigned_amid vars types f (core.Store type place value) b few = amid_here vars f b
+assigned_amid vars types f (core.UpdateLocal char local operator value site) b few = value_amid vars types f local (core.Arithmetic operator (core.Local local None) value site) (slice_get types local) refl b few
+assigned_amid vars types f (core.Update type place operator value site) b few = amid_here vars f b
+assigned_amid vars types f (core.Evaluate value) b few = amid_here vars f b
+assigned_amid vars types f (core.CallAlone callee arguments) b few = amid_here vars f b
+assigned_amid vars types f (core.Print value) b few = amid_here vars f b
+assigned_amid vars types f (core.PutByte value) b few = amid_here vars f b
+assigned_amid vars types f (core.Block statements) b few = amid_here vars f b
+assigned_amid vars types f (core.If condition consequent alternative) b few = amid_here vars f b
+assigned_amid vars types f (core.Loop condition body step) b few = amid_here vars f b
+assigned_amid vars types f (core.Return value) b few = amid_here vars f b
+assigned_amid vars types f core.ReturnNothing b few = amid_here vars f b
+assigned_amid vars types f core.Break b few = amid_here vars f b
+assigned_amid vars types f core.Continue b few = amid_here vars f b
 
 -- ---- settling
 
@@ -180,6 +415,26 @@ settled_promises (Falls asked) f span e = tt
 pub settling_promises : (f : Knowledge) (span : Span) → Promises (IsSettling f) (settling f span)
 settling_promises f span = settled_promises (first_found f.facts f.held) f span refl
 
+settled_limited : (h : Held) → IsLimitedAmid h → IsLimited (settled_pointer h)
+settled_limited h a = record { declared = a.declared; bounds = by h.mark refl; bare = bare h.mark refl }
+  where
+    bare : (mark : Mark) → h.mark ≡ mark → h.declared ≡ None → cond (is_settled mark) h.bounds h.declared ≡ None
+    bare marks.Settled e none = a.bare e none
+    bare marks.Changed e none = none
+    bare marks.Lost e none = none
+    bare marks.WasNull e none = none
+
+    by : (mark : Mark) → h.mark ≡ mark → AreLimitedIf (cond (is_settled mark) h.bounds h.declared)
+    by marks.Settled e = a.bounds e
+    by marks.Changed e = a.declared
+    by marks.Lost e = a.declared
+    by marks.WasNull e = a.declared
+
+pub settled_beside : (f g k : Knowledge) → IsAmid f g → IsSettling g k → AreBeside f k
+settled_beside f g k amid is =
+    subst (AreBeside f) (sym is.is)
+    (record { vars = amid.beside.vars; declared = λ p. (flows_stay_alike.0 g).settle.declared p ∙ amid.beside.declared p })
+
 pub between_settled : (vars : ℕ) (f g k : Knowledge) → IsBetween vars f → IsAmid f g → IsSettling g k → IsBetween vars k
 between_settled vars f g k b amid is =
     subst (IsBetween vars) (sym is.is)
@@ -187,5 +442,5 @@ between_settled vars f g k b amid is =
       flow = (are_kept.steps g amid.flow).settle;
       size = amid.beside.vars ∙ b.size;
       settled = (flows_stay_alike.1 g).settle;
-      declared = λ p. (flows_stay_alike.0 g).settle.declared p ∙ (amid.beside.declared p ∙ b.declared p);
+      limited = each_map Limited settled_pointer refl g.held (λ q. settled_limited (held_at g.held q) (amid.limited q));
     })

@@ -13,12 +13,13 @@ use Rattle.ckc_core.specs.Programs.{Initial}
 use Rattle.ckc_core.specs.States.{Shape, number_at, shape, type_at, object_block}
 use Rattle.ckc_core.specs.Steps.{low_byte}
 use Rattle.ckc_names_rules.specs.declared.given.Given.{Given}
+use Rattle.ckc_text.specs.declared.code.Code.TheVariants.{E13}
 use Rattle.region_typing_rules.specs.Verdicts.{picked}
-use Rattle.region_typing_rules.specs.Items.{negative, unsigned_number, signed_number, strides_of, cell_types, numbered_cells, cells_with, Walked, Missing, Written, Constants, zeros_of, cells_listed, cells_or_break, object_cells, count_of}
+use Rattle.region_typing_rules.specs.Items.{negative, unsigned_number, signed_number, strides_of, cell_types, numbered_cells, cells_with, Walked, Missing, Written, Constants, zeros_of, are_zeros, cells_listed, cells_or_break, object_cells, count_of}
 use Rattle.bounds_flow_meaning.specs.Rows.{Slot, slots, HasRow}
 use Rattle.region_typing_rules.specs.Typed.{IsScalar, AreRows}
 use Rattle.region_typing_rules.specs.Lowerable.{cells_size, IsRoomy}
-use Rattle.region_typing_rules.proofs.Verdicts.{Promises, promised_so, Extends}
+use Rattle.region_typing_rules.proofs.Verdicts.{Promises, needs_promises, promised_so, Extends}
 use Rattle.region_typing_rules.proofs.Layouts.{IsStart, AreCellsOf, AreSmall, IsWalked, behind_cell, scalar_width, bytes_kept, row_kept, strides_whole, cells_row, whole_size, negative_fits, int_of, char_of, zero_cells, written_promises}
 
 abbrev shape_of : List Initial → Shape
@@ -190,6 +191,10 @@ module _ (structs : List Structure) (scalars : (n : ℕ) → AllByRecursion (λ 
   chars_listed [] = tt
   chars_listed (c ∷ cs) = (char_of structs (signed_number c), chars_listed cs)
 
+  nulls_listed : (t : CType) (cs : List SignedConstant) → AreListed t (λ z. pos 0) cs
+  nulls_listed t [] = tt
+  nulls_listed t (c ∷ cs) = (zero_cells structs t scalars, nulls_listed t cs)
+
   one_copy : (t : CType) (cells : List Initial) → AreCellsOf structs t cells → Copies structs t 1 cells
   one_copy t cells is = subst (Copies structs t 1) (append-nil cells) (one_more is no_copy)
 
@@ -203,4 +208,5 @@ module _ (structs : List Structure) (scalars : (n : ℕ) → AllByRecursion (λ 
   object_promises given Int (Some n) (Constants cs) span h = listed_copies Int (λ z. z) n cs span (ints_listed cs h)
   object_promises given Char (Some n) (Constants cs) span h = listed_copies Char low_byte n cs span (chars_listed cs)
   object_promises given (Struct k) (Some n) (Constants cs) span h = tt
-  object_promises given (Pointer m k t) (Some n) (Constants cs) span h = tt
+  object_promises given (Pointer m k t) (Some n) (Constants cs) span h =
+      needs_promises (Copies structs (Pointer m k t) n) (are_zeros cs) E13 span _ (λ zeros. listed_copies (Pointer m k t) (λ z. pos 0) n cs span (nulls_listed (Pointer m k t) cs))

@@ -1,6 +1,6 @@
 -- What is known behind an assignment or a declaration is so, once it is settled.
-use Rattle.std.proofs.Common.{◌≡◌, ℕ, ◌<◌, ◌≤◌, true, false, ◌==◌, List, [], ◌∷◌, length, Option, Some, None, refl, sym, ◌∙◌, subst, arith}
-use Rattle.std.specs.Prelude.{nat_lt}
+use Rattle.std.proofs.Common.{◌≡◌, ℕ, ◌+◌, ◌<◌, ◌≤◌, pos, Bool, true, false, ◌==◌, List, [], ◌∷◌, ◌++◌, length, Option, Some, None, refl, sym, ap, ◌∙◌, subst, arith}
+use Rattle.std.specs.Prelude.{nat_lt, slice_get, slice_set}
 use Rattle.std.proofs.lemmas.Bool.{ltb-true}
 use Rattle.std.proofs.lemmas.Bool.Decides.{nat_tests}
 use Rattle.std.proofs.lemmas.List.{length-append}
@@ -9,36 +9,49 @@ use Rattle.ckc_text.specs.declared.code.Code.TheVariants.{E08, E13}
 use Rattle.ckc_tree.specs.Types.{TypeTree}
 use Rattle.ckc_tree.specs.Statements as s
 use Rattle.ckc_tree.specs.Statements.{Initializer, Declarator, Declaration, Assignment, assignment_span, ForInitial}
-use Rattle.pointer_modes.specs.Types.{CType}
-use Rattle.bounds_flow.specs.Flows.{Knowledge}
-use Rattle.bounds_flow_meaning.specs.Holding.{Fits}
+use Rattle.bounds_exprs.specs.declared.term.Bounds.{Bounds}
+use Rattle.pointer_modes.specs.declared.ctype.Mode.{Mode}
+use Rattle.pointer_modes.specs.declared.ctype.Kind.{Kind}
+use Rattle.pointer_modes.specs.declared.ctype.Kind.TheVariants as kinds
+use Rattle.pointer_modes.specs.Types.{CType, Int, Char, Struct, Pointer, Structure}
+use Rattle.bounds_flow.specs.Flows.{Knowledge, held_at}
+use Rattle.bounds_flow_meaning.specs.Holding.{Fits, IsValid, target_size, types_of}
+use Rattle.bounds_flow_meaning.specs.Laws.{MayDeclare}
 use Rattle.bounds_flow_meaning.proofs.AllSteps.{flows_hold}
+use Rattle.bounds_flow_meaning.proofs.Numbers.{found_same}
+use Rattle.bounds_flow_meaning.proofs.Validity.{null_valid}
 use Rattle.ckc_core.specs.Core as core
-use Rattle.ckc_core.specs.States.{State}
-use Rattle.ckc_core.specs.Steps.{Result, Flow, Next, Broke, Continued, Returned, on_next}
-use Rattle.ckc_core.specs.Meaning.{Knot, Setting, effect, effects, knot}
+use Rattle.ckc_core.specs.Outcome.{Gives, and_then}
+use Rattle.ckc_core.specs.States.{Value, Number, Null, Local, State, has_type}
+use Rattle.ckc_core.specs.Steps.{Result, Flow, Next, Broke, Continued, Returned, on_next, set_if, set_local, set_over}
+use Rattle.ckc_core.specs.Meaning.{Knot, Setting, effect, effects, knot, value}
 use Rattle.region_typing_rules.specs.Scopes.{Scope}
 use Rattle.region_typing_rules.specs.Types.{is_scalar, without_stars, base_type}
 use Rattle.region_typing_rules.specs.Expressions.{Places}
 use Rattle.region_typing_rules.specs.Knowing.{assigned_by, settling, knowing}
-use Rattle.region_typing_rules.specs.Statements.{Walked, both, assignment, assigning, zero_value, with_local, initialised, first_value, declared, declarator, declarators, declaration, optional_step, first_part}
-use Rattle.region_typing_rules.specs.KnownIsSo.{HoldsAlike, FitsAlike, IsKnown, IsWalk, HasLocals}
+use Rattle.region_typing_rules.specs.Statements.{Walked, both, assignment, assigning, zero_value, with_local, initialised, first_value, declared, bounded_local, declarator, declarators, declaration, optional_step, first_part}
+use Rattle.region_typing_rules.specs.DeclaredBounds.{declared_bounds}
+use Rattle.region_typing_rules.specs.DeclaredFormed.{IsFormedIf}
+use Rattle.region_typing_rules.specs.KnownIsSo.{WhereGiven, AreLimited, AreLimitedIf, declared_at, HoldsAlike, FitsAlike, IsKnown, IsDeclared, IsWalk, HasLocals}
+use Rattle.region_typing_rules.proofs.DeclaredBounds.{declared_formed, formed_below}
+use Rattle.region_typing_rules.proofs.Sure.{sure_further}
+use Rattle.region_typing_rules.proofs.Terms.{formed_later, so_both}
 use Rattle.region_typing_rules.proofs.Verdicts.{Promises, passing_promises, needs_promises, both_promise, later_promises, Extends, extends_append, extends_last}
 use Rattle.region_typing_rules.proofs.Moving.{IsMovedTo, KnotMoves, effect_moves, knots_move}
-use Rattle.region_typing_rules.proofs.Alike.{fits_moved}
-use Rattle.region_typing_rules.proofs.Between.{IsAmid, IsSettling, assigned_amid, settling_promises, between_settled}
-use Rattle.region_typing_rules.proofs.Assigns.{OnNext, IsPlain, AreMoving, itself_equal, plain_so}
+use Rattle.region_typing_rules.proofs.Alike.{fits_moved, has_alike}
+use Rattle.region_typing_rules.proofs.Between.{IsAmid, IsSettling, assigned_amid, settling_promises, settled_beside, between_settled}
+use Rattle.region_typing_rules.proofs.Assigns.{OnNext, IsBehind, IsGivenTo, IsPlain, AreMoving, itself_equal, plain_so, set_again}
 use Rattle.region_typing_rules.specs.Typed as typed
-use Rattle.region_typing_rules.specs.Typed.{Frame, IsScalar, IsSimple}
+use Rattle.region_typing_rules.specs.Typed.{Frame, HasType, IsScalar, IsSimple}
 use Rattle.region_typing_rules.proofs.Known.{IsKnown as IsKnownType, base_known, without_known}
-use Rattle.region_typing_rules.proofs.Knowledge.{KnowsFile, Knows}
+use Rattle.region_typing_rules.proofs.Knowledge.{IsPointing, KnowsFile, Knows}
 use Rattle.region_typing_rules.proofs.Growth.{Grows, GrowsTo, declarator_grows, file_known, local_closed}
 use Rattle.region_typing_rules.proofs.Statements.{IsAny, simple_any, zero_typed, assignment_promises, initialised_promises, both_typed, knows_from}
-use Rattle.region_typing_rules.proofs.Soundness.{IsNext, IsKept, Runs, IsKnot, has_locals, runs_further, runs_both, runs_then, simple_runs, behind_so}
+use Rattle.region_typing_rules.proofs.Soundness.{IsNext, IsKept, Runs, IsKnot, has_locals, runs_further, runs_both, runs_then, simple_runs, behind_so, given_to_so}
 use Rattle.std.specs.List.{AllByRecursion}
 use Rattle.ckc_core.specs.States.{shapes}
 use Rattle.region_typing_rules.proofs.Marks.{IsAssignment, IsFirst, target_of, assignment_plain, initialised_plain}
-use Rattle.region_typing_rules.proofs.Ways.{fits_further, walk_knowing, walk_local}
+use Rattle.region_typing_rules.proofs.Ways.{Declares, MayCome, declares_here, declares_knowing, declares_local, declares_on, extends_length, fits_further, walk_knowing, walk_local}
 
 -- ---- what goes on
 
@@ -89,11 +102,12 @@ module _ (frame : Frame) (types : List CType) (all_scalar : AllByRecursion IsSca
     pub breaks : w.1.breaks ≡ g.breaks
     pub continues : w.1.continues ≡ g.continues
     pub more : Extends g.locals w.1.locals
+    pub keeps : Declares g w.1
     pub typed : Reaching w.1 → IsAny frame types all_scalar w.0
     pub runs : Reaching w.1 → (n : ℕ) → Knots n → (low : ℕ) (s : State) → IsAt n low g s → Runs frame budget n low types (Onward (IsKnown frame.structs w.1)) (effect true running (ticking n) w.0 s)
 
   pub nothing_goes : (g : Scope) → IsWalk vars g → GoesOn g (core.Nothing, g)
-  nothing_goes g w = record { walk = w; breaks = refl; continues = refl; more = λ k x e. e; typed = λ reaches. simple_any frame types all_scalar g core.Nothing typed.nothing; runs = λ reaches n knots low s at. ((refl, at.known), at.kept) }
+  nothing_goes g w = record { walk = w; breaks = refl; continues = refl; more = λ k x e. e; keeps = declares_here g; typed = λ reaches. simple_any frame types all_scalar g core.Nothing typed.nothing; runs = λ reaches n knots low s at. ((refl, at.known), at.kept) }
 
   -- behind a settling
   settled_fits : (n : ℕ) (f mid k : Knowledge) (s : State) → IsAmid f mid → IsSettling mid k → HoldsAlike frame.structs n mid s → FitsAlike frame.structs n k s
@@ -104,7 +118,13 @@ module _ (frame : Frame) (types : List CType) (all_scalar : AllByRecursion IsSca
   -- what is assigned to a pointer is so many elements behind a local, where the walk says so
   are_moving : (n low : ℕ) (knots : Knots n) (g : Scope) (w : IsWalk vars g) (reaches : Reaching g) (few : length g.locals ≤ g.flow.vars) {x : core.Statement} → IsSimple frame types g x → (s : State) → IsAt n low g s → AreMoving true running (ticking n) (moving n) frame.structs g.locals g.flow w.between.flow few x s
   are_moving n low knots g w reaches few typed.nothing s at = tt
-  are_moving n low knots g w reaches few (typed.set_local found h) s at = behind_so frame budget n sandbox trusted (ticking n) (knots n (omega arith)) low types g w.between.flow reaches h s (at.known, at.kept)
+  are_moving n low knots g w reaches few (typed.set_local {k = x} {t = t} {e = e} found h) s at = λ c is.
+      so_both (IsBehind frame.structs g.locals e) (IsGivenTo frame.structs (length g.locals) c e) (value true running (ticking n) e s)
+      (behind_so frame budget n sandbox trusted (ticking n) (knots n (omega arith)) low types g w.between.flow reaches h s (at.known, at.kept))
+      (given_to_so frame budget n sandbox trusted (ticking n) (knots n (omega arith)) low types g w.between.flow reaches c (subst (HasType frame types g e) (same_type t c (sym found ∙ reaches x c is)) h) s (at.known, at.kept))
+    where
+      same_type : (a b : CType) → Some a ≡ Some b → a ≡ b
+      same_type a b q = cc
   are_moving n low knots g w reaches few (typed.store scalar place h) s at = tt
   are_moving n low knots g w reaches few (typed.update_local found number char h) s at = tt
   are_moving n low knots g w reaches few (typed.update number place h) s at = tt
@@ -126,12 +146,14 @@ module _ (frame : Frame) (types : List CType) (all_scalar : AllByRecursion IsSca
   -- and once it is settled
   assigned_goes : (g : Scope) → IsWalk vars g → (x : core.Statement) → IsPlain g.locals x → (Reaching g → IsSimple frame types g x) → (k : Knowledge) → IsSettling (assigned_by g.locals x g.flow) k → GoesOn g (x, knowing k g)
   assigned_goes g w x plain simple k is =
-      let amid = assigned_amid g.locals g.flow x w.between.flow (few_vars g w) in
+      let amid = assigned_amid vars g.locals g.flow x w.between (few_vars g w) in
+      let beside = settled_beside g.flow (assigned_by g.locals x g.flow) k amid is in
       record {
-        walk = walk_knowing vars k g (between_settled vars g.flow (assigned_by g.locals x g.flow) k w.between amid is) w;
+        walk = walk_knowing vars k g (between_settled vars g.flow (assigned_by g.locals x g.flow) k w.between amid is) beside w;
         breaks = refl;
         continues = refl;
         more = λ k x e. e;
+        keeps = declares_knowing k g beside;
         typed = λ reaches. simple_any frame types all_scalar g x (simple reaches);
         runs = λ reaches n knots low s at.
             runs_further frame budget n low types (Onward (HoldsAlike frame.structs (length g.locals) (assigned_by g.locals x g.flow))) (Onward (IsKnown frame.structs (knowing k g))) (effect true running (ticking n) x s)
@@ -139,9 +161,20 @@ module _ (frame : Frame) (types : List CType) (all_scalar : AllByRecursion IsSca
             (λ flow t q. (q.0, settled_fits (length g.locals) g.flow (assigned_by g.locals x g.flow) k t amid is q.1));
       }
 
+  -- a pointer whose bounds are in force has elements, and its bounds are limited
+  pointers_known : (g : Scope) → IsWalk vars g → (k : ℕ) (b : Bounds) → (held_at g.flow.held k).bounds ≡ Some b → IsPointing g k b
+  pointers_known g w k b e = by (declared_at g.flow k) refl
+    where
+      limited : AreLimited b
+      limited = subst AreLimitedIf e (w.between.limited k).bounds
+
+      by : (o : Option Bounds) → declared_at g.flow k ≡ o → IsPointing g k b
+      by None none = absurd (let q : None ≡ Some b = sym ((w.between.limited k).bare none) ∙ e in cc)
+      by (Some d) declared = let it = w.declared k d declared in record { mode = it.mode; element = it.element; own = it.own; some = it.some; limited = limited }
+
   -- what is known of the file where a walk stands
   pub knows_here : (g : Scope) → IsWalk vars g → KnowsFile frame g → Reaching g → Knows frame types g
-  knows_here g w file reaches = knows_from frame types all_scalar g file w.between.flow (few_vars g w) reaches
+  knows_here g w file reaches = knows_from frame types all_scalar g file w.between.flow (pointers_known g w) (few_vars g w) reaches
 
   IsAssigned : Scope → Assignment → core.Statement → Type 0
   IsAssigned g a x = IsAssignment g (target_of a) x × (Reaching g → IsSimple frame types g x)
@@ -173,90 +206,220 @@ module _ (frame : Frame) (types : List CType) (all_scalar : AllByRecursion IsSca
 
   -- ---- locals
 
-  -- a local more, before it is set
-  entered_fits : (g : Scope) (name : ℕ) (t : CType) (s : State) → IsWalk vars g → IsKnown frame.structs g s → IsKnown frame.structs (with_local name t g) s
-  entered_fits g name t s w h u alike =
-      (flows_hold frame.structs g.flow w.between.flow).enter_between (length g.locals) None u (record { ints = tt; size = λ c e. tt }) (λ l e. tt)
-      (fits_further frame.structs (length g.locals) (length (with_local name t g).locals) g.flow s (let e = length-append g.locals (t ∷ []) in omega (arith, e)) h u alike)
+  -- ---- bounds of a local
 
   set_spared : (n y : ℕ) → y < n → (y == n) ≡ false
   set_spared n y low = grind (arith, nat_tests)
 
-  module _ (g : Scope) (w : IsWalk vars g) (name : ℕ) (t : CType) (scalar : IsScalar t) (few : length (with_local name t g).locals ≤ vars) where
-    abbrev within : Scope
-    within = with_local name t g
+  -- zero, or null
+  abbrev zero_of : CType → Value
+  zero_of Int = Number (pos 0)
+  zero_of Char = Number (pos 0)
+  zero_of (Struct number) = Null
+  zero_of (Pointer mode kind target) = Null
 
-    inside : IsWalk vars (with_local name t g)
-    inside = walk_local vars name t g w few
+  zero_given : (t : CType) (n : ℕ) (s : State) → IsScalar t → value true running (ticking n) (zero_value t) s ≡ Gives (zero_of t) s
+  zero_given Int n s scalar = refl
+  zero_given Char n s scalar = refl
+  zero_given (Struct number) n s scalar = absurd (cc)
+  zero_given (Pointer mode kind target) n s scalar = refl
+
+  -- a local that is set to it holds it, and setting it again changes nothing
+  abbrev IsZero : ℕ → CType → State → Type 0
+  IsZero k t u = (l : Local) × (slice_get u.locals k ≡ Some l) × (l.value ≡ zero_of t) × (has_type l.type (zero_of t) ≡ true)
+
+  set_zero : (k : ℕ) (t : CType) (s : State) → WhereGiven (λ (flow : Flow) (u : State). IsZero k t u) (set_local k (zero_of t) s)
+  set_zero k t s = over (slice_get s.locals k) refl
+    where
+      on : (old : Local) → slice_get s.locals k ≡ Some old → (test : Bool) → has_type old.type (zero_of t) ≡ test → WhereGiven (λ (flow : Flow) (u : State). IsZero k t u) (set_if test old k (zero_of t) s)
+      on old there true e = (record old { value = zero_of t }, found_same s.locals k old (zero_of t) there, refl, e)
+      on old there false e = tt
+
+      over : (o : Option Local) → slice_get s.locals k ≡ o → WhereGiven (λ (flow : Flow) (u : State). IsZero k t u) (set_over o k (zero_of t) s)
+      over None there = tt
+      over (Some old) there = on old there (has_type old.type (zero_of t)) refl
+
+  zero_set : (k : ℕ) (t : CType) (n : ℕ) (s : State) → IsScalar t → WhereGiven (λ (flow : Flow) (u : State). IsZero k t u) (effect true running (ticking n) (core.SetLocal k (zero_value t)) s)
+  zero_set k t n s scalar = subst (λ o. WhereGiven (λ (flow : Flow) (u : State). IsZero k t u) (and_then o (set_local k))) (sym (zero_given t n s scalar)) (set_zero k t s)
+
+  again : (k : ℕ) (t : CType) (u : State) → IsZero k t u → set_local k (zero_of t) u ≡ Gives Next u
+  again k t u z =
+      let same : record z.0 { value = zero_of t } ≡ z.0 = ap (λ v. record z.0 { value = v }) (sym z.2) in
+      rw (z.1, z.3) (ap (λ ls. Gives Next (record u { locals = ls })) (ap (slice_set u.locals k) same ∙ set_again u.locals k z.0 z.1))
+
+  zero_again : (k : ℕ) (t : CType) (n : ℕ) (u : State) → IsScalar t → IsZero k t u → effect true running (ticking n) (core.SetLocal k (zero_value t)) u ≡ Gives Next u
+  zero_again k t n u scalar z = ap (λ o. and_then o (set_local k)) (zero_given t n u scalar) ∙ again k t u z
+
+  -- bounds may be declared of a local in each state whose locals have their types
+  may_declare : (structs : List Structure) (g : Scope) (t : CType) (declared : Option Bounds) → MayCome vars g.structs g.locals t declared → (z : State) → HasLocals (g.locals ++ t ∷ []) z → MayDeclare frame.structs (types_of z.locals) (length g.locals) declared
+  may_declare structs g t None may z has = record { ints = tt; size = λ c e. tt }
+  may_declare structs g t (Some b) may z has =
+      let it = may.formed b refl in
+      record {
+        ints = record { lo = formed_later (g.locals ++ t ∷ []) z b.lo.var has it.ints.lo; hi = formed_later (g.locals ++ t ∷ []) z b.hi.var has it.ints.hi };
+        size = λ c e q d from there.
+            let base = it.base q from in
+            let d_is : d ≡ Pointer it.mode base.0 it.element = same_some d _ (sym there ∙ has q (Pointer it.mode base.0 it.element) base.1) in
+            let c_is : c ≡ Pointer it.mode kinds.Array it.element = same_some c _ (sym e ∙ has (length g.locals) (Pointer it.mode kinds.Array it.element) it.own) in
+            ap (target_size frame.structs) d_is ∙ sym (ap (target_size frame.structs) c_is);
+      }
+    where
+      same_some : (a b : CType) → Some a ≡ Some b → a ≡ b
+      same_some a b q = cc
+
+  -- a local more, which is zero or null
+  entered_fits : (g : Scope) (name : ℕ) (t : CType) (declared : Option Bounds) (u : State) → IsWalk vars g → MayCome vars g.structs g.locals t declared → HasLocals (g.locals ++ t ∷ []) u → IsZero (length g.locals) t u → IsKnown frame.structs g u
+      → IsKnown frame.structs (with_local name t declared g) u
+  entered_fits g name t declared u w may has zero h z alike =
+      (flows_hold frame.structs g.flow w.between.flow).enter_between (length g.locals) declared z (may_declare frame.structs g t declared may z (has_alike (g.locals ++ t ∷ []) u z alike has)) (valid declared may)
+      (fits_further frame.structs (length g.locals) (length (with_local name t declared g).locals) g.flow u (let e = longer in omega (arith, e)) h z alike)
+    where
+      longer : length (g.locals ++ t ∷ []) ≡ length g.locals + 1
+      longer = length-append g.locals (t ∷ [])
+
+      other : (o : Option CType) (c : CType) → o ≡ Some c → (c ≡ Char → ⊥) → o ≡ Some Char → ⊥
+      other o c e apart q = apart (same_some c Char (sym e ∙ q))
+        where
+          same_some : (a b : CType) → Some a ≡ Some b → a ≡ b
+          same_some a b q = cc
+
+      null_of : (m : Mode) (k : Kind) (c : CType) → t ≡ Pointer m k c → zero_of t ≡ Null
+      null_of m k c e = ap zero_of e
+
+      valid : (o : Option Bounds) → MayCome vars g.structs g.locals t o → (l : Local) → slice_get z.locals (length g.locals) ≡ Some l → IsValid frame.structs o l z
+      valid None may l there = tt
+      valid (Some b) may l there =
+          let it = may.formed b refl in
+          let type : t ≡ Pointer it.mode kinds.Array it.element = same_some t _ (sym (extends_last g.locals t) ∙ it.own) in
+          let low : length g.locals < length (with_local name t declared g).locals = (let e = longer in omega (arith, e)) in
+          let same = alike.tracked (length g.locals) low (other (slice_get (types_of u.locals) (length g.locals)) (Pointer it.mode kinds.Array it.element) (has (length g.locals) (Pointer it.mode kinds.Array it.element) it.own) (λ q. absurd (cc))) in
+          let l_is : zero.0 ≡ l = same_local zero.0 l (sym zero.1 ∙ (sym same ∙ there)) in
+          null_valid frame.structs (Some b) l z (ap (λ (l : Local). l.value) (sym l_is) ∙ (zero.2 ∙ null_of it.mode kinds.Array it.element type))
+        where
+          same_some : (a b : CType) → Some a ≡ Some b → a ≡ b
+          same_some a b q = cc
+
+          same_local : (a b : Local) → Some a ≡ Some b → a ≡ b
+          same_local a b q = cc
+
+  -- ---- locals
+
+  module _ (g : Scope) (w : IsWalk vars g) (name : ℕ) (t : CType) (bounds : Option Bounds) (may : MayCome vars g.structs g.locals t bounds) (scalar : IsScalar t) (few : length (with_local name t bounds g).locals ≤ vars) where
+    abbrev within : Scope
+    within = with_local name t bounds g
+
+    inside : IsWalk vars (with_local name t bounds g)
+    inside = walk_local vars name t bounds g may w few
 
     abbrev zero : core.Statement
     zero = core.SetLocal (length g.locals) (zero_value t)
 
-    zero_simple : Reaching within → IsSimple frame types within zero
-    zero_simple reaches = typed.set_local (reaches (length g.locals) t (extends_last g.locals t)) (zero_typed frame types all_scalar within t scalar)
+    before : Reaching within → Reaching g
+    before reaches k x e = reaches k x (extends_append g.locals (t ∷ []) k x e)
+
+    zero_in : (here : Scope) → Reaching within → IsSimple frame types here zero
+    zero_in here reaches = typed.set_local (reaches (length g.locals) t (extends_last g.locals t)) (zero_typed frame types all_scalar here t scalar)
 
     zero_plain : IsPlain within.locals zero
     zero_plain = (t, extends_last g.locals t)
 
+    -- what is known once the local is zero or null, and once that counts as assigned
+    abbrev IsEntered : State → Type 0
+    IsEntered u = IsKnown frame.structs within u × HoldsAlike frame.structs (length within.locals) (assigned_by within.locals zero within.flow) u
+
+    set_again_so : (n : ℕ) → Knots n → (low : ℕ) (u : State) → Reaching within → IsZero (length g.locals) t u → IsAt n low within u → HoldsAlike frame.structs (length within.locals) (assigned_by within.locals zero within.flow) u
+    set_again_so n knots low u reaches z at =
+        subst (WhereGiven (OnNext (HoldsAlike frame.structs (length within.locals) (assigned_by within.locals zero within.flow)))) (zero_again (length g.locals) t n u scalar z)
+        (plain_so true running (ticking n) (moving n) frame.structs within.locals within.flow inside.between.flow (few_vars within inside) zero zero_plain u
+        (are_moving n low knots within inside reaches (few_vars within inside) (zero_in within reaches) u at) (has_of n low within u reaches at.kept) (λ z alike. (at.known z alike).holds))
+
     -- the local is set to zero or null
-    zero_goes : Reaching within → (n : ℕ) → Knots n → (low : ℕ) (s : State) → IsAt n low g s → Runs frame budget n low types (Onward (IsKnown frame.structs within)) (effect true running (ticking n) zero s)
+    zero_goes : Reaching within → (n : ℕ) → Knots n → (low : ℕ) (s : State) → IsAt n low g s → Runs frame budget n low types (Onward IsEntered) (effect true running (ticking n) zero s)
     zero_goes reaches n knots low s at =
-        runs_further frame budget n low types (λ flow u. IsNext flow u × IsMovedTo (λ y. y == length g.locals) s u) (Onward (IsKnown frame.structs within)) (effect true running (ticking n) zero s)
-        (runs_both frame budget n low types IsNext (λ (flow : Flow) (u : State). IsMovedTo (λ y. y == length g.locals) s u) (effect true running (ticking n) zero s)
-        (simple_runs frame budget n sandbox trusted (ticking n) (knots n (omega arith)) low types within inside.between.flow reaches (zero_simple reaches) s (entered_fits g name t s w at.known, at.kept))
-        (effect_moves true running (ticking n) (moving n) (λ y. y == length g.locals) zero s (itself_equal (length g.locals))))
-        (λ flow u k. (k.0, entered_fits g name t u w (fits_moved frame.structs (length g.locals) g.flow w.between.flow (λ y. y == length g.locals) s u k.1 (λ y tracked. set_spared (length g.locals) y tracked.0) at.known)))
+        sure_further (λ flow u. (IsNext flow u × (IsMovedTo (λ y. y == length g.locals) s u × IsZero (length g.locals) t u)) × IsKept frame budget n low types u) (λ flow u. Onward IsEntered flow u × IsKept frame budget n low types u) (effect true running (ticking n) zero s)
+        (runs_both frame budget n low types IsNext (λ (flow : Flow) (u : State). IsMovedTo (λ y. y == length g.locals) s u × IsZero (length g.locals) t u) (effect true running (ticking n) zero s)
+        (simple_runs frame budget n sandbox trusted (ticking n) (knots n (omega arith)) low types g w.between.flow (before reaches) (zero_in g reaches) s (at.known, at.kept))
+        (so_both (λ (flow : Flow) (u : State). IsMovedTo (λ y. y == length g.locals) s u) (λ (flow : Flow) (u : State). IsZero (length g.locals) t u) (effect true running (ticking n) zero s)
+        (effect_moves true running (ticking n) (moving n) (λ y. y == length g.locals) zero s (itself_equal (length g.locals))) (zero_set (length g.locals) t n s scalar)))
+        (λ flow u k.
+        let known = fits_moved frame.structs (length g.locals) g.flow w.between.flow (λ y. y == length g.locals) s u k.0.1.0 (λ y tracked. set_spared (length g.locals) y tracked.0) at.known in
+        let entered = entered_fits g name t bounds u w may (has_of n low within u reaches k.1) k.0.1.1 known in
+        ((k.0.0, (entered, set_again_so n knots low u reaches k.0.1.1 (record { kept = k.1; known = entered }))), k.1))
 
     -- the assignment that a declaration is, and what is left to do behind the zero
     declared_runs : (o : Option Initializer) (initial : core.Statement) → IsFirst within.locals (length g.locals) o initial → (reaches : Reaching within) → IsSimple frame types within initial → (n : ℕ) → Knots n → (low : ℕ) (s : State) → IsAt n low g s
         → Runs frame budget n low types (Onward (HoldsAlike frame.structs (length within.locals) (assigned_by within.locals (first_value o initial (length g.locals) t) within.flow))) (effect true running (ticking n) (both zero initial) s)
     declared_runs None initial first reaches simple n knots low s at =
-        both_runs n low Q Q zero initial s (simple_goes within inside zero zero_plain reaches (zero_simple reaches) n knots low s (record { kept = at.kept; known = entered_fits g name t s w at.known }))
-        (λ u kept q. subst (λ x. Runs frame budget n low types (Onward Q) (effect true running (ticking n) x u)) (sym (first.none refl)) ((refl, q), kept))
+        both_runs n low IsEntered Q zero initial s (zero_goes reaches n knots low s at)
+        (λ u kept q. subst (λ x. Runs frame budget n low types (Onward Q) (effect true running (ticking n) x u)) (sym (first.none refl)) ((refl, q.1), kept))
       where
         Q : State → Type 0
         Q u = HoldsAlike frame.structs (length within.locals) (assigned_by within.locals zero within.flow) u
     declared_runs (Some i) initial first reaches simple n knots low s at =
-        both_runs n low (IsKnown frame.structs within) (λ u. HoldsAlike frame.structs (length within.locals) (assigned_by within.locals initial within.flow) u) zero initial s (zero_goes reaches n knots low s at)
-        (λ u kept known. simple_goes within inside initial first.plain reaches simple n knots low u (record { kept = kept; known = known }))
+        both_runs n low IsEntered (λ u. HoldsAlike frame.structs (length within.locals) (assigned_by within.locals initial within.flow) u) zero initial s (zero_goes reaches n knots low s at)
+        (λ u kept entered. simple_goes within inside initial first.plain reaches simple n knots low u (record { kept = kept; known = entered.0 }))
 
     declared_goes : (o : Option Initializer) (span : Span) (initial : core.Statement) → IsFirst within.locals (length g.locals) o initial → (Reaching within → IsSimple frame types within initial) → Promises (GoesOn g) (declared within o t (length g.locals) span initial)
     declared_goes o span initial first simple =
         let value = first_value o initial (length g.locals) t in
         let mid = assigned_by within.locals value within.flow in
-        let amid = assigned_amid within.locals within.flow value inside.between.flow (few_vars within inside) in
+        let amid = assigned_amid vars within.locals within.flow value inside.between (few_vars within inside) in
         passing_promises (IsSettling mid) (GoesOn g) (settling mid span) _ (settling_promises mid span)
-        (λ k is. record {
-          walk = walk_knowing vars k within (between_settled vars within.flow mid k inside.between amid is) inside;
+        (λ k is.
+        let beside = settled_beside within.flow mid k amid is in
+        record {
+          walk = walk_knowing vars k within (between_settled vars within.flow mid k inside.between amid is) beside inside;
           breaks = refl;
           continues = refl;
           more = extends_append g.locals (t ∷ []);
-          typed = λ reaches. both_typed frame types all_scalar zero initial (simple_any frame types all_scalar within zero (zero_simple reaches)) (simple_any frame types all_scalar within initial (simple reaches));
+          keeps = declares_on g within (knowing k within) (let e = length-append g.locals (t ∷ []) in omega (arith, e)) (declares_local name t bounds g) (declares_knowing k within beside);
+          typed = λ reaches. both_typed frame types all_scalar zero initial (simple_any frame types all_scalar within zero (zero_in within reaches)) (simple_any frame types all_scalar within initial (simple reaches));
           runs = λ reaches n knots low s at.
               runs_further frame budget n low types (Onward (HoldsAlike frame.structs (length within.locals) mid)) (Onward (IsKnown frame.structs (knowing k within))) (effect true running (ticking n) (both zero initial) s)
               (declared_runs o initial first reaches (simple reaches) n knots low s at)
               (λ flow u q. (q.0, settled_fits (length within.locals) within.flow mid k u amid is q.1));
         })
 
-  known_inside : (g : Scope) (name : ℕ) (t : CType) → IsKnownType g.structs t → KnowsFile frame g → KnowsFile frame (with_local name t g)
-  known_inside g name t known_t file =
-      record { structs = file.structs; closed = local_closed name t g known_t file.closed; few_members = file.few_members; scalar_members = file.scalar_members; variables = file.variables; trusted = file.trusted; tainted = file.tainted }
+  known_inside : (g : Scope) (name : ℕ) (t : CType) (bounds : Option Bounds) → IsKnownType g.structs t → KnowsFile frame g → KnowsFile frame (with_local name t bounds g)
+  known_inside g name t bounds known_t file =
+      record { structs = file.structs; closed = local_closed name t bounds g known_t file.closed; few_members = file.few_members; scalar_members = file.scalar_members; variables = file.variables; trusted = file.trusted; tainted = file.tainted }
+
+  -- bounds that are declared may be those of the local that comes next
+  declared_may : (g : Scope) (t : CType) (bounds : Option Bounds) → length (g.locals ++ t ∷ []) ≤ vars → IsFormedIf g.structs (g.locals ++ t ∷ []) t bounds → MayCome vars g.structs g.locals t bounds
+  declared_may g t bounds few formed = record { below = formed_below g.structs (g.locals ++ t ∷ []) t vars bounds few formed; limited = limited bounds formed; formed = λ b e. by bounds b e formed }
+    where
+      limited : (o : Option Bounds) → IsFormedIf g.structs (g.locals ++ t ∷ []) t o → AreLimitedIf o
+      limited None h = tt
+      limited (Some b) h = h.limited
+
+      by : (o : Option Bounds) (b : Bounds) → o ≡ Some b → IsFormedIf g.structs (g.locals ++ t ∷ []) t o → IsDeclared g.structs (g.locals ++ t ∷ []) (length g.locals) b
+      by None b e h = absurd (cc)
+      by (Some c) b e h = subst (IsDeclared g.structs (g.locals ++ t ∷ []) (length g.locals)) (same_bounds c b e) (record { mode = h.mode; element = h.element; own = extends_last g.locals t ∙ ap Some h.own; some = h.some; ints = h.ints; base = h.base })
+        where
+          same_bounds : (a b : Bounds) → Some a ≡ Some b → a ≡ b
+          same_bounds a b q = cc
+
+  bounded_goes : (at : Places) (g : Scope) → IsWalk vars g → KnowsFile frame g → (d : Declarator) (t : CType) (span : Span) (bounds : Option Bounds) → MayCome vars g.structs g.locals t bounds → IsKnownType g.structs t → length (g.locals ++ t ∷ []) ≤ vars
+      → Promises (GoesOn g) (bounded_local at g d t span bounds)
+  bounded_goes at g w file d t span bounds may known_t room =
+      let within = with_local d.name.number t bounds g in
+      passing_promises (λ (x : core.Statement). IsFirst within.locals (length g.locals) d.initializer x × (Reaching within → IsSimple frame types within x)) (GoesOn g) (initialised at within d.initializer t (length g.locals) span) _
+      (both_promise (IsFirst within.locals (length g.locals) d.initializer) (λ (x : core.Statement). Reaching within → IsSimple frame types within x) (initialised at within d.initializer t (length g.locals) span)
+      (initialised_plain at within d.initializer t (length g.locals) span (extends_last g.locals t))
+      (later_promises (Reaching within) (IsSimple frame types within) (initialised at within d.initializer t (length g.locals) span)
+      (λ reaches. initialised_promises frame types all_scalar at within (knows_here within (walk_local vars d.name.number t bounds g may w room) (known_inside g d.name.number t bounds known_t file) reaches) d.initializer t (length g.locals) span (reaches (length g.locals) t (extends_last g.locals t)))))
+      (λ initial first. needs_promises (GoesOn g) (is_scalar t) E13 span _
+      (λ scalar. declared_goes g w d.name.number t bounds may scalar room d.initializer span initial first.0 first.1))
 
   declarator_goes : (at : Places) (g : Scope) → IsWalk vars g → KnowsFile frame g → (base : TypeTree) (type : CType) (span : Span) (d : Declarator) → IsKnownType g.structs type → Promises (GoesOn g) (declarator at g base type span d)
   declarator_goes at g w file base type span d known_type =
       needs_promises (GoesOn g) (nat_lt (length g.locals) g.flow.vars) E08 span _
       (λ few. passing_promises (IsKnownType g.structs) (GoesOn g) (without_stars base d.stars type) _ (without_known g file.closed.tagged base d.stars type known_type)
-      (λ t known_t.
-      let within = with_local d.name.number t g in
-      passing_promises (λ (x : core.Statement). IsFirst within.locals (length g.locals) d.initializer x × (Reaching within → IsSimple frame types within x)) (GoesOn g) (initialised at within d.initializer t (length g.locals) span) _
-      (both_promise (IsFirst within.locals (length g.locals) d.initializer) (λ (x : core.Statement). Reaching within → IsSimple frame types within x) (initialised at within d.initializer t (length g.locals) span)
-      (initialised_plain at within d.initializer t (length g.locals) span (extends_last g.locals t))
-      (later_promises (Reaching within) (IsSimple frame types within) (initialised at within d.initializer t (length g.locals) span)
-      (λ reaches. initialised_promises frame types all_scalar at within (knows_here within (walk_local vars d.name.number t g w (room t few)) (known_inside g d.name.number t known_t file) reaches) d.initializer t (length g.locals) span (reaches (length g.locals) t (extends_last g.locals t)))))
-      (λ initial first. needs_promises (GoesOn g) (is_scalar t) E13 span _
-      (λ scalar. declared_goes g w d.name.number t scalar (room t few) d.initializer span initial first.0 first.1))))
+      (λ t known_t. passing_promises (IsFormedIf g.structs (g.locals ++ t ∷ []) t) (GoesOn g) (declared_bounds (with_local d.name.number t None g) t (length g.locals) d.bounds) (bounded_local at g d t span)
+      (declared_formed (with_local d.name.number t None g) t (length g.locals) d.bounds)
+      (λ bounds formed. bounded_goes at g w file d t span bounds (declared_may g t bounds (room t few) formed) known_t (room t few))))
     where
-      room : (t : CType) → nat_lt (length g.locals) g.flow.vars ≡ true → length (with_local d.name.number t g).locals ≤ vars
+      room : (t : CType) → nat_lt (length g.locals) g.flow.vars ≡ true → length (g.locals ++ t ∷ []) ≤ vars
       room t few = let low = ltb-true (length g.locals) g.flow.vars few in let e = length-append g.locals (t ∷ []) in let size = w.between.size in omega (arith, low, e, size)
 
   then_goes : (g : Scope) (first rest : Walked) → GoesOn g first → GoesOn first.1 rest → GoesOn g (both first.0 rest.0, rest.1)
@@ -265,6 +428,7 @@ module _ (frame : Frame) (types : List CType) (all_scalar : AllByRecursion IsSca
     breaks = b.breaks ∙ a.breaks;
     continues = b.continues ∙ a.continues;
     more = λ k x e. b.more k x (a.more k x e);
+    keeps = declares_on g first.1 rest.1 (extends_length g.locals first.1.locals a.more) a.keeps b.keeps;
     typed = λ reaches. both_typed frame types all_scalar first.0 rest.0 (a.typed (λ k x e. reaches k x (b.more k x e))) (b.typed reaches);
     runs = λ reaches n knots low s at.
         both_runs n low (IsKnown frame.structs first.1) (IsKnown frame.structs rest.1) first.0 rest.0 s (a.runs (λ k x e. reaches k x (b.more k x e)) n knots low s at)

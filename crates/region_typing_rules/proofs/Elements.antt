@@ -1,6 +1,6 @@
 -- Pointers that are valid with the bounds at their nodes: what accesses and sums come to.
 use Rattle.std.proofs.Common.{◌≡◌, ℕ, zero, suc, ◌+◌, ◌*◌, ◌<◌, ◌≤◌, ℤ, pos, negsuc, neg_ℤ, ◌+ℤ◌, ◌*ℤ◌, ◌≤ℤ◌, Bool, true, false, List, Option, Some, None, refl, sym, ap, ◌∙◌, subst, arith}
-use Rattle.std.specs.Prelude.{◌&&◌, slice_get, int_le, int_lt, nat_le, sum}
+use Rattle.std.specs.Prelude.{◌&&◌, is_some, slice_get, int_le, int_lt, nat_le, sum}
 use Rattle.std.proofs.lemmas.Int.{ints}
 use Rattle.std.proofs.lemmas.Bool.{and_from}
 use Rattle.std.proofs.lemmas.Bool.Decides.{nat_tests}
@@ -10,10 +10,10 @@ use Rattle.pointer_modes.specs.declared.ctype.Mode.{Mode}
 use Rattle.pointer_modes.specs.declared.ctype.Kind.TheVariants as kinds
 use Rattle.pointer_modes.specs.Types.{CType, Pointer, Structure}
 use Rattle.pointer_modes.specs.Layout.{size_of}
-use Rattle.bounds_flow_meaning.specs.Holding.{IsValid, at_node}
+use Rattle.bounds_flow_meaning.specs.Holding.{HasSize, IsValid, at_node, types_of}
 use Rattle.bounds_flow_meaning.specs.Rows.{AreElements, HasRow, IsPlace}
-use Rattle.bounds_flow_meaning.proofs.Validity.{IsValidAt, both_true, int_from, int_to, nat_more, valid_from, valid_to}
-use Rattle.bounds_flow_meaning.proofs.Sums.{bases_stay, ends_move_back, lies, variables_are_bases}
+use Rattle.bounds_flow_meaning.proofs.Validity.{IsValidAt, between_parts, both_true, int_from, int_to, nat_more, valid_from, valid_to}
+use Rattle.bounds_flow_meaning.proofs.Sums.{bases_stay, ends_move_back, lies}
 use Rattle.ckc_core.specs.declared.program.Direction.{Direction}
 use Rattle.ckc_core.specs.declared.program.Direction.TheVariants as directions
 use Rattle.ckc_core.specs.declared.program.PointerBounds.{PointerBounds}
@@ -22,10 +22,11 @@ use Rattle.ckc_core.specs.Core as core
 use Rattle.ckc_core.specs.States.{Value, Number, Null, At, Block, Local, State, Shape, shape, shapes}
 use Rattle.ckc_core.specs.Bounds.{Ends, base_byte, block_size, ends_at, ends_from, is_valid, lie_within, term_value}
 use Rattle.ckc_core.specs.Pointers.{distance, lies_below, lies_up_to, reaches}
-use Rattle.region_typing_rules.specs.Readings.{against, constant, toward}
+use Rattle.region_typing_rules.specs.Verdicts.{picked}
+use Rattle.region_typing_rules.specs.Readings.{against, based_bounds, constant, from_base, toward}
 use Rattle.region_typing_rules.specs.Typed as typed
 use Rattle.region_typing_rules.specs.Expressions.{one_element, row_of}
-use Rattle.region_typing_rules.specs.Typed.{AreRows, AreSumBounds, HasValue}
+use Rattle.region_typing_rules.specs.Typed.{AreRows, AreSumBounds, HasValue, IsBoundedBy}
 use Rattle.region_typing_rules.proofs.Validity.{place_valid}
 use Rattle.region_typing_rules.proofs.Values.{mapped_from}
 
@@ -139,6 +140,43 @@ module _ (structs : List Structure) (m : Mode) (t : CType) (p : PointerBounds) (
 
 -- ---- sums
 
+own_base : (k : ℕ) (b : Bounds) → (q : ℕ) × ((from_base k b).base ≡ Some q)
+own_base k b = by b.base refl
+  where
+    by : (o : Option ℕ) → b.base ≡ o → (q : ℕ) × ((picked (is_some o) b (record b { base = Some k })).base ≡ Some q)
+    by None e = (k, refl)
+    by (Some q) e = (q, e)
+
+local_base : (k : ℕ) (o : Option PointerBounds) (d : Bounds) → based_bounds (core.Local k o) ≡ Some d → (q : ℕ) × (d.base ≡ Some q)
+local_base k None d h = absurd (cc)
+local_base k (Some p) d h = let base = own_base k p.bounds in (base.0, ap (λ (b : Bounds). b.base) (sym (same_bounds (from_base k p.bounds) d h)) ∙ base.1)
+  where
+    same_bounds : (a b : Bounds) → Some a ≡ Some b → a ≡ b
+    same_bounds a b q = cc
+
+-- bounds beside those at the node count from a base
+pub based_has_base : (e : core.Expression) (d : Bounds) → based_bounds e ≡ Some d → (q : ℕ) × (d.base ≡ Some q)
+based_has_base (core.Number number) d h = absurd (cc)
+based_has_base core.Null d h = absurd (cc)
+based_has_base (core.Local k o) d h = local_base k o d h
+based_has_base (core.Load type place bounds) d h = absurd (cc)
+based_has_base (core.AddressOf place bounds) d h = absurd (cc)
+based_has_base (core.Negate operand site) d h = absurd (cc)
+based_has_base (core.Complement operand) d h = absurd (cc)
+based_has_base (core.Not operand) d h = absurd (cc)
+based_has_base (core.Arithmetic operator left right site) d h = absurd (cc)
+based_has_base (core.Compare comparison left right) d h = absurd (cc)
+based_has_base (core.Same left right) d h = absurd (cc)
+based_has_base (core.AndAlso left right) d h = absurd (cc)
+based_has_base (core.OrElse left right) d h = absurd (cc)
+based_has_base (core.LowByte operand) d h = absurd (cc)
+based_has_base (core.Call callee arguments bounds) d h = absurd (cc)
+based_has_base core.NextInput d h = absurd (cc)
+based_has_base (core.Sum pointer direction number site bounds) d h = based_has_base pointer d h
+based_has_base (core.Order comparison left right site) d h = absurd (cc)
+based_has_base (core.Allocate count element bounds) d h = absurd (cc)
+based_has_base (core.Cast pointer bounds) d h = absurd (cc)
+
 -- a pointer in a block, and the one that is so many elements further on, or back
 pub record IsSum (structs : List Structure) (t : CType) (direction : Direction) (z : ℤ) (v w : Value) (s : State) : Type 0 where
   pub block : ℕ
@@ -149,43 +187,67 @@ pub record IsSum (structs : List Structure) (t : CType) (direction : Direction) 
   pub step : pos place ≡ pos byte +ℤ (toward direction z *ℤ pos (size_of structs t))
   pub reach : reaches (slice_get s.blocks block) place ≡ true
 
+-- among the same blocks
+pub sum_among : (structs : List Structure) (t : CType) (direction : Direction) (z : ℤ) (v w : Value) (s u : State) → u.blocks ≡ s.blocks → IsSum structs t direction z v w s → IsSum structs t direction z v w u
+sum_among structs t direction z v w s u same h = record {
+  block = h.block;
+  byte = h.byte;
+  place = h.place;
+  before = h.before;
+  behind = h.behind;
+  step = h.step;
+  reach = subst (λ blocks. reaches (slice_get blocks h.block) h.place ≡ true) (sym same) h.reach;
+}
+
 module _ (structs : List Structure) (m : Mode) (t : CType) (direction : Direction) (z : ℤ) (v w : Value) (s : State) (sum : IsSum structs t direction z v w s) where
-  from_base : (b : Bounds) (base : ℕ) → b.base ≡ Some base → IsValid structs (Some b) (pointing m t v) s → IsValid structs (Some b) (pointing m t w) s
-  from_base b base is h =
+  stays_based : (b : Bounds) (base : ℕ) → b.base ≡ Some base → IsValid structs (Some b) (pointing m t v) s → IsValid structs (Some b) (pointing m t w) s
+  stays_based b base is h =
       subst (λ w. IsValid structs (Some b) (pointing m t w) s) (sym sum.behind)
       (bases_stay structs s (pointing m t v) sum.block sum.byte sum.place base (toward direction z) b sum.before sum.step sum.reach is h)
 
+  based_from : (b : Bounds) (base : ℕ) → b.base ≡ Some base → IsBoundedBy structs b (pointing m t v) s → IsBoundedBy structs b (pointing m t w) s
+  based_from b base is h = (stays_based b base is h.0, h.1)
+
+  -- bounds without a base say nothing of one
+  unbased : (b d : Bounds) (c : ℤ) → b.base ≡ None → moved_by c b ≡ Some d → HasSize structs (types_of s.locals) (size_of structs t) (Some d)
+  unbased b d c none moved q u e there = absurd (let same = (between_parts b.base _ _ d moved).base in let k : None ≡ Some q = sym none ∙ (sym same ∙ e) in cc)
+
   -- a sum is valid with its bounds
-  pub sum_valid : (types : List CType) (e : core.Expression) (i : core.Expression) (p : PointerBounds) (b : Option PointerBounds) → AreSumBounds types (Pointer m kinds.Array t) e direction i p b
-      → ((k : ℕ) (c : Option PointerBounds) → e ≡ core.Local k c → slice_get types k ≡ Some (Pointer m kinds.Array t) → slice_get s.locals k ≡ Some (pointing m t v)) → ((c : ℤ) → constant types i ≡ Some c → z ≡ c)
-      → IsValid structs (Some p.bounds) (pointing m t v) s → (q : PointerBounds) → b ≡ Some q → IsValid structs (Some q.bounds) (pointing m t w) s
-  sum_valid types e i p None typed.unknown local number h q is = absurd (cc)
-  sum_valid types e i p (Some r) (typed.based {base = base} {site = site} from) local number h q is = subst (λ (o : PointerBounds). IsValid structs (Some o.bounds) (pointing m t w) s) (some_same r q is) (from_base p.bounds base from h)
+  pub sum_valid : (types : List CType) (e : core.Expression) (i : core.Expression) (p : PointerBounds) (b : Option PointerBounds) → AreSumBounds types e direction i p b → ((c : ℤ) → constant types i ≡ Some c → z ≡ c)
+      → IsBoundedBy structs p.bounds (pointing m t v) s → ((d : Bounds) → based_bounds e ≡ Some d → IsBoundedBy structs d (pointing m t v) s) → (q : PointerBounds) → b ≡ Some q → IsBoundedBy structs q.bounds (pointing m t w) s
+  sum_valid types e i p None typed.unknown number h based q is = absurd (cc)
+  sum_valid types e i p (Some r) (typed.based {base = base} {site = site} from) number h based q is = subst (λ (o : PointerBounds). IsBoundedBy structs o.bounds (pointing m t w) s) (some_same r q is) (based_from p.bounds base from h)
     where
       some_same : (a b : PointerBounds) → Some a ≡ Some b → a ≡ b
       some_same a b q = cc
-  sum_valid types e i p (Some r) (typed.own {k = k} {b = c} {site = site} is_local type none) local number h q is =
-      subst (λ (o : PointerBounds). IsValid structs (Some o.bounds) (pointing m t w) s) (some_same r q is)
-      (from_base (record p.bounds { base = Some k }) k refl (variables_are_bases structs s k (pointing m t v) p.bounds (local k c is_local type) none h))
+  sum_valid types e i p (Some r) (typed.beside {d = d} {site = site} from) number h based q is =
+      let base = based_has_base e d from in
+      subst (λ (o : PointerBounds). IsBoundedBy structs o.bounds (pointing m t w) s) (some_same r q is) (based_from d base.0 base.1 (based d from))
     where
       some_same : (a b : PointerBounds) → Some a ≡ Some b → a ≡ b
       some_same a b q = cc
-  sum_valid types e i p (Some r) (typed.moved {c = c} {q = d} {site = site} none is_constant moved) local number h q is =
+  sum_valid types e i p (Some r) (typed.moved {c = c} {q = d} {site = site} none is_constant moved) number h based q is =
       let back : moved_by (neg_ℤ (toward direction z)) p.bounds ≡ Some d = ap (λ c. moved_by c p.bounds) (ap (λ c. neg_ℤ (toward direction c)) (number c is_constant) ∙ sym (against_is direction c)) ∙ moved in
-      subst (λ (o : PointerBounds). IsValid structs (Some o.bounds) (pointing m t w) s) (some_same r q is)
-      (subst (λ w. IsValid structs (Some d) (pointing m t w) s) (sym sum.behind)
-      (ends_move_back structs s (pointing m t v) sum.block sum.byte sum.place (toward direction z) p.bounds d sum.before sum.step sum.reach none back h))
+      subst (λ (o : PointerBounds). IsBoundedBy structs o.bounds (pointing m t w) s) (some_same r q is) (
+        subst (λ w. IsValid structs (Some d) (pointing m t w) s) (sym sum.behind)
+            (ends_move_back structs s (pointing m t v) sum.block sum.byte sum.place (toward direction z) p.bounds d sum.before sum.step sum.reach none back h.0),
+        unbased p.bounds d (neg_ℤ (toward direction z)) none back,
+      )
     where
       some_same : (a b : PointerBounds) → Some a ≡ Some b → a ≡ b
       some_same a b q = cc
 
+  -- and so with those that its pointer has from a base
+  pub sum_based : (e : core.Expression) (d : Bounds) → based_bounds e ≡ Some d → IsBoundedBy structs d (pointing m t v) s → IsBoundedBy structs d (pointing m t w) s
+  sum_based e d from h = let base = based_has_base e d from in based_from d base.0 base.1 h
+
 -- of elements of the same size
-pub sum_size : (structs : List Structure) (t : CType) (types : List CType) (type : CType) (e : core.Expression) (direction : Direction) (i : core.Expression) (p : PointerBounds) (b : Option PointerBounds) → AreSumBounds types type e direction i p b → p.size ≡ size_of structs t
+pub sum_size : (structs : List Structure) (t : CType) (types : List CType) (e : core.Expression) (direction : Direction) (i : core.Expression) (p : PointerBounds) (b : Option PointerBounds) → AreSumBounds types e direction i p b → p.size ≡ size_of structs t
     → AreOf structs t b
-sum_size structs t types type e direction i p None are size = tt
-sum_size structs t types type e direction i p (Some r) (typed.based from) size = size
-sum_size structs t types type e direction i p (Some r) (typed.own is_local there none) size = size
-sum_size structs t types type e direction i p (Some r) (typed.moved none is moved) size = size
+sum_size structs t types e direction i p None are size = tt
+sum_size structs t types e direction i p (Some r) (typed.based from) size = size
+sum_size structs t types e direction i p (Some r) (typed.beside from) size = size
+sum_size structs t types e direction i p (Some r) (typed.moved none is moved) size = size
 
 -- ---- arrays
 

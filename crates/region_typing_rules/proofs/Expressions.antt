@@ -1,10 +1,10 @@
 -- Expressions that break no rule have types.
-use Rattle.std.proofs.Common.{◌≡◌, ℕ, ◌+◌, ◌^◌, Bool, true, false, List, [], ◌∷◌, replicate, length, Option, Some, None, pos, ℤ, ◌+ℤ◌, ◌<◌, refl, sym, subst, arith, ⊎_elim}
+use Rattle.std.proofs.Common.{◌≡◌, ℕ, ◌+◌, ◌^◌, Bool, true, false, List, [], ◌∷◌, replicate, length, Option, Some, None, pos, ℤ, ◌+ℤ◌, ◌<◌, refl, sym, ap, ◌∙◌, subst, arith, ⊎_elim}
 use Rattle.std.specs.Prelude.{◌==◌, slice_get, nat_lt, not, ◌&&◌, ◌||◌, cond, is_some}
 use Rattle.std.specs.List.{AllByRecursion}
 use Rattle.std.proofs.lemmas.Bool.{and_parts, or_cases, eqb-true}
 use Rattle.ckc_text.specs.declared.place.Span.{Span}
-use Rattle.ckc_text.specs.declared.code.Code.TheVariants.{E04, E13, E14, E17, E18, E19}
+use Rattle.ckc_text.specs.declared.code.Code.TheVariants.{E04, E13, E14, E17, E18, E19, E26}
 use Rattle.ckc_tree.specs.declared.expr.UnaryOperator.{UnaryOperator}
 use Rattle.ckc_tree.specs.declared.expr.UnaryOperator.TheVariants as unary
 use Rattle.ckc_tree.specs.declared.expr.BinaryOperator.{BinaryOperator}
@@ -41,22 +41,28 @@ use Rattle.bounds_exprs.specs.Changes.{between, moved_by}
 use Rattle.subsumption.specs.Facts.{IsBelow}
 use Rattle.subsumption.specs.ClosedTables.{ClosedTable}
 use Rattle.bounds_flow.specs.Conditions.{AreEndsBelow, AreBoundsBelow, IsTermBelow}
+use Rattle.bounds_flow.specs.Flows.{held_at}
+use Rattle.bounds_flow.proofs.Variables.{held_below}
 use Rattle.bounds_flow.specs.Settling.{Finding, Meets, WasLost, Falls, ends_find, bounds_find}
+use Rattle.bounds_flow_meaning.specs.Holding.{IsValid, HasSize, target_size, types_of}
 use Rattle.bounds_flow_meaning.specs.Rows.{slots}
+use Rattle.bounds_flow_meaning.proofs.Numbers.{type_there}
 use Rattle.bounds_flow_meaning.proofs.AllSteps.{flows_hold}
-use Rattle.region_typing_rules.specs.Verdicts.{Verdict, Passes, Stops, passing}
+use Rattle.region_typing_rules.specs.Verdicts.{Verdict, Passes, Stops, passing, picked}
 use Rattle.region_typing_rules.specs.Scopes.{Scope, Signature, Named, Local, Object, Array, Nothing, named, function_named, members_named}
 use Rattle.region_typing_rules.specs.Types.{type_named, is_number, is_pointer, are_comparable, kind_converts, pointer_converts, converts}
-use Rattle.region_typing_rules.specs.Readings.{constant, against, sum_bounds, own_bounds, based_bounds, is_null}
-use Rattle.region_typing_rules.specs.Expressions.{Places, OfLocal, OfCell, Standing, ForNothing, ForArray, For, Typed, Value, AStruct, Called, Gives, GivesNothing, site_at, bounds_by, bounds_at, noted_if, with_bounds, one_element, sum_node, bounded, number, at_place, local_typed, name_typed, member_place, member_from, offset_among, member_at, dotted, with_elements, first_element, pointed_by, arrowed, pointed_at, dereferenced, checked_at, pointer_to, address, number_of, scalar_of, unary_typed, is_single_value, lacks_bounds, without_ptr, two_numbers, two_scalars, operator_along, summed, sum_typed, as_pointer, equated_values, equated, ordered_values, ordered, arithmetic, binary_typed, element_at, indexed, is_met, in_type, asked_as, asked_of, meets, bounds_met, converted, arguments_as, arguments_met, is_import, side_number, callee_of, call_of, first_of, writes, predefined_call, called, with_result, constant_typed, typed, all_typed, call_typed}
+use Rattle.region_typing_rules.specs.Readings.{constant, against, sum_bounds, own_bounds, from_base, based_bounds, is_null}
+use Rattle.region_typing_rules.specs.Expressions.{Places, OfLocal, OfCell, Standing, ForNothing, ForArray, For, Typed, Value, AStruct, Called, Gives, GivesNothing, site_at, bounds_by, bounds_at, noted_if, with_bounds, one_element, sum_node, bounded, number, at_place, in_force, local_typed, name_typed, member_place, member_from, offset_among, member_at, dotted, with_elements, first_element, pointed_by, arrowed, pointed_at, dereferenced, checked_at, pointer_to, address, number_of, scalar_of, unary_typed, is_row, is_single_value, lacks_bounds, without_ptr, two_numbers, two_scalars, operator_along, summed, sum_typed, as_pointer, equated_values, equated, have_one_base, are_related, ordered_values, ordered, arithmetic, binary_typed, element_at, indexed, is_met, in_type, asked_as, asked_of, meets, bounds_met, converted, arguments_as, arguments_met, is_import, side_number, callee_of, call_of, first_of, writes, predefined_call, called, with_result, constant_typed, typed, all_typed, call_typed}
 use Rattle.region_typing_rules.specs.Typed as rules
-use Rattle.region_typing_rules.specs.Typed.{Frame, IsCallee, HasBounds, AreSumBounds, HasElements, LeadsToOne, HasType, HaveTypes, HasPlace, IsSimple, IsScalar, IsScalarResult, IsNumberResult}
+use Rattle.region_typing_rules.specs.Typed.{Frame, IsCallee, HasBounds, AreSumBounds, CountsFrom, HasElements, IsInForce, LeadsToOne, HasType, HaveTypes, HasPlace, IsSimple, IsScalar, IsScalarResult, IsNumberResult}
 use Rattle.region_typing_rules.proofs.Values.{member_row}
 use Rattle.region_typing_rules.proofs.Verdicts.{Promises, passing_promises, needs_promises, anything_promised, Extends}
-use Rattle.region_typing_rules.proofs.Known.{IsKnownResult, size_kept, bounds_kept}
+use Rattle.region_typing_rules.proofs.Known.{IsKnown, IsKnownResult, size_kept, bounds_kept}
 use Rattle.region_typing_rules.proofs.KnownTypes.{IsKnownTyped, typed_known}
 use Rattle.region_typing_rules.proofs.Signatures.{named_has}
-use Rattle.region_typing_rules.proofs.Knowledge.{IsNumberType, IsTrusted, IsTainted, Knows, array_sized, mode_equal, same_equal, StandsFor, name_stands, crossing_promises, HasMember, IfMember, member_there, member_slot}
+use Rattle.region_typing_rules.proofs.Knowledge.{IsNumberType, IsTrusted, IsTainted, Knows, array_sized, StandsFor, name_stands, crossing_promises, HasMember, IfMember, member_there, member_slot}
+use Rattle.region_typing_rules.proofs.SameTypes.{mode_equal, same_equal}
+use Rattle.region_typing_rules.proofs.Elements.{based_has_base}
 use Rattle.region_typing_rules.proofs.Sizes.{size_fits}
 use Rattle.region_typing_rules.proofs.Alike.{alike_here}
 use Rattle.region_typing_rules.proofs.Told.{null_is}
@@ -84,10 +90,10 @@ abbrev pub AreCounted : List Structure → ℕ → CType → Option PointerBound
 AreCounted structs vars t None = Unit {0}
 AreCounted structs vars t (Some p) = CountElements structs vars t p
 
--- a pointer with bounds has such ones at its node, and none from a base beside them
+-- a pointer with bounds has such ones at its node, and so do the ends of those that it has from a base beside them
 pub record IsRow (structs : List Structure) (vars : ℕ) (t : CType) (value : core.Expression) : Type 0 where
   pub own : AreCounted structs vars t (bounds_of value)
-  pub based : based_bounds value ≡ None
+  pub based : (b : Bounds) → based_bounds value ≡ Some b → AreEndsBelow vars b
 
 -- no bounds are known of a pointer
 pub record IsBare (value : core.Expression) : Type 0 where
@@ -120,7 +126,7 @@ node_with structs vars Char site of is none = tt
 node_with structs vars (Struct number) site of is none = tt
 node_with structs vars (Pointer m kinds.One t) site of is none = (site, is (bounds_at structs (Pointer m kinds.One t) site))
 node_with structs vars (Pointer m kinds.Array t) site of is none =
-    subst (λ o. IsRow structs vars t (of o)) (sym (no_row m _)) (record { own = subst (AreCounted structs vars t) (sym (is None)) tt; based = none })
+    subst (λ o. IsRow structs vars t (of o)) (sym (no_row m _)) (record { own = subst (AreCounted structs vars t) (sym (is None)) tt; based = λ b e. let found = rw none at e in absurd (cc) })
 node_with structs vars (Pointer m kinds.Nt t) site of is none = subst (λ o. IsBare (of o)) (sym (no_ended m _)) (record { own = is None; based = none })
 
 load_noted : (t : CType) (p : core.Place) (o : Option PointerBounds) → bounds_of (noted_if o (core.Load t p None)) ≡ o
@@ -151,32 +157,42 @@ moved_below vars c b below =
     let hi = b.hi.plus +ℤ c in
     between_below vars b.base (within_limit b.lo.var lo) (within_limit b.hi.var hi) (within_below vars b.lo.var lo below.lo) (within_below vars b.hi.var hi below.hi)
 
-sum_counted : (structs : List Structure) (vars : ℕ) (t : CType) (types : List CType) (row : CType) (e : core.Expression) (direction : Direction) (i : core.Expression) (p : PointerBounds) {b : Option PointerBounds} → CountElements structs vars t p → AreSumBounds types row e direction i p b → AreCounted structs vars t b
-sum_counted structs vars t types row e direction i p h rules.unknown = tt
-sum_counted structs vars t types row e direction i p h (rules.based base) = record { size = h.size; some = h.some; below = h.below }
-sum_counted structs vars t types row e direction i p h (rules.own local typed none) = record { size = h.size; some = h.some; below = record { lo = h.below.lo; hi = h.below.hi } }
-sum_counted structs vars t types row e direction i p h (rules.moved {c = c} none is moved) =
+sum_counted : (structs : List Structure) (vars : ℕ) (t : CType) (types : List CType) (e : core.Expression) (direction : Direction) (i : core.Expression) (p : PointerBounds) {b : Option PointerBounds} → CountElements structs vars t p → ((d : Bounds) → based_bounds e ≡ Some d → AreEndsBelow vars d)
+    → AreSumBounds types e direction i p b → AreCounted structs vars t b
+sum_counted structs vars t types e direction i p h beside rules.unknown = tt
+sum_counted structs vars t types e direction i p h beside (rules.based base) = record { size = h.size; some = h.some; below = h.below }
+sum_counted structs vars t types e direction i p h beside (rules.beside {d = d} from) = record { size = h.size; some = h.some; below = beside d from }
+sum_counted structs vars t types e direction i p h beside (rules.moved {c = c} none is moved) =
     record { size = h.size; some = h.some; below = subst (AreBoundsBelow vars) moved (moved_below vars (against direction c) p.bounds h.below) }
 
--- the bounds of a sum whose pointer has none from a base beside its own
-sum_bounded : (types : List CType) (row : CType) (e : core.Expression) (direction : Direction) (i : core.Expression) (p : PointerBounds) (site : Site) → bounds_of e ≡ Some p → based_bounds e ≡ None → AreSumBounds types row e direction i p (sum_node types direction e i site)
-sum_bounded types row e direction i p site own based = by p.bounds.base (constant types i) refl refl
+-- the bounds of a sum
+sum_bounded : (types : List CType) (e : core.Expression) (direction : Direction) (i : core.Expression) (p : PointerBounds) (site : Site) → bounds_of e ≡ Some p → AreSumBounds types e direction i p (sum_node types direction e i site)
+sum_bounded types e direction i p site own = by p.bounds.base (constant types i) refl refl
   where
     Bounded : Type 0
-    Bounded = AreSumBounds types row e direction i p (sum_node types direction e i site)
+    Bounded = AreSumBounds types e direction i p (sum_node types direction e i site)
+
+    -- where a constant moves none, those from a base stay
+    beside : sum_bounds direction (constant types i) (Some p.bounds) ≡ None → (o : Option Bounds) → based_bounds e ≡ o → Bounded
+    beside ends None from = rw (own, from, ends) rules.unknown
+    beside ends (Some d) from = rw (own, from, ends) (rules.beside {site = site} from)
 
     by : (base : Option ℕ) (c : Option ℤ) → p.bounds.base ≡ base → constant types i ≡ c → Bounded
     by (Some base) c from is =
         let ends : sum_bounds direction (constant types i) (Some p.bounds) ≡ Some p.bounds = rw from refl in
-        rw (own, based, ends) (rules.based {site = site} from)
-    by None None none is = rw (own, based, none, is) rules.unknown
+        rw (own, ends) (rules.based {site = site} from)
+    by None None none is =
+        let ends : sum_bounds direction (constant types i) (Some p.bounds) ≡ None = rw (is, none) refl in
+        beside ends (based_bounds e) refl
     by None (Some c) none is = moved_to (moved_by (against direction c) p.bounds) refl
       where
         moved_to : (o : Option Bounds) → moved_by (against direction c) p.bounds ≡ o → Bounded
-        moved_to None moved = rw (own, based, is, moved, none) rules.unknown
+        moved_to None moved =
+            let ends : sum_bounds direction (constant types i) (Some p.bounds) ≡ None = rw (is, moved, none) refl in
+            beside ends (based_bounds e) refl
         moved_to (Some q) moved =
             let ends : sum_bounds direction (constant types i) (Some p.bounds) ≡ Some q = rw (is, moved, none) refl in
-            rw (own, based, ends) (rules.moved {site = site} none is moved)
+            rw (own, ends) (rules.moved {site = site} none is moved)
 
 -- ---- findings
 
@@ -196,6 +212,61 @@ one_met facts b h = by b.base refl
     by : (base : Option ℕ) → b.base ≡ base → MeetsEnds facts one_element b
     by None e = record { base = e; ends = met_is (ends_find facts one_element b) (let found = rw e at h in found) }
     by (Some k) e = let none = rw e at h in absurd (cc)
+
+-- the element at which a pointer stands counts from no base, and so bounds from one don't meet it
+based_unmet : (facts : ClosedTable) (value : core.Expression) → is_met (bounds_find facts one_element (based_bounds value)) ≡ true → ⊥
+based_unmet facts value h = by (based_bounds value) refl
+  where
+    by : (o : Option Bounds) → based_bounds value ≡ o → ⊥
+    by None e = let found = rw e at h in cc
+    by (Some b) e = let base = based_has_base value b e in let found = rw (e, base.1) at h in cc
+
+-- ---- one base
+
+-- two expressions count from one local pointer
+pub record CountFromOne (v w : core.Expression) : Type 0 where
+  pub base : ℕ
+  pub first : CountsFrom v base
+  pub second : CountsFrom w base
+
+one_base : (v w : core.Expression) → have_one_base (based_bounds v) (based_bounds w) ≡ true → CountFromOne v w
+one_base v w h = by (based_bounds v) (based_bounds w) refl refl
+  where
+    by : (a b : Option Bounds) → based_bounds v ≡ a → based_bounds w ≡ b → CountFromOne v w
+    by None b e e' = let found = rw e at h in absurd (cc)
+    by (Some a) None e e' = let found = rw (e, e') at h in absurd (cc)
+    by (Some a) (Some b) e e' =
+        let base = based_has_base v a e in
+        let other = based_has_base w b e' in
+        let same : (base.0 == other.0) ≡ true = (let found = rw (e, e', base.1, other.1) at h in found) in
+        record {
+          base = base.0;
+          first = record { bounds = a; based = e; base = base.1 };
+          second = record { bounds = b; based = e'; base = other.1 ∙ ap Some (sym (eqb-true base.0 other.0 same)) };
+        }
+
+-- a pointer to an array
+pub record IsRowType (t : CType) : Type 0 where
+  pub mode : Mode
+  pub target : CType
+  pub is : t ≡ Pointer mode kinds.Array target
+
+row_type : (t : CType) → is_row t ≡ true → IsRowType t
+row_type Int h = absurd (cc)
+row_type Char h = absurd (cc)
+row_type (Struct number) h = absurd (cc)
+row_type (Pointer m kinds.One t) h = absurd (cc)
+row_type (Pointer m kinds.Array t) h = record { mode = m; target = t; is = refl }
+row_type (Pointer m kinds.Nt t) h = absurd (cc)
+
+-- ---- the bounds in force of a local pointer
+
+from_base_below : (vars : ℕ) (k : ℕ) (b : Bounds) → AreEndsBelow vars b → AreEndsBelow vars (from_base k b)
+from_base_below vars k b below = by (is_some b.base)
+  where
+    by : (test : Bool) → AreEndsBelow vars (picked test b (record b { base = Some k }))
+    by true = below
+    by false = record { lo = below.lo; hi = below.hi }
 
 module _ (g : Frame) (types : List CType) (s : Scope) where
   -- what a value stands for
@@ -260,36 +331,79 @@ module _ (g : Frame) (types : List CType) (s : Scope) where
   at_place_fits (Struct number) p h site = h
   at_place_fits (Pointer m k t) p h site = load_fits (Pointer m k t) p site refl h
 
-  held : (t : CType) (k : ℕ) (site : Site) → slice_get types k ≡ Some t → HasType g types s (noted_if (bounds_at g.structs t site) (core.Local k None)) t
+  held : (t : CType) (k : ℕ) (site : Site) → slice_get s.locals k ≡ Some t → HasType g types s (noted_if (bounds_at g.structs t site) (core.Local k None)) t
   held t k site h = by (bounds_at g.structs t site) refl
     where
       by : (o : Option PointerBounds) → bounds_at g.structs t site ≡ o → HasType g types s (noted_if o (core.Local k None)) t
       by None e = rules.local h (site, sym e)
       by (Some b) e = rules.local h (site, sym e)
 
-  held_fits : (t : CType) (k : ℕ) (site : Site) → IsScalar t → slice_get types k ≡ Some t → FitsValue t false (noted_if (bounds_at g.structs t site) (core.Local k None)) (For (OfLocal k))
-  held_fits t k site scalar h =
-      record { has_type = held t k site h; is_number = λ x. absurd (cc); stands = h; scalar = scalar; node = node_with g.structs s.flow.vars t site (λ o. noted_if o (core.Local k None)) (local_noted k) refl }
+  held_fits : Extends s.locals types → (t : CType) (k : ℕ) (site : Site) → IsScalar t → slice_get s.locals k ≡ Some t → FitsValue t false (noted_if (bounds_at g.structs t site) (core.Local k None)) (For (OfLocal k))
+  held_fits ext t k site scalar h =
+      record { has_type = held t k site h; is_number = λ x. absurd (cc); stands = ext k t h; scalar = scalar; node = node_with g.structs s.flow.vars t site (λ o. noted_if o (core.Local k None)) (local_noted k) refl }
 
-  local_fits : (k : ℕ) (t : CType) → IsScalar t → slice_get types k ≡ Some t → FitsNoted (local_typed k t)
-  local_fits k Int scalar h site = held_fits Int k site refl h
-  local_fits k Char scalar h site = held_fits Char k site refl h
-  local_fits k (Struct number) scalar h site = absurd (cc)
-  local_fits k (Pointer m d t) scalar h site = held_fits (Pointer m d t) k site refl h
+  module _ (knows : Knows g types s) where
+    -- what is known in the scope makes a local pointer valid with its bounds in force
+    is_in_force : (k : ℕ) (b : Bounds) → (held_at s.flow.held k).bounds ≡ Some b → IsInForce g.structs s k b
+    is_in_force k b e state known l there =
+        let holds = (known state (alike_here (length s.locals) state)).holds in
+        let valid = (holds.pointers k l there).valid in
+        let size = (holds.met.formed k l.type (type_there state.locals k l there)).bounds in
+        (subst (λ o. IsValid g.structs o l state) e valid, subst (HasSize g.structs (types_of state.locals) (target_size g.structs l.type)) e size)
 
-  name_fits : Extends s.structs g.structs → AllByRecursion IsScalar types → (at : Site) (n : Named) → StandsFor g s.structs types n → FitsNoted (name_typed s.structs n at)
-  name_fits ext all at (Local k t) h = local_fits k t (of_element IsScalar types k t all h) h
-  name_fits ext all at (Object k t) h = at_place_fits t (core.Direct k 0) (rules.direct h.found h.row)
-  name_fits ext all at (Array k t n) h = λ site.
-      let size : size_of s.structs t ≡ size_of g.structs t = size_kept s.structs g.structs t ext h.1 in
-      record {
-        has_type = rules.array h.0.found h.0.some h.0.few h.0.rows refl size;
-        is_number = λ x. absurd (cc);
-        stands = tt;
-        scalar = refl;
-        node = record { own = record { size = size; some = array_sized g t n k h.0; below = record { lo = tt; hi = tt } }; based = refl };
-      }
-  name_fits ext all at Nothing h = λ site. record { has_type = rules.word refl; is_number = λ x. refl; stands = tt; scalar = refl; node = tt }
+    -- the type of a local pointer has a size that is known
+    element_known : (k : ℕ) (m : Mode) (t : CType) → slice_get s.locals k ≡ Some (Pointer m kinds.Array t) → IsKnown s.structs t
+    element_known k m t h = of_element (IsKnown s.structs) s.locals k (Pointer m kinds.Array t) knows.file.closed.of_locals h
+
+    bounded_fits : (k : ℕ) (m : Mode) (t : CType) (b : Bounds) (site : Site) → slice_get s.locals k ≡ Some (Pointer m kinds.Array t) → (held_at s.flow.held k).bounds ≡ Some b
+        → FitsValue (Pointer m kinds.Array t) false (core.Local k (Some (record { bounds = b; size = size_of s.structs t; site = site }))) (For (OfLocal k))
+    bounded_fits k m t b site h e =
+        let is = knows.pointers k b e in
+        let same : is.element ≡ t = let own = is.own in cc in
+        let size : size_of s.structs t ≡ size_of g.structs t = size_kept s.structs g.structs t knows.file.structs (element_known k m t h) in
+        let some : 0 < size_of g.structs t = subst (λ n. 0 < n) size (subst (λ c. 0 < size_of s.structs c) same is.some) in
+        let below : AreEndsBelow s.flow.vars b = subst (AreBoundsBelow s.flow.vars) e (held_below s.flow.vars s.flow.held k knows.flow.variables.below).bounds in
+        record {
+          has_type = rules.bounded h size is.limited (is_in_force k b e);
+          is_number = λ x. absurd (cc);
+          stands = knows.locals k (Pointer m kinds.Array t) h;
+          scalar = refl;
+          node = record {
+            own = record { size = size; some = some; below = below };
+            based = λ d from. let same : from_base k b ≡ d = cc in subst (AreEndsBelow s.flow.vars) same (from_base_below s.flow.vars k b below);
+          };
+        }
+
+    row_fits : (k : ℕ) (m : Mode) (t : CType) (site node : Site) → slice_get s.locals k ≡ Some (Pointer m kinds.Array t) → Fits (with_bounds g.structs node (local_typed s.structs s.flow k (Pointer m kinds.Array t) site))
+    row_fits k m t site node h =
+        subst (λ o. FitsValue (Pointer m kinds.Array t) false (noted_if o (core.Local k (in_force s.structs kinds.Array t (held_at s.flow.held k).bounds site))) (For (OfLocal k))) (sym (no_row m _))
+        (by (held_at s.flow.held k).bounds refl)
+      where
+        by : (o : Option Bounds) → (held_at s.flow.held k).bounds ≡ o → FitsValue (Pointer m kinds.Array t) false (core.Local k (in_force s.structs kinds.Array t (held_at s.flow.held k).bounds site)) (For (OfLocal k))
+        by None e = rw e (subst (λ o. FitsValue (Pointer m kinds.Array t) false (noted_if o (core.Local k None)) (For (OfLocal k))) (no_row m _) (held_fits knows.locals (Pointer m kinds.Array t) k node refl h))
+        by (Some b) e = rw e (bounded_fits k m t b site h e)
+
+    local_fits : (k : ℕ) (t : CType) (at : Site) → IsScalar t → slice_get s.locals k ≡ Some t → FitsNoted (local_typed s.structs s.flow k t at)
+    local_fits k Int at scalar h site = held_fits knows.locals Int k site refl h
+    local_fits k Char at scalar h site = held_fits knows.locals Char k site refl h
+    local_fits k (Struct n) at scalar h site = absurd (cc)
+    local_fits k (Pointer m kinds.One t) at scalar h site = held_fits knows.locals (Pointer m kinds.One t) k site refl h
+    local_fits k (Pointer m kinds.Array t) at scalar h site = row_fits k m t at site h
+    local_fits k (Pointer m kinds.Nt t) at scalar h site = held_fits knows.locals (Pointer m kinds.Nt t) k site refl h
+
+    name_fits : (at : Site) (n : Named) → StandsFor g s.structs s.locals n → FitsNoted (name_typed s n at)
+    name_fits at (Local k t) h = local_fits k t at (of_element IsScalar types k t knows.scalar (knows.locals k t h)) h
+    name_fits at (Object k t) h = at_place_fits t (core.Direct k 0) (rules.direct h.found h.row)
+    name_fits at (Array k t n) h = λ site.
+        let size : size_of s.structs t ≡ size_of g.structs t = size_kept s.structs g.structs t knows.file.structs h.1 in
+        record {
+          has_type = rules.array h.0.found h.0.some h.0.few h.0.rows refl size;
+          is_number = λ x. absurd (cc);
+          stands = tt;
+          scalar = refl;
+          node = record { own = record { size = size; some = array_sized g t n k h.0; below = record { lo = tt; hi = tt } }; based = λ b e. absurd (cc) };
+        }
+    name_fits at Nothing h = λ site. record { has_type = rules.word refl; is_number = λ x. refl; stands = tt; scalar = refl; node = tt }
 
   member_of : {p : core.Place} {n : ℕ} → HasPlace g types s p (Struct n) → (k offset : ℕ) (t : CType) (site : Site) → slice_get (slots g.structs (Struct n)) k ≡ Some (record { type = t; offset = offset }) → IsScalar t → HasPlace g types s (member_place p offset site) t
   member_of {n = n} (rules.direct {offset = first} {cells = is} found row) k offset t site slot scalar =
@@ -376,13 +490,13 @@ module _ (g : Frame) (types : List CType) (s : Scope) where
   arithmetic_promises : (operator : Operator) (a b : Typed) (site : Site) (span : Span) → Fits a → Fits b → Promises Fits (two_numbers a b span (arithmetic operator site))
   arithmetic_promises operator a b site span ha hb = two_numbers_promise Fits a b span (arithmetic operator site) ha hb (λ v w n m. number_fits (core.Arithmetic operator v w site) (rules.arithmetic n m))
 
-  sum_fits : (m : Mode) (t : CType) (v w : core.Expression) (direction : Direction) (site : Site) (p : PointerBounds) → bounds_of v ≡ Some p → HasType g types s v (Pointer m kinds.Array t) → IsRow g.structs s.flow.vars t v → HasType g types s w Int
+  pub sum_fits : (m : Mode) (t : CType) (v w : core.Expression) (direction : Direction) (site : Site) (p : PointerBounds) → bounds_of v ≡ Some p → HasType g types s v (Pointer m kinds.Array t) → IsRow g.structs s.flow.vars t v → HasType g types s w Int
       → Fits (Value (Pointer m kinds.Array t) false (core.Sum v direction w site (sum_node s.locals direction v w site)) ForNothing)
   sum_fits m t v w direction site p own h row number =
       let counted : CountElements g.structs s.flow.vars t p = subst (AreCounted g.structs s.flow.vars t) own row.own in
-      let bounds = sum_bounded s.locals (Pointer m kinds.Array t) v direction w p site own row.based in
+      let bounds = sum_bounded s.locals v direction w p site own in
       plain_fits (Pointer m kinds.Array t) _ refl (rules.sum h (record { bounds = own; size = counted.size; some = counted.some }) number bounds)
-      (record { own = sum_counted g.structs s.flow.vars t s.locals (Pointer m kinds.Array t) v direction w p counted bounds; based = row.based })
+      (record { own = sum_counted g.structs s.flow.vars t s.locals v direction w p counted row.based bounds; based = row.based })
 
   summed_promises : (direction : Direction) (a b : Typed) (site : Site) (span : Span) → Fits a → Fits b → is_single_value a ≡ false → lacks_bounds a ≡ false → Promises Fits (summed s direction a b site span)
   summed_promises direction (Value Int z v p) b site span ha hb single lacks = arithmetic_promises (operator_along direction) (Value Int z v p) b site span ha hb
@@ -444,18 +558,29 @@ module _ (g : Frame) (types : List CType) (s : Scope) where
   equal_promises (Value t z v p) (AStruct n q) span ha hb = tt
   equal_promises (AStruct n p) b span ha hb = tt
 
-  ordered_promises : (comparison : Comparison) (t : CType) (v : core.Expression) (u : CType) (w : core.Expression) (span : Span) → HasType g types s v t → HasType g types s w u → Promises Fits (ordered_values comparison t v u w span)
-  ordered_promises comparison t v u w span hv hw = by (is_number t && is_number u) (are_comparable t u) refl refl
+  -- two pointers that count from one local pointer are in order
+  related_promises : (comparison : Comparison) (t : CType) (v : core.Expression) (u : CType) (w : core.Expression) (site : Site) → HasType g types s v t → HasType g types s w u → are_related t v u w ≡ true → IsInt (core.Order comparison v w site)
+  related_promises comparison t v u w site hv hw related =
+      let rows = and_parts (is_row t) (is_row u && have_one_base (based_bounds v) (based_bounds w)) related in
+      let others = and_parts (is_row u) (have_one_base (based_bounds v) (based_bounds w)) rows.1 in
+      let first = row_type t rows.0 in
+      let second = row_type u others.0 in
+      let one = one_base v w others.1 in
+      rules.order (subst (HasType g types s v) first.is hv) one.first (subst (HasType g types s w) second.is hw) one.second
+
+  ordered_promises : (comparison : Comparison) (t : CType) (v : core.Expression) (u : CType) (w : core.Expression) (site : Site) (span : Span) → HasType g types s v t → HasType g types s w u → Promises Fits (ordered_values comparison t v u w site span)
+  ordered_promises comparison t v u w site span hv hw = by (is_number t && is_number u) (are_comparable t u) refl refl
     where
-      by : (numbers same : Bool) → (is_number t && is_number u) ≡ numbers → are_comparable t u ≡ same → Promises Fits (ordered_values comparison t v u w span)
+      by : (numbers same : Bool) → (is_number t && is_number u) ≡ numbers → are_comparable t u ≡ same → Promises Fits (ordered_values comparison t v u w site span)
       by true same e e1 = let n = and_parts (is_number t) (is_number u) e in rw e (number_fits (core.Compare comparison v w) (rules.compare (as_int t v n.0 hv) (as_int u w n.1 hw)))
-      by false true e e1 = rw (e, e1) tt
+      by false true e e1 =
+          rw (e, e1) (needs_promises Fits (are_related t v u w) E26 span (number (core.Order comparison v w site)) (λ related. number_fits (core.Order comparison v w site) (related_promises comparison t v u w site hv hw related)))
       by false false e e1 = rw (e, e1) tt
 
-  order_promises : (comparison : Comparison) (a b : Typed) (span : Span) → Fits a → Fits b → Promises Fits (ordered comparison a b span)
-  order_promises comparison (Value t z v p) (Value u y w q) span ha hb = ordered_promises comparison t v u w span ha.has_type hb.has_type
-  order_promises comparison (Value t z v p) (AStruct n q) span ha hb = tt
-  order_promises comparison (AStruct n p) b span ha hb = tt
+  order_promises : (comparison : Comparison) (a b : Typed) (site : Site) (span : Span) → Fits a → Fits b → Promises Fits (ordered comparison a b site span)
+  order_promises comparison (Value t z v p) (Value u y w q) site span ha hb = ordered_promises comparison t v u w site span ha.has_type hb.has_type
+  order_promises comparison (Value t z v p) (AStruct n q) site span ha hb = tt
+  order_promises comparison (AStruct n p) b site span ha hb = tt
 
   binary_promises : (operator : BinaryOperator) (a b : Typed) (site : Site) (span : Span) → Fits a → Fits b → Promises Fits (binary_typed s operator a b site span)
   binary_promises binary.Or a b site span ha hb = two_scalars_promise Fits a b span _ ha hb (λ v w t u n m. number_fits (core.OrElse v w) (rules.either n m))
@@ -465,10 +590,10 @@ module _ (g : Frame) (types : List CType) (s : Scope) where
   binary_promises binary.BitAnd a b site span ha hb = arithmetic_promises (operators.Bitwise bits.And) a b site span ha hb
   binary_promises binary.Equal a b site span ha hb = passing_promises IsInt Fits (equated a b span) number (equal_promises a b span ha hb) (λ v n. number_fits v n)
   binary_promises binary.NotEqual a b site span ha hb = passing_promises IsInt Fits (equated a b span) _ (equal_promises a b span ha hb) (λ v n. number_fits (core.Not v) (rules.inverse n))
-  binary_promises binary.Less a b site span ha hb = order_promises comparisons.Less a b span ha hb
-  binary_promises binary.LessEqual a b site span ha hb = order_promises comparisons.LessEqual a b span ha hb
-  binary_promises binary.Greater a b site span ha hb = order_promises comparisons.Greater a b span ha hb
-  binary_promises binary.GreaterEqual a b site span ha hb = order_promises comparisons.GreaterEqual a b span ha hb
+  binary_promises binary.Less a b site span ha hb = order_promises comparisons.Less a b site span ha hb
+  binary_promises binary.LessEqual a b site span ha hb = order_promises comparisons.LessEqual a b site span ha hb
+  binary_promises binary.Greater a b site span ha hb = order_promises comparisons.Greater a b site span ha hb
+  binary_promises binary.GreaterEqual a b site span ha hb = order_promises comparisons.GreaterEqual a b site span ha hb
   binary_promises binary.ShiftLeft a b site span ha hb = arithmetic_promises (operators.Arithmetic arithmetics.ShiftLeft) a b site span ha hb
   binary_promises binary.ShiftRight a b site span ha hb = arithmetic_promises (operators.Arithmetic arithmetics.ShiftRight) a b site span ha hb
   binary_promises binary.Add a b site span ha hb = sum_promises directions.Forward a b site span ha hb
@@ -587,8 +712,8 @@ module _ (g : Frame) (types : List CType) (s : Scope) where
         let second = is_met (bounds_find facts one_element (based_bounds value)) in
         ⊎_elim null (λ found. ⊎_elim own based (or_cases first second found)) (or_cases (is_null value) (first || second) met)
 
-    none_met : (P : Type 0) (b : Option Bounds) → b ≡ None → Finds b → P
-    none_met P b none met = let found = rw none at met in absurd (cc)
+    none_met : (P : Type 0) (value : core.Expression) → Finds (based_bounds value) → P
+    none_met P value met = absurd (based_unmet s.flow.facts value met)
 
     null_typed : (m : Mode) (t : CType) (value : core.Expression) → is_null value ≡ true → HasType g types s value (Pointer m kinds.One t)
     null_typed m t value null = subst (λ e. HasType g types s e (Pointer m kinds.One t)) (sym (null_is value null)) rules.null
@@ -596,7 +721,7 @@ module _ (g : Frame) (types : List CType) (s : Scope) where
     -- a pointer with bounds as one to the element at which it stands
     single_typed : (m : Mode) (t : CType) (value : core.Expression) → HasType g types s value (Pointer m kinds.Array t) → IsRow g.structs s.flow.vars t value → meets s.flow value (Some one_element) ≡ true → HasType g types s value (Pointer m kinds.One t)
     single_typed m t value h row met =
-        met_by (HasType g types s value (Pointer m kinds.One t)) value met (null_typed m t value) (by (bounds_of value) refl row.own) (none_met (HasType g types s value (Pointer m kinds.One t)) (based_bounds value) row.based)
+        met_by (HasType g types s value (Pointer m kinds.One t)) value met (null_typed m t value) (by (bounds_of value) refl row.own) (none_met (HasType g types s value (Pointer m kinds.One t)) value)
       where
         by : (o : Option PointerBounds) → bounds_of value ≡ o → AreCounted g.structs s.flow.vars t o → Finds (own_bounds value) → HasType g types s value (Pointer m kinds.One t)
         by None e counted own = let found = rw e at own in absurd (cc)
@@ -607,7 +732,7 @@ module _ (g : Frame) (types : List CType) (s : Scope) where
     -- one into an array that a zero ends has no bounds to meet: it is null
     ended_typed : (m : Mode) (t : CType) (value : core.Expression) → IsBare value → meets s.flow value (Some one_element) ≡ true → HasType g types s value (Pointer m kinds.One t)
     ended_typed m t value bare met =
-        met_by (HasType g types s value (Pointer m kinds.One t)) value met (null_typed m t value) (λ own. let found = rw bare.own at own in absurd (cc)) (none_met (HasType g types s value (Pointer m kinds.One t)) (based_bounds value) bare.based)
+        met_by (HasType g types s value (Pointer m kinds.One t)) value met (null_typed m t value) (λ own. let found = rw bare.own at own in absurd (cc)) (none_met (HasType g types s value (Pointer m kinds.One t)) value)
 
     kind_typed : (m : Mode) (t : CType) (from to : Kind) (value : core.Expression) → kind_converts from to ≡ true → HasType g types s value (Pointer m from t) → HasNode g.structs s.flow.vars (Pointer m from t) value → meets s.flow value (asked_as from to) ≡ true → HasType g types s value (Pointer m to t)
     kind_typed m t kinds.One kinds.One value converts h node met = h
@@ -773,8 +898,8 @@ module _ (g : Frame) (types : List CType) (s : Scope) where
       typed_promises at (e.Character value span) = constant_promises value false span
       typed_promises at (e.Text bytes span) = tt
       typed_promises at (e.Name name) =
-          bounded_promises (site_at at name.span) (passing (named s name.number) (λ n. Passes (name_typed s.structs n (site_at at name.span)))) (typed_known s knows.file.closed at (e.Name name))
-          (passing_promises (StandsFor g s.structs types) FitsNoted (named s name.number) _ (name_stands g types s knows name.number) (name_fits knows.file.structs knows.scalar (site_at at name.span)))
+          bounded_promises (site_at at name.span) (passing (named s name.number) (λ n. Passes (name_typed s n (site_at at name.span)))) (typed_known s knows.file.closed at (e.Name name))
+          (passing_promises (StandsFor g s.structs s.locals) FitsNoted (named s name.number) _ (name_stands g types s knows name.number) (name_fits knows (site_at at name.span)))
       typed_promises at (e.Call callee arguments span) =
           passing_promises AllFit Fits (all_typed at s arguments) _ (all_promise at arguments)
           (λ ts all. passing_promises FitsCall Fits (called s (function_named s.functions callee.number) callee.number ts (site_at at span) span) _ (called_promises (function_named s.functions callee.number) callee.number ts (site_at at span) span refl all)

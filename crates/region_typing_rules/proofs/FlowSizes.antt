@@ -11,7 +11,7 @@ use Rattle.ckc_core.specs.Core as core
 use Rattle.region_typing_rules.specs.Verdicts.{picked}
 use Rattle.region_typing_rules.specs.Scopes.{Scope}
 use Rattle.region_typing_rules.specs.Readings.{compared, pointer_local, is_null, null_told, same_told, term, told}
-use Rattle.region_typing_rules.specs.Knowing.{value_assigned, assigned_by, first_found, settled_as, settling, without_locals, outside_of, meeting_others, with_others}
+use Rattle.region_typing_rules.specs.Knowing.{value_assigned, assigned_by, first_found, settled_as, settling, without_locals, outside_of, with_others}
 use Rattle.region_typing_rules.proofs.Verdicts.{Promises}
 
 compared_size : (c : Comparison) (a b : Option Term) (truth : Bool) (f : Knowledge) → (compared c a b truth f).vars ≡ f.vars
@@ -102,10 +102,7 @@ without_size local (suc count) f = without_size (suc local) count (left local f)
 pub outside_size : (local : ℕ) (g : Scope) (f : Knowledge) → (outside_of local g f).vars ≡ f.vars
 outside_size local g f = without_size local (length g.locals - local) f
 
-meeting_size : (local count : ℕ) (others : Option Knowledge) (f : Knowledge) → (meeting_others local count others f).vars ≡ f.vars
-meeting_size local count None f = refl
-meeting_size local count (Some o) f = refl
-
 -- where other ways met one
-pub others_size : (local : ℕ) (g : Scope) (others : Option Knowledge) (f : Knowledge) → (with_others local g others f).vars ≡ f.vars
-others_size local g others f = meeting_size local (length g.locals - local) others f
+pub others_size : (others : Option Knowledge) (f : Knowledge) → (with_others others f).vars ≡ f.vars
+others_size None f = refl
+others_size (Some o) f = refl

@@ -16,9 +16,11 @@ use Rattle.region_typing_rules.specs.Scopes.{Scope, Signature, FileVariable, fun
 use Rattle.region_typing_rules.specs.Types.{is_scalar, without_stars, base_type}
 use Rattle.region_typing_rules.specs.Expressions.{Places, is_import, side_number, call_typed}
 use Rattle.bounds_flow.specs.Flows.{Knowledge, cut_off}
+use Rattle.bounds_exprs.specs.declared.term.Bounds.{Bounds}
+use Rattle.region_typing_rules.specs.DeclaredBounds.{declared_bounds}
 use Rattle.region_typing_rules.specs.Readings.{told}
 use Rattle.region_typing_rules.specs.Knowing.{assigned_by, settling, knowing, when, cut, broken, continued, at_loop}
-use Rattle.region_typing_rules.specs.Statements.{Walked, both, assignment, assigning, initialised, zero_value, with_local, first_value, declared, declarator, declarators, declaration, behind_block, behind_branch, at_alternative, behind_both, behind_loop, before_step, in_loop, is_unchecked, condition, optional_condition, optional_step, first_part, return, statement, statements}
+use Rattle.region_typing_rules.specs.Statements.{Walked, both, assignment, assigning, initialised, zero_value, with_local, first_value, declared, bounded_local, declarator, declarators, declaration, behind_block, behind_branch, at_alternative, behind_both, behind_loop, before_step, in_loop, is_unchecked, condition, optional_condition, optional_step, first_part, return, statement, statements}
 use Rattle.region_typing_rules.specs.Typed.{Frame, IsScalar}
 use Rattle.region_typing_rules.proofs.Verdicts.{Promises, passing_promises, needs_promises, anything_promised, later_promises, Extends, extends_append}
 use Rattle.region_typing_rules.proofs.Known.{IsKnown, IsClosed, base_known}
@@ -107,8 +109,8 @@ known_append : (structs : List Structure) (ts : List CType) (t : CType) → IsKn
 known_append structs [] t h all = (h, tt)
 known_append structs (u ∷ ts) t h all = (all.0, known_append structs ts t h all.1)
 
-pub local_closed : (name : ℕ) (t : CType) (g : Scope) → IsKnown g.structs t → IsClosed g → IsClosed (with_local name t g)
-local_closed name t g h c = record { tagged = c.tagged; of_members = c.of_members; of_functions = c.of_functions; of_variables = c.of_variables; of_locals = known_append g.structs g.locals t h c.of_locals }
+pub local_closed : (name : ℕ) (t : CType) (b : Option Bounds) (g : Scope) → IsKnown g.structs t → IsClosed g → IsClosed (with_local name t b g)
+local_closed name t b g h c = record { tagged = c.tagged; of_members = c.of_members; of_functions = c.of_functions; of_variables = c.of_variables; of_locals = known_append g.structs g.locals t h c.of_locals }
 
 -- a type that a scope knows, where each of its tags has a struct
 abbrev pub IsNamedIn : Scope → CType → Type 0
@@ -119,8 +121,8 @@ named_further a b t h named few =
     let before : length a.tags ≤ length a.structs = rw (h.tags, h.structs) few in
     subst (λ x. IsKnown x t) h.structs (named before)
 
-pub local_grows : (name : ℕ) (t : CType) (g : Scope) → IsScalar t → length g.locals < g.flow.vars → IsNamedIn g t → Grows g (with_local name t g)
-local_grows name t g h low named = record { size = refl; tags = refl; structs = refl; functions = refl; variables = refl; result = refl; loop = refl; locals = extends_append g.locals (t ∷ []); scalars = scalars_append g.locals t h; few = λ n. omega (arith, length-append g.locals (t ∷ [])); closed = λ c. local_closed name t g (named c.tagged) c }
+pub local_grows : (name : ℕ) (t : CType) (b : Option Bounds) (g : Scope) → IsScalar t → length g.locals < g.flow.vars → IsNamedIn g t → Grows g (with_local name t b g)
+local_grows name t b g h low named = record { size = refl; tags = refl; structs = refl; functions = refl; variables = refl; result = refl; loop = refl; locals = extends_append g.locals (t ∷ []); scalars = scalars_append g.locals t h; few = λ n. omega (arith, length-append g.locals (t ∷ [])); closed = λ c. local_closed name t b g (named c.tagged) c }
 
 -- behind a block
 pub block_grows : (g inside : Scope) → Grows g inside → Grows g (behind_block g inside)
@@ -163,13 +165,13 @@ turns_grow g body step c inside h =
 pub behind_grows : (g : Scope) (body : Statement) (step : Option Assignment) (c : core.Expression) (inside : Scope) → Grows g inside → Grows g (behind_loop g (at_loop body step g) c inside)
 behind_grows g body step c inside h =
     let head = at_loop body step g in
-    let size = others_size (length g.locals) inside inside.breaks (told g.locals c false head.flow) ∙ told_size g.locals c false head.flow in
+    let size = others_size inside.breaks (told g.locals c false head.flow) ∙ told_size g.locals c false head.flow in
     record { tags = h.tags; structs = h.structs; functions = h.functions; variables = h.variables; result = h.result; loop = refl; locals = h.locals; scalars = h.scalars; size = sym size; few = λ n. subst (λ v. length inside.locals ≤ v) (sym h.size ∙ sym size) (h.few n); closed = h.closed }
 
 pub step_grows : (g : Scope) (body : Statement) (step : Option Assignment) (c : core.Expression) (inside : Scope) → Grows (in_loop (when c true (at_loop body step g))) inside → Grows g (before_step g inside)
 step_grows g body step c inside h =
     let whole = turns_grow g body step c inside h in
-    knows_further _ g (behind_block g inside) (others_size (length g.locals) inside inside.continues (behind_block g inside).flow ∙ sym whole.size) whole
+    knows_further _ g (behind_block g inside) (others_size inside.continues (behind_block g inside).flow ∙ sym whole.size) whole
 
 abbrev pub GrowsTo : {A : Type 0} → Scope → A × Scope → Type 0
 GrowsTo g w = Grows g w.1
@@ -197,13 +199,20 @@ declared_grows g h written t local span initial grown =
     further_promised g h (declared h written t local span initial) grown
     (settled_grows h (both (core.SetLocal local (zero_value t)) initial) (assigned_by h.locals (first_value written initial local t) h.flow) span (assigned_size h.locals (first_value written initial local t) h.flow))
 
+bounded_local_grows : (at : Places) (g : Scope) (d : Declarator) (t : CType) (span : Span) (b : Option Bounds) → length g.locals < g.flow.vars → IsNamedIn g t → Promises (GrowsTo {A = core.Statement} g) (bounded_local at g d t span b)
+bounded_local_grows at g d t span b few named =
+    let inner = with_local d.name.number t b g in
+    passing_promises (λ (x : core.Statement). Unit {0}) (GrowsTo {A = core.Statement} g) (initialised at inner d.initializer t (length g.locals) span) _ (anything_promised (initialised at inner d.initializer t (length g.locals) span))
+    (λ initial _. needs_promises (GrowsTo {A = core.Statement} g) (is_scalar t) E13 span _ (λ scalar.
+    declared_grows g inner d.initializer t (length g.locals) span initial (local_grows d.name.number t b g scalar few named)))
+
 pub declarator_grows : (at : Places) (g : Scope) (base : TypeTree) (type : CType) (span : Span) (d : Declarator) → IsNamedIn g type → Promises (GrowsTo {A = core.Statement} g) (declarator at g base type span d)
 declarator_grows at g base type span d named =
     needs_promises (GrowsTo {A = core.Statement} g) (nat_lt (length g.locals) g.flow.vars) E08 span _
     (λ few. passing_promises (IsNamedIn g) (GrowsTo {A = core.Statement} g) (without_stars base d.stars type) _ (needs_promises (IsNamedIn g) (d.stars == 0) E15 (type_span base) (Passes type) (λ none. named))
-    (λ t named_t. passing_promises (λ (x : core.Statement). Unit {0}) (GrowsTo {A = core.Statement} g) (initialised at (with_local d.name.number t g) d.initializer t (length g.locals) span) _ (anything_promised (initialised at (with_local d.name.number t g) d.initializer t (length g.locals) span))
-    (λ initial _. needs_promises (GrowsTo {A = core.Statement} g) (is_scalar t) E13 span _ (λ scalar.
-    declared_grows g (with_local d.name.number t g) d.initializer t (length g.locals) span initial (local_grows d.name.number t g scalar (ltb-true (length g.locals) g.flow.vars few) named_t)))))
+    (λ t named_t. passing_promises (λ (b : Option Bounds). Unit {0}) (GrowsTo {A = core.Statement} g) (declared_bounds (with_local d.name.number t None g) t (length g.locals) d.bounds) _
+    (anything_promised (declared_bounds (with_local d.name.number t None g) t (length g.locals) d.bounds))
+    (λ b _. bounded_local_grows at g d t span b (ltb-true (length g.locals) g.flow.vars few) named_t)))
 
 pub declarators_grow : (at : Places) (g : Scope) (base : TypeTree) (type : CType) (span : Span) (ds : List Declarator) → IsNamedIn g type → Promises (GrowsTo {A = core.Statement} g) (declarators at g base type span ds)
 declarators_grow at g base type span [] named = stays g

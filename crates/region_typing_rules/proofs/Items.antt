@@ -202,16 +202,16 @@ module _ (height entry : ℕ) where
   parameters_grow : (ps : List Variable) (g : Scope) → length g.locals + length ps ≤ g.flow.vars → AllByRecursion IsScalar (map (λ (p : Variable). p.type) ps) → AllByRecursion (λ (v : Variable). IsKnown g.structs v.type) ps → Grows g (with_parameters ps g)
   parameters_grow [] g few all known = stays g
   parameters_grow (p ∷ ps) g few all known =
-      grows_further g (with_local p.name p.type g) (with_parameters ps (with_local p.name p.type g)) (local_grows p.name p.type g all.0 (omega arith) (λ tagged. known.0))
-      (parameters_grow ps (with_local p.name p.type g) (omega (arith, length-append g.locals (p.type ∷ []))) all.1 known.1)
+      grows_further g (with_local p.name p.type None g) (with_parameters ps (with_local p.name p.type None g)) (local_grows p.name p.type None g all.0 (omega arith) (λ tagged. known.0))
+      (parameters_grow ps (with_local p.name p.type None g) (omega (arith, length-append g.locals (p.type ∷ []))) all.1 known.1)
 
   sizes_kept : (ps : List Variable) (g : Scope) → (with_parameters ps g).flow.vars ≡ g.flow.vars
   sizes_kept [] g = refl
-  sizes_kept (p ∷ ps) g = sizes_kept ps (with_local p.name p.type g)
+  sizes_kept (p ∷ ps) g = sizes_kept ps (with_local p.name p.type None g)
 
   parameter_locals : (ps : List Variable) (g : Scope) → (with_parameters ps g).locals ≡ g.locals ++ map (λ (p : Variable). p.type) ps
   parameter_locals [] g = sym (append-nil g.locals)
-  parameter_locals (p ∷ ps) g = parameter_locals ps (with_local p.name p.type g) ∙ append_assoc g.locals (p.type ∷ []) (map (λ (q : Variable). q.type) ps)
+  parameter_locals (p ∷ ps) g = parameter_locals ps (with_local p.name p.type None g) ∙ append_assoc g.locals (p.type ∷ []) (map (λ (q : Variable). q.type) ps)
 
   extends_take : (xs ys : List CType) → Extends xs ys → (take (length xs) ys ≡ xs) × (length xs ≤ length ys)
   extends_take [] ys ext = (refl, omega arith)
@@ -240,6 +240,7 @@ module _ (height entry : ℕ) where
     visible = [];
     result = f.result;
     in_loop = false;
+    outside = 0;
     flow = at_entry (variables_in (length ps) body);
     breaks = None;
     continues = None;
@@ -474,7 +475,7 @@ module _ (height entry : ℕ) where
 
       parameters_keep : (ps : List Variable) (g : Scope) → g.functions ≡ (with_parameters ps g).functions
       parameters_keep [] g = refl
-      parameters_keep (p ∷ ps) g = parameters_keep ps (with_local p.name p.type g)
+      parameters_keep (p ∷ ps) g = parameters_keep ps (with_local p.name p.type None g)
 
       few_inside : (body : trees.Statements) → HaveFew (inside signature parameters body with_it.scope)
       few_inside body = subst (AllByRecursion HasFew) (parameters_keep parameters (at_start signature parameters body with_it.scope)) have_few

@@ -1,26 +1,26 @@
 -- What a walk knows of the program that it leads to, and what names stand for there.
 use Rattle.std.proofs.Common.{◌≡◌, ℕ, zero, suc, ◌+◌, ◌<◌, ◌≤◌, Bool, true, false, List, [], ◌∷◌, take, length, Option, Some, None, refl, ap, subst, arith}
-use Rattle.std.specs.Prelude.{◌==◌, slice_get, not, ◌&&◌}
-use Rattle.std.proofs.lemmas.Bool.{eqb-true, and_parts}
+use Rattle.std.specs.Prelude.{◌==◌, slice_get, not}
 use Rattle.std.specs.List.{AllByRecursion}
 use Rattle.ckc_text.specs.declared.place.Span.{Span}
 use Rattle.ckc_text.specs.declared.code.Code.TheVariants.{E24}
 use Rattle.pointer_modes.specs.declared.ctype.Mode.{Mode}
-use Rattle.pointer_modes.specs.declared.ctype.Mode.TheVariants as modes
-use Rattle.pointer_modes.specs.declared.ctype.Kind.{Kind}
 use Rattle.pointer_modes.specs.declared.ctype.Kind.TheVariants as kinds
 use Rattle.pointer_modes.specs.Types.{CType, Int, Char, Struct, Pointer, Member, Structure, members_of}
+use Rattle.bounds_exprs.specs.declared.term.Bounds.{Bounds}
 use Rattle.bounds_flow.specs.Conditions.{IsFlow}
+use Rattle.bounds_flow.specs.Flows.{held_at}
 use Rattle.pointer_modes.specs.Layout.{placed_from, member_sizes, sizes_of, end_from, size_of, cells_of, aligned_up, scalar_size}
 use Rattle.pointer_modes.proofs.Layouts.{widths, size_behind}
 use Rattle.ckc_core.specs.Programs.{Initial, Import}
 use Rattle.ckc_core.specs.Core as core
-use Rattle.ckc_core.specs.States.{shape, object_block, same_mode, same_kind, same_type}
+use Rattle.ckc_core.specs.States.{shape, object_block}
 use Rattle.region_typing_rules.specs.Verdicts.{Verdict, meant, picked}
 use Rattle.region_typing_rules.specs.Scopes.{Scope, Signature, FileVariable, Visible, Named, Local, Object, Array, Nothing, local_if, found_if, local_named, object_of, object_named, or_else, null_named, named, function_named}
 use Rattle.region_typing_rules.specs.Types.{is_number}
 use Rattle.region_typing_rules.specs.Expressions.{Typed, is_checked_argument, without_checked, crossing, is_import, side_number, member_from, offset_among}
 use Rattle.bounds_flow_meaning.specs.Rows.{slots_from, slots, HasRow}
+use Rattle.region_typing_rules.specs.KnownIsSo.{AreLimited}
 use Rattle.region_typing_rules.specs.Typed.{Frame, AreRows, IsNumberResult, IsScalar, IsScalarResult}
 use Rattle.region_typing_rules.proofs.Verdicts.{Promises, needs_promises, Extends}
 use Rattle.region_typing_rules.proofs.Known.{IsKnown, IsClosed}
@@ -74,10 +74,19 @@ pub record KnowsFile (g : Frame) (s : Scope) : Type 0 where
   pub trusted : (name : ℕ) (f : Signature) → function_named s.functions name ≡ Some f → is_import f ≡ false → IsTrusted g (side_number false s.functions f.name 0) f
   pub tainted : (name : ℕ) (f : Signature) → function_named s.functions name ≡ Some f → is_import f ≡ true → IsTainted g (side_number true s.functions f.name 0) f
 
+-- a local of which bounds are in force is a pointer to an array of elements that have bytes
+pub record IsPointing (s : Scope) (k : ℕ) (b : Bounds) : Type 0 where
+  pub mode : Mode
+  pub element : CType
+  pub own : slice_get s.locals k ≡ Some (Pointer mode kinds.Array element)
+  pub some : 0 < size_of s.structs element
+  pub limited : AreLimited b
+
 -- and so are the locals of the function that is walked, of each of which its flow speaks
 pub record Knows (g : Frame) (types : List CType) (s : Scope) : Type 0 where
   pub file : KnowsFile g s
   pub flow : IsFlow s.flow
+  pub pointers : (k : ℕ) (b : Bounds) → (held_at s.flow.held k).bounds ≡ Some b → IsPointing s k b
   pub few : length s.locals ≤ s.flow.vars
   pub locals : Extends s.locals types
   pub scalar : AllByRecursion IsScalar types
@@ -117,52 +126,6 @@ array_sized g type length number is = size_some g.structs type (is.rows 0 is.som
 
 -- ---- types
 
-pub mode_equal : (a b : Mode) → same_mode a b ≡ true → a ≡ b
-mode_equal modes.Checked modes.Checked h = refl
-mode_equal modes.Checked modes.Tainted h = absurd (cc)
-mode_equal modes.Checked modes.Raw h = absurd (cc)
-mode_equal modes.Tainted modes.Checked h = absurd (cc)
-mode_equal modes.Tainted modes.Tainted h = refl
-mode_equal modes.Tainted modes.Raw h = absurd (cc)
-mode_equal modes.Raw modes.Checked h = absurd (cc)
-mode_equal modes.Raw modes.Tainted h = absurd (cc)
-mode_equal modes.Raw modes.Raw h = refl
-
-kind_equal : (a b : Kind) → same_kind a b ≡ true → a ≡ b
-kind_equal kinds.One kinds.One h = refl
-kind_equal kinds.One kinds.Array h = absurd (cc)
-kind_equal kinds.One kinds.Nt h = absurd (cc)
-kind_equal kinds.Array kinds.One h = absurd (cc)
-kind_equal kinds.Array kinds.Array h = refl
-kind_equal kinds.Array kinds.Nt h = absurd (cc)
-kind_equal kinds.Nt kinds.One h = absurd (cc)
-kind_equal kinds.Nt kinds.Array h = absurd (cc)
-kind_equal kinds.Nt kinds.Nt h = refl
-
-pub same_equal : (a b : CType) → same_type a b ≡ true → a ≡ b
-same_equal Int Int h = refl
-same_equal Int Char h = absurd (cc)
-same_equal Int (Struct n) h = absurd (cc)
-same_equal Int (Pointer m k t) h = absurd (cc)
-same_equal Char Int h = absurd (cc)
-same_equal Char Char h = refl
-same_equal Char (Struct n) h = absurd (cc)
-same_equal Char (Pointer m k t) h = absurd (cc)
-same_equal (Struct n) Int h = absurd (cc)
-same_equal (Struct n) Char h = absurd (cc)
-same_equal (Struct n) (Struct n') h = ap Struct (eqb-true n n' h)
-same_equal (Struct n) (Pointer m k t) h = absurd (cc)
-same_equal (Pointer m k t) Int h = absurd (cc)
-same_equal (Pointer m k t) Char h = absurd (cc)
-same_equal (Pointer m k t) (Struct n) h = absurd (cc)
-same_equal (Pointer m k t) (Pointer m' k' t') h =
-    let first = and_parts (same_mode m m') (same_kind k k' && same_type t t') h in
-    let second = and_parts (same_kind k k') (same_type t t') first.1 in
-    let a = mode_equal m m' first.0 in
-    let b = kind_equal k k' second.0 in
-    let c = same_equal t t' second.1 in
-    cc
-
 -- ---- what crosses the boundary
 
 without_checked_promises : {A : Type 0} (Q : A → Type 0) (arguments : List (Typed × Span)) (next : Verdict A) → Promises Q next → Promises Q (without_checked arguments next)
@@ -176,7 +139,7 @@ crossing_promises Q false arguments next h = h
 
 -- ---- names
 
--- what a name stands for is there, and of an array the size of its elements is known
+-- what a name stands for is there among these locals, and of an array the size of its elements is known
 abbrev pub StandsFor : Frame → List Structure → List CType → Named → Type 0
 StandsFor g structs types (Local k t) = slice_get types k ≡ Some t
 StandsFor g structs types (Object k t) = IsObject g t k
@@ -225,16 +188,16 @@ module _ (g : Frame) (structs : List Structure) (types : List CType) where
   meant_stands None h = tt
   meant_stands (Some n) h = h
 
-pub name_stands : (g : Frame) (types : List CType) (s : Scope) → Knows g types s → (name : ℕ) → Promises (StandsFor g s.structs types) (named s name)
+pub name_stands : (g : Frame) (types : List CType) (s : Scope) → Knows g types s → (name : ℕ) → Promises (StandsFor g s.structs s.locals) (named s name)
 name_stands g types s knows name =
     let locals = local_named s.locals s.visible name in
     let objects = object_named 0 s.variables name in
     let null = null_named s.given name in
-    meant_stands g s.structs types (or_else locals (or_else objects null))
-    (either_stands g s.structs types locals (or_else objects null) (locals_stand g s.structs types s.locals knows.locals s.visible name)
-    (either_stands g s.structs types objects null
-    (objects_stand g s.structs types 0 s.variables name (λ k v e. let same : k ≡ 0 + k = omega arith in subst (λ j. IsVariable g v.type v.length j) same (knows.file.variables k v e)) knows.file.closed.of_variables)
-    (found_stands g s.structs types (name == s.given.null) (Some Nothing) None tt tt)))
+    meant_stands g s.structs s.locals (or_else locals (or_else objects null))
+    (either_stands g s.structs s.locals locals (or_else objects null) (locals_stand g s.structs s.locals s.locals (λ k t e. e) s.visible name)
+    (either_stands g s.structs s.locals objects null
+    (objects_stand g s.structs s.locals 0 s.variables name (λ k v e. let same : k ≡ 0 + k = omega arith in subst (λ j. IsVariable g v.type v.length j) same (knows.file.variables k v e)) knows.file.closed.of_variables)
+    (found_stands g s.structs s.locals (name == s.given.null) (Some Nothing) None tt tt)))
 
 -- ---- members
 

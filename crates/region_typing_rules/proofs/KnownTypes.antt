@@ -3,7 +3,7 @@ use Rattle.std.proofs.Common.{◌≡◌, ℕ, suc, ◌^◌, Bool, true, false, L
 use Rattle.std.specs.Prelude.{◌==◌, slice_get, nat_lt, not, ◌&&◌, ◌||◌, is_some}
 use Rattle.std.specs.List.{AllByRecursion}
 use Rattle.ckc_text.specs.declared.place.Span.{Span}
-use Rattle.ckc_text.specs.declared.code.Code.TheVariants.{E04, E13, E14, E17, E18, E19}
+use Rattle.ckc_text.specs.declared.code.Code.TheVariants.{E04, E13, E14, E17, E18, E19, E26}
 use Rattle.ckc_tree.specs.declared.expr.UnaryOperator.{UnaryOperator}
 use Rattle.ckc_tree.specs.declared.expr.UnaryOperator.TheVariants as unary
 use Rattle.ckc_tree.specs.declared.expr.BinaryOperator.{BinaryOperator}
@@ -25,7 +25,7 @@ use Rattle.ckc_names_rules.specs.declared.given.Given.{Given}
 use Rattle.region_typing_rules.specs.Verdicts.{Verdict, Passes, Stops, passing, meant, picked}
 use Rattle.region_typing_rules.specs.Scopes.{Scope, Signature, FileVariable, Visible, Named, Local, Object, Array, Nothing, local_if, found_if, local_named, object_of, object_named, or_else, null_named, named, function_named, members_named}
 use Rattle.region_typing_rules.specs.Types.{type_named, is_number, is_pointer, are_comparable}
-use Rattle.region_typing_rules.specs.Expressions.{Places, OfLocal, OfCell, ForNothing, ForArray, For, Typed, Value, AStruct, Called, Gives, GivesNothing, site_at, bounded, number, at_place, local_typed, name_typed, member_from, member_at, dotted, with_elements, first_element, pointed_by, arrowed, pointed_at, dereferenced, address, number_of, scalar_of, unary_typed, is_single_value, lacks_bounds, two_numbers, two_scalars, operator_along, summed, sum_typed, equated, ordered, binary_typed, element_at, indexed, asked_of, meets, arguments_met, arguments_as, is_import, call_of, declared_callee, writes, predefined_call, called, with_result, typed, all_typed}
+use Rattle.region_typing_rules.specs.Expressions.{Places, OfLocal, OfCell, ForNothing, ForArray, For, Typed, Value, AStruct, Called, Gives, GivesNothing, site_at, bounded, number, at_place, local_typed, name_typed, member_from, member_at, dotted, with_elements, first_element, pointed_by, arrowed, pointed_at, dereferenced, address, number_of, scalar_of, unary_typed, is_single_value, lacks_bounds, two_numbers, two_scalars, operator_along, summed, sum_typed, equated, are_related, ordered, binary_typed, element_at, indexed, asked_of, meets, arguments_met, arguments_as, is_import, call_of, declared_callee, writes, predefined_call, called, with_result, typed, all_typed}
 use Rattle.region_typing_rules.proofs.Verdicts.{Promises, passing_promises, needs_promises, anything_promised}
 use Rattle.region_typing_rules.proofs.Known.{IsKnown, IsKnownResult, IsClosed}
 use Rattle.region_typing_rules.proofs.Knowledge.{crossing_promises}
@@ -97,17 +97,17 @@ module _ (structs : List Structure) where
   at_place_known (Struct number) p h = h
   at_place_known (Pointer m k t) p h = h
 
-  local_typed_known : (local : ℕ) (t : CType) → IsKnown structs t → Known (local_typed local t)
-  local_typed_known local Int h = h
-  local_typed_known local Char h = h
-  local_typed_known local (Struct number) h = h
-  local_typed_known local (Pointer m k t) h = h
+  local_typed_known : (s : Scope) (local : ℕ) (t : CType) (site : Site) → IsKnown structs t → Known (local_typed s.structs s.flow local t site)
+  local_typed_known s local Int site h = h
+  local_typed_known s local Char site h = h
+  local_typed_known s local (Struct number) site h = h
+  local_typed_known s local (Pointer m k t) site h = h
 
-  name_known : (site : Site) (n : Named) → IsKnownNamed structs n → Known (name_typed structs n site)
-  name_known site (Local local type) h = local_typed_known local type h
-  name_known site (Object object type) h = at_place_known type (core.Direct object 0) h
-  name_known site (Array object type length) h = h
-  name_known site Nothing h = tt
+  name_known : (s : Scope) (site : Site) (n : Named) → IsKnownNamed structs n → Known (name_typed s n site)
+  name_known s site (Local local type) h = local_typed_known s local type site h
+  name_known s site (Object object type) h = at_place_known type (core.Direct object 0) h
+  name_known s site (Array object type length) h = h
+  name_known s site Nothing h = tt
 
   with_elements_known : (value : core.Expression) (span : Span) (t : Typed) → Known t → Promises Known (with_elements value span (Passes t))
   with_elements_known value span t h = needs_promises Known (is_some (bounds_of value)) E18 span (Passes t) (λ there. h)
@@ -158,14 +158,14 @@ module _ (structs : List Structure) where
   equal_known : (a b : Typed) (span : Span) (next : core.Expression → core.Expression) → Promises Known (passing (equated a b span) (λ v. number (next v)))
   equal_known a b span next = passing_promises (λ (v : core.Expression). Unit {0}) Known (equated a b span) _ (anything_promised (equated a b span)) (λ v _. tt)
 
-  ordered_known : (comparison : Comparison) (a b : Typed) (span : Span) → Promises Known (ordered comparison a b span)
-  ordered_known comparison (Value t z v p) (AStruct n q) span = tt
-  ordered_known comparison (AStruct n p) b span = tt
-  ordered_known comparison (Value t z v p) (Value u y w q) span = by (is_number t && is_number u) (are_comparable t u) refl refl
+  ordered_known : (comparison : Comparison) (a b : Typed) (site : Site) (span : Span) → Promises Known (ordered comparison a b site span)
+  ordered_known comparison (Value t z v p) (AStruct n q) site span = tt
+  ordered_known comparison (AStruct n p) b site span = tt
+  ordered_known comparison (Value t z v p) (Value u y w q) site span = by (is_number t && is_number u) (are_comparable t u) refl refl
     where
-      by : (numbers same : Bool) → (is_number t && is_number u) ≡ numbers → are_comparable t u ≡ same → Promises Known (ordered comparison (Value t z v p) (Value u y w q) span)
+      by : (numbers same : Bool) → (is_number t && is_number u) ≡ numbers → are_comparable t u ≡ same → Promises Known (ordered comparison (Value t z v p) (Value u y w q) site span)
       by true same e e1 = rw e tt
-      by false true e e1 = rw (e, e1) tt
+      by false true e e1 = rw (e, e1) (needs_promises Known (are_related t v u w) E26 span (number (core.Order comparison v w site)) (λ yes. tt))
       by false false e e1 = rw (e, e1) tt
 
   summed_known : (s : Scope) (direction : Direction) (a b : Typed) (site : Site) (span : Span) → Known a → Promises Known (summed s direction a b site span)
@@ -188,10 +188,10 @@ module _ (structs : List Structure) where
   binary_known s binary.BitAnd a b site span h = numbers_known a b span _
   binary_known s binary.Equal a b site span h = equal_known a b span (λ v. v)
   binary_known s binary.NotEqual a b site span h = equal_known a b span core.Not
-  binary_known s binary.Less a b site span h = ordered_known _ a b span
-  binary_known s binary.LessEqual a b site span h = ordered_known _ a b span
-  binary_known s binary.Greater a b site span h = ordered_known _ a b span
-  binary_known s binary.GreaterEqual a b site span h = ordered_known _ a b span
+  binary_known s binary.Less a b site span h = ordered_known _ a b site span
+  binary_known s binary.LessEqual a b site span h = ordered_known _ a b site span
+  binary_known s binary.Greater a b site span h = ordered_known _ a b site span
+  binary_known s binary.GreaterEqual a b site span h = ordered_known _ a b site span
   binary_known s binary.ShiftLeft a b site span h = numbers_known a b span _
   binary_known s binary.ShiftRight a b site span h = numbers_known a b span _
   binary_known s binary.Add a b site span h = sum_known s directions.Forward a b site span h
@@ -313,8 +313,8 @@ module _ (s : Scope) (closed : IsClosed s) where
   typed_known at (e.Character value span) = needs_promises (IsKnownTyped s.structs) (nat_lt value (2 ^ 31)) E04 span _ (λ low. tt)
   typed_known at (e.Text bytes span) = tt
   typed_known at (e.Name name) =
-      bounded_known s (site_at at name.span) (passing (named s name.number) (λ n. Passes (name_typed s.structs n (site_at at name.span))))
-      (passing_promises (IsKnownNamed s.structs) (IsKnownTyped s.structs) (named s name.number) _ (named_known name.number) (name_known s.structs (site_at at name.span)))
+      bounded_known s (site_at at name.span) (passing (named s name.number) (λ n. Passes (name_typed s n (site_at at name.span))))
+      (passing_promises (IsKnownNamed s.structs) (IsKnownTyped s.structs) (named s name.number) _ (named_known name.number) (name_known s.structs s (site_at at name.span)))
   typed_known at (e.Call callee arguments span) =
       passing_promises (λ (ts : List (Typed × Span)). Unit {0}) (IsKnownTyped s.structs) (all_typed at s arguments) _ (anything_promised (all_typed at s arguments))
       (λ ts _. passing_promises (IsKnownCall s.structs) (IsKnownTyped s.structs) (called s (function_named s.functions callee.number) callee.number ts (site_at at span) span) _

@@ -10,11 +10,13 @@ pub mod Knowledge
 pub mod Sizes
 pub mod KnownTypes
 pub mod Elements
+pub mod Given
 pub mod Expressions
 pub mod FlowSizes
 pub mod Growth
 pub mod Assigning
 pub mod Statements
+pub mod Tracked
 pub mod Layouts
 pub mod Copies
 pub mod Sides
@@ -29,6 +31,7 @@ pub mod NamedVerdicts
 pub mod NamedMentions
 pub mod NamedScopes
 pub mod NamedExpressions
+pub mod NamedBounds
 pub mod NamedStatements
 pub mod NamedLists
 pub mod NamedItems
@@ -53,3 +56,5 @@ pub mod Turns
 pub mod Sound
 pub mod Entries
 pub mod Safe
+pub mod SameTypes
+pub mod DeclaredBounds

@@ -17,7 +17,9 @@ use Rattle.region_typing_rules.specs.Scopes.{Scope, Visible}
 use Rattle.region_typing_rules.specs.Types.{is_scalar, without_stars, base_type}
 use Rattle.region_typing_rules.specs.Expressions.{Places, Typed, Called, Gives, GivesNothing, call_typed, typed}
 use Rattle.region_typing_rules.specs.Knowing.{when, local_number, target_marked, marked_at, assignment_marked, bundle_marked, step_marked, hiding, hidden_by, hidden_first, first_marked, marked, all_marked, at_loop}
-use Rattle.region_typing_rules.specs.Statements.{Walked, both, assigning, zero_value, with_local, initialised, declarator, declarators, declaration, at_alternative, before_step, in_loop, is_unchecked, condition, optional_condition, optional_step, first_part, alone, return, returned, returned_nothing, statement, statements}
+use Rattle.bounds_exprs.specs.declared.term.Bounds.{Bounds}
+use Rattle.region_typing_rules.specs.DeclaredBounds.{declared_bounds}
+use Rattle.region_typing_rules.specs.Statements.{Walked, both, assigning, zero_value, with_local, initialised, bounded_local, declarator, declarators, declaration, at_alternative, before_step, in_loop, is_unchecked, condition, optional_condition, optional_step, first_part, alone, return, returned, returned_nothing, statement, statements}
 use Rattle.region_typing_rules.proofs.Verdicts.{Promises, passing_promises, needs_promises, extends_last}
 use Rattle.region_typing_rules.proofs.Kept.{passing_any}
 use Rattle.region_typing_rules.proofs.Assigning.{assigning_promises, declared_promises}
@@ -281,31 +283,40 @@ pub step_marked_so : (at : Places) (g : Scope) (o : Option Assignment) (beyond :
 step_marked_so at g None beyond ws hidden low = record { only = λ may before many covers. tt; hidden = hidden; low = low }
 step_marked_so at g (Some a) beyond ws hidden low = assigning_marked at g a beyond ws hidden low
 
-longer : (g : Scope) (name : ℕ) (t : CType) → length (with_local name t g).locals ≡ suc (length g.locals)
-longer g name t = let e = length-append g.locals (t ∷ []) in omega (arith, e)
+longer : (g : Scope) (name : ℕ) (t : CType) (b : Option Bounds) → length (with_local name t b g).locals ≡ suc (length g.locals)
+longer g name t b = let e = length-append g.locals (t ∷ []) in omega (arith, e)
 
-declarator_marked : (at : Places) (g : Scope) (base : TypeTree) (type : CType) (span : Span) (d : Declarator) (beyond : ℕ) (ws : List Visible) → AreHidden beyond g.visible ws → beyond ≤ length g.locals
-    → Promises (IsMarked beyond (record { name = d.name.number; local = beyond } ∷ ws) (λ marks. marks)) (declarator at g base type span d)
-declarator_marked at g base type span d beyond ws hidden low =
-    needs_promises (IsMarked beyond (record { name = d.name.number; local = beyond } ∷ ws) (λ marks. marks)) (nat_lt (length g.locals) g.flow.vars) E08 span _
-    (λ few. passing_any (IsMarked beyond (record { name = d.name.number; local = beyond } ∷ ws) (λ marks. marks)) (without_stars base d.stars type) _
-    (λ t. passing_promises (IsFirst (with_local d.name.number t g).locals (length g.locals) d.initializer) (IsMarked beyond (record { name = d.name.number; local = beyond } ∷ ws) (λ marks. marks)) (initialised at (with_local d.name.number t g) d.initializer t (length g.locals) span) _
-    (initialised_plain at (with_local d.name.number t g) d.initializer t (length g.locals) span (extends_last g.locals t))
-    (λ initial h. needs_promises (IsMarked beyond (record { name = d.name.number; local = beyond } ∷ ws) (λ marks. marks)) (is_scalar t) E13 span _
-    (λ scalar. declared_promises (IsMarked beyond (record { name = d.name.number; local = beyond } ∷ ws) (λ marks. marks)) (with_local d.name.number t g) d.initializer t (length g.locals) span initial
+abbrev IsDeclaring : (beyond : ℕ) → List Visible → Declarator → Walked → Type 0
+IsDeclaring beyond ws d w = IsMarked beyond (record { name = d.name.number; local = beyond } ∷ ws) (λ marks. marks) w
+
+bounded_local_marked : (at : Places) (g : Scope) (d : Declarator) (t : CType) (span : Span) (b : Option Bounds) (beyond : ℕ) (ws : List Visible) → AreHidden beyond g.visible ws → beyond ≤ length g.locals
+    → Promises (IsDeclaring beyond ws d) (bounded_local at g d t span b)
+bounded_local_marked at g d t span b beyond ws hidden low =
+    let inner = with_local d.name.number t b g in
+    passing_promises (IsFirst inner.locals (length g.locals) d.initializer) (IsDeclaring beyond ws d) (initialised at inner d.initializer t (length g.locals) span) _
+    (initialised_plain at inner d.initializer t (length g.locals) span (extends_last g.locals t))
+    (λ initial h. needs_promises (IsDeclaring beyond ws d) (is_scalar t) E13 span _
+    (λ scalar. declared_promises (IsDeclaring beyond ws d) inner d.initializer t (length g.locals) span initial
     (λ f. record {
       only = λ may before many covers.
           let here : may (length g.locals) ≡ true = covers (length g.locals) (beyond_true before (length g.locals) (omega (arith, low, many))) in
           both_only may (core.SetLocal (length g.locals) (zero_value t)) initial here (h.only may here);
       hidden = (refl, inr low, hidden);
-      low = (let e = longer g d.name.number t in omega (arith, low, e));
-    })))))
+      low = (let e = longer g d.name.number t b in omega (arith, low, e));
+    })))
+
+declarator_marked : (at : Places) (g : Scope) (base : TypeTree) (type : CType) (span : Span) (d : Declarator) (beyond : ℕ) (ws : List Visible) → AreHidden beyond g.visible ws → beyond ≤ length g.locals
+    → Promises (IsDeclaring beyond ws d) (declarator at g base type span d)
+declarator_marked at g base type span d beyond ws hidden low =
+    needs_promises (IsDeclaring beyond ws d) (nat_lt (length g.locals) g.flow.vars) E08 span _
+    (λ few. passing_any (IsDeclaring beyond ws d) (without_stars base d.stars type) _
+    (λ t. passing_any (IsDeclaring beyond ws d) (declared_bounds (with_local d.name.number t None g) t (length g.locals) d.bounds) _ (λ b. bounded_local_marked at g d t span b beyond ws hidden low)))
 
 declarators_marked : (at : Places) (g : Scope) (base : TypeTree) (type : CType) (span : Span) (ds : List Declarator) (beyond : ℕ) (ws : List Visible) → AreHidden beyond g.visible ws → beyond ≤ length g.locals
     → Promises (IsMarked beyond (hiding beyond ds ws) (λ marks. marks)) (declarators at g base type span ds)
 declarators_marked at g base type span [] beyond ws hidden low = record { only = λ may before many covers. tt; hidden = hidden; low = low }
 declarators_marked at g base type span (d ∷ ds) beyond ws hidden low =
-    passing_promises (IsMarked beyond (record { name = d.name.number; local = beyond } ∷ ws) (λ marks. marks)) (IsMarked beyond (hiding beyond (d ∷ ds) ws) (λ marks. marks)) (declarator at g base type span d) _ (declarator_marked at g base type span d beyond ws hidden low)
+    passing_promises (IsDeclaring beyond ws d) (IsMarked beyond (hiding beyond (d ∷ ds) ws) (λ marks. marks)) (declarator at g base type span d) _ (declarator_marked at g base type span d beyond ws hidden low)
     (λ first h. passing_promises (IsMarked beyond (hiding beyond (d ∷ ds) ws) (λ marks. marks)) (IsMarked beyond (hiding beyond (d ∷ ds) ws) (λ marks. marks)) (declarators at first.1 base type span ds) _
     (declarators_marked at first.1 base type span ds beyond (record { name = d.name.number; local = beyond } ∷ ws) h.hidden h.low)
     (λ rest k. record { only = λ may before many covers. both_only may first.0 rest.0 (h.only may before many covers) (k.only may before many covers); hidden = k.hidden; low = k.low }))

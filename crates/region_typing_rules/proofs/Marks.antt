@@ -9,22 +9,22 @@ use Rattle.ckc_tree.specs.Expressions.{Expression}
 use Rattle.ckc_tree.specs.Statements as s
 use Rattle.ckc_tree.specs.Statements.{Initializer, Assignment}
 use Rattle.bounds_flow.specs.Flows.{Knowledge}
-use Rattle.pointer_modes.specs.Types.{CType}
+use Rattle.pointer_modes.specs.Types.{CType, Int, Char, Struct, Pointer}
 use Rattle.act_words.specs.declared.operator.Operator.{Operator}
-use Rattle.act_words.specs.declared.operator.Operator.TheVariants as operators
-use Rattle.act_words.specs.declared.operator.ArithmeticOperator.TheVariants as arithmetics
+use Rattle.ckc_core.specs.declared.program.Direction.{Direction}
+use Rattle.ckc_core.specs.declared.program.Direction.TheVariants as directions
 use Rattle.ckc_core.specs.declared.program.Site.{Site}
 use Rattle.ckc_core.specs.Core as core
 use Rattle.region_typing_rules.specs.Verdicts.{Verdict, Passes}
 use Rattle.region_typing_rules.specs.Scopes.{Scope}
 use Rattle.region_typing_rules.specs.Types.{is_number, converts}
-use Rattle.region_typing_rules.specs.Expressions.{Places, Lvalue, OfLocal, OfCell, ForNothing, ForArray, For, Typed, Value, AStruct, site_at, typed, in_type, converted, bounds_met}
-use Rattle.region_typing_rules.specs.Statements.{store, update, assigned, set_to, updated, stored, step_of, one, assignment, initialised}
+use Rattle.region_typing_rules.specs.Expressions.{Places, Lvalue, OfLocal, OfCell, ForNothing, ForArray, For, Typed, Value, AStruct, site_at, operator_along, sum_node, typed, in_type, converted, bounds_met}
+use Rattle.region_typing_rules.specs.Statements.{store, update, assigned, set_to, moved, updated_as, updated, stored, step_of, one, assignment, initialised}
 use Rattle.region_typing_rules.proofs.Verdicts.{Promises, passing_promises, needs_promises, apart_promises, met_promises}
 use Rattle.region_typing_rules.proofs.Kept.{passing_any}
 use Rattle.region_typing_rules.proofs.Moving.{AssignsOnly}
 use Rattle.region_typing_rules.proofs.Assigns.{IsPlain}
-use Rattle.region_typing_rules.proofs.Sources.{IsNameOf, IsTarget, IsSource, numbers_any, typed_source}
+use Rattle.region_typing_rules.proofs.Sources.{IsNameOf, IsTarget, IsSource, number_any, numbers_any, typed_source}
 
 -- ---- assignments are plain, and to the local of their target
 
@@ -58,15 +58,31 @@ module _ (g : Scope) (target : Expression) where
   set_plain f t right span h =
       assigned_plain t span _ h (λ type place is. converted_met (IsAssignment g target) f right type span (λ v. Passes (store place type v)) (λ v. store_plain place type v is))
 
-  updated_plain : (at : Places) (operator : Operator) (t right : Typed) (span : Span) → IsSource g target t → Promises (IsAssignment g target) (updated at operator t right span)
-  updated_plain at operator t right span h =
-      assigned_plain t span _ h (λ type place is. apart_promises (IsAssignment g target) t right span _
-      (numbers_any (IsAssignment g target) t right span (λ old v. Passes (update place type operator v (site_at at span))) (λ old v. update_plain place type operator v (site_at at span) is)))
+  moved_plain : (place : Lvalue) (type : CType) (sum : core.Expression) (span : Span) → IsTarget g target type (For place) → Promises (IsAssignment g target) (moved place sum span)
+  moved_plain (OfLocal k) type sum span h = record { plain = (type, h.0); only = λ may is. is k h.1 }
+  moved_plain (OfCell p) type sum span h = tt
 
-  stored_plain : (at : Places) (f : Knowledge) (operator : StoreOperator) (t right : Typed) (span : Span) → IsSource g target t → Promises (IsAssignment g target) (stored at f operator t right span)
-  stored_plain at f stores.Set t right span h = set_plain f t right span h
-  stored_plain at f stores.Add t right span h = updated_plain at (operators.Arithmetic arithmetics.Add) t right span h
-  stored_plain at f stores.Subtract t right span h = updated_plain at (operators.Arithmetic arithmetics.Subtract) t right span h
+  updated_as_plain : (direction : Direction) (type : CType) (place : Lvalue) (t right : Typed) (site : Site) (span : Span) → IsTarget g target type (For place)
+      → Promises (IsAssignment g target) (updated_as g direction type place t right site span)
+  updated_as_plain direction (Pointer m k to) place (Value u null pointer old) right site span is =
+      number_any (IsAssignment g target) right span (λ v. moved place (core.Sum pointer direction v site (sum_node g.locals direction pointer v site)) span)
+      (λ v. moved_plain place (Pointer m k to) (core.Sum pointer direction v site (sum_node g.locals direction pointer v site)) span is)
+  updated_as_plain direction (Pointer m k to) place (AStruct n old) right site span is = tt
+  updated_as_plain direction Int place t right site span is =
+      numbers_any (IsAssignment g target) t right span (λ old v. Passes (update place Int (operator_along direction) v site)) (λ old v. update_plain place Int (operator_along direction) v site is)
+  updated_as_plain direction Char place t right site span is =
+      numbers_any (IsAssignment g target) t right span (λ old v. Passes (update place Char (operator_along direction) v site)) (λ old v. update_plain place Char (operator_along direction) v site is)
+  updated_as_plain direction (Struct n) place t right site span is =
+      numbers_any (IsAssignment g target) t right span (λ old v. Passes (update place (Struct n) (operator_along direction) v site)) (λ old v. update_plain place (Struct n) (operator_along direction) v site is)
+
+  updated_plain : (at : Places) (direction : Direction) (t right : Typed) (span : Span) → IsSource g target t → Promises (IsAssignment g target) (updated at g direction t right span)
+  updated_plain at direction t right span h =
+      assigned_plain t span _ h (λ type place is. apart_promises (IsAssignment g target) t right span _ (updated_as_plain direction type place t right (site_at at span) span is))
+
+  stored_plain : (at : Places) (operator : StoreOperator) (t right : Typed) (span : Span) → IsSource g target t → Promises (IsAssignment g target) (stored at g operator t right span)
+  stored_plain at stores.Set t right span h = set_plain g.flow t right span h
+  stored_plain at stores.Add t right span h = updated_plain at directions.Forward t right span h
+  stored_plain at stores.Subtract t right span h = updated_plain at directions.Backward t right span h
 
 abbrev pub target_of : Assignment → Expression
 target_of (s.Store operator target value span) = target
@@ -75,7 +91,7 @@ target_of (s.Step operator side target span) = target
 pub assignment_plain : (at : Places) (g : Scope) (a : Assignment) → Promises (IsAssignment g (target_of a)) (assignment at g a)
 assignment_plain at g (s.Store operator target value span) =
     passing_promises (IsSource g target) (IsAssignment g target) (typed at g target) _ (typed_source at g target)
-    (λ a h. passing_any (IsAssignment g target) (typed at g value) _ (λ b. stored_plain g target at g.flow operator a b span h))
+    (λ a h. passing_any (IsAssignment g target) (typed at g value) _ (λ b. stored_plain g target at operator a b span h))
 assignment_plain at g (s.Step operator side target span) =
     passing_promises (IsSource g target) (IsAssignment g target) (typed at g target) _ (typed_source at g target) (λ a h. updated_plain g target at (step_of operator) a one span h)
 

@@ -78,7 +78,7 @@ module _ (of : Numbers) (at : Places) (n : Scopes) (g : Scope) (agrees : Agrees 
     typed_named (e.Number value span) built found = needs_named Any (nat_lt value (2 ^ 31)) E04 span _ tt
     typed_named (e.Character value span) built found = needs_named Any (nat_lt value (2 ^ 31)) E04 span _ tt
     typed_named (e.Text bytes span) built found = tt
-    typed_named (e.Name name) built found = bounded_named g (site_at at name.span) (passing (named g (of name.name)) (λ x. Passes (name_typed g.structs x (site_at at name.span)))) (then_named Any (named g (of name.name)) _ (name_meant of n g agrees name found.0) (λ x. tt))
+    typed_named (e.Name name) built found = bounded_named g (site_at at name.span) (passing (named g (of name.name)) (λ x. Passes (name_typed g x (site_at at name.span)))) (then_named Any (named g (of name.name)) _ (name_meant of n g agrees name found.0) (λ x. tt))
     typed_named (e.Call callee arguments span) built found =
         let parts = and_parts (not (bytes_eq callee.name strlen)) (built_expressions arguments) built in
         then_named Any (all_typed at g (number_expressions of arguments)) _ (all_named arguments parts.1 found.1)

@@ -34,7 +34,7 @@ use Rattle.region_typing_rules.specs.Expressions.{Places, is_tainted, typed}
 use Rattle.bounds_flow.specs.Flows.{at_entry}
 use Rattle.region_typing_rules.specs.Statements.{is_unchecked, statements}
 use Rattle.ckc_tree.specs.declared.stmt.SignedConstant.{SignedConstant}
-use Rattle.region_typing_rules.specs.Items.{Walk, is_struct, member_types, scalar_members, with_struct, member_names, structure, signed_constant, Walked, Missing, Written, Constants, unsigned_number, small_constants, initializer, is_zero, number_or_break, cells_or_break, object_cells, with_variable, length_of, count_of, is_length, written_size, few_bytes, room_for, WalkedVariable, variables, room_for_first, with_objects, global, listed, parameter_types, result_type, agrees, all_scalar, scalar_result, with_function, variables_in, inside, function_body, is_defined, function_rules, signature_of, function, is_off, item, items, start, walked}
+use Rattle.region_typing_rules.specs.Items.{Walk, is_struct, member_types, scalar_members, with_struct, member_names, structure, signed_constant, Walked, Missing, Written, Constants, unsigned_number, small_constants, initializer, are_zeros, is_zero, number_or_break, cells_or_break, object_cells, with_variable, length_of, count_of, is_length, written_size, few_bytes, room_for, WalkedVariable, variables, room_for_first, with_objects, global, listed, parameter_types, result_type, agrees, all_scalar, scalar_result, with_function, variables_in, inside, function_body, is_defined, function_rules, signature_of, function, is_off, item, items, start, walked}
 use Rattle.region_typing_rules.specs.Cores.{checked}
 use Rattle.region_typing_rules.proofs.Signatures.{bytes_equal}
 use Rattle.region_typing_rules.proofs.NamedVerdicts.{IsNamed, AllNamed, Any, passing_named, then_named, needs_named, named_so}
@@ -210,7 +210,7 @@ cells_named given structs t (Some length) (Written value x) span = tt
 cells_named given structs Int (Some length) (Constants cs) span = all_cells_named _ span
 cells_named given structs Char (Some length) (Constants cs) span = all_cells_named _ span
 cells_named given structs (Struct number) (Some length) (Constants cs) span = tt
-cells_named given structs (Pointer mode kind target) (Some length) (Constants cs) span = tt
+cells_named given structs (Pointer mode kind target) (Some length) (Constants cs) span = needs_named Any (are_zeros cs) E13 span _ (all_cells_named _ span)
 
 objects_named : (w : Walk) (span : Span) (vs : List WalkedVariable) → IsNamed (λ (v : Walk). v.scope ≡ w.scope) (with_objects w span vs)
 objects_named w span [] = refl
@@ -371,6 +371,7 @@ function_named_so of at all n m w d before built h =
       visible = [];
       result = f.result;
       in_loop = false;
+      outside = 0;
       flow = at_entry (variables_in (length ps) body);
       breaks = None;
       continues = None;

@@ -1,5 +1,5 @@
 -- Members of a struct and parameters of a function: which names naming enters for them, and what the rules make of them.
-use Rattle.std.proofs.Common.{◌≡◌, ℕ, Bool, true, false, List, [], ◌∷◌, ◌++◌, length, map, Some, refl, sym, ◌∙◌, subst, ◌⊎◌, inl, inr}
+use Rattle.std.proofs.Common.{◌≡◌, ℕ, Bool, true, false, List, [], ◌∷◌, ◌++◌, length, map, Some, refl, sym, ◌∙◌, subst, ◌⊎◌, inl, inr, None}
 use Rattle.std.specs.Prelude.{◌==◌, ◌||◌, bytes_eq, nat_lt, is_some, is_none, position, Ok, flat_map}
 use Rattle.std.specs.List.{AllByRecursion, list_any}
 use Rattle.ckc_text.specs.declared.code.Code.TheVariants.{E08}
@@ -168,15 +168,15 @@ parameters_named of tags g knows (p ∷ members) done h =
 
 pub parameters_later : (ps : List FileVariable) (g : Scope) → Later g (with_parameters ps g)
 parameters_later [] g = later_same g
-parameters_later (p ∷ ps) g = later_further g (with_local p.name p.type g) (with_parameters ps (with_local p.name p.type g)) (later_local p.name p.type g) (parameters_later ps (with_local p.name p.type g))
+parameters_later (p ∷ ps) g = later_further g (with_local p.name p.type None g) (with_parameters ps (with_local p.name p.type None g)) (later_local p.name p.type None g) (parameters_later ps (with_local p.name p.type None g))
 
 abbrev IsLocal : Scope → ℕ → Type 0
 IsLocal g x = is_some (local_named g.locals g.visible x) ≡ true
 
-local_here : (name : ℕ) (t : CType) (g : Scope) (x : ℕ) → ((x == name) ≡ true) ⊎ IsLocal g x → IsLocal (with_local name t g) x
+local_here : (name : ℕ) (t : CType) (g : Scope) (x : ℕ) → ((x == name) ≡ true) ⊎ IsLocal g x → IsLocal (with_local name t None g) x
 local_here name t g x h = by (x == name) refl h
   where
-    by : (b : Bool) → (x == name) ≡ b → (b ≡ true) ⊎ IsLocal g x → IsLocal (with_local name t g) x
+    by : (b : Bool) → (x == name) ≡ b → (b ≡ true) ⊎ IsLocal g x → IsLocal (with_local name t None g) x
     by true e o = rw (e, extends_last g.locals t) refl
     by false e (inl here) = absurd (cc)
     by false e (inr old) = rw e (local_later g.locals (g.locals ++ t ∷ []) g.visible x (extends_append g.locals (t ∷ [])) old)
@@ -185,10 +185,10 @@ pub parameters_local : (ps : List FileVariable) (g : Scope) (x : ℕ) → (is_va
 parameters_local [] g x (inl none) = absurd (cc)
 parameters_local [] g x (inr old) = old
 parameters_local (p ∷ ps) g x (inl listed) = elim (or_cases (x == p.name) (is_variable ps x) listed) [
-  | inl here ↦ parameters_local ps (with_local p.name p.type g) x (inr (local_here p.name p.type g x (inl here)))
-  | inr there ↦ parameters_local ps (with_local p.name p.type g) x (inl there)
+  | inl here ↦ parameters_local ps (with_local p.name p.type None g) x (inr (local_here p.name p.type g x (inl here)))
+  | inr there ↦ parameters_local ps (with_local p.name p.type None g) x (inl there)
 ]
-parameters_local (p ∷ ps) g x (inr old) = parameters_local ps (with_local p.name p.type g) x (inr (local_here p.name p.type g x (inr old)))
+parameters_local (p ∷ ps) g x (inr old) = parameters_local ps (with_local p.name p.type None g) x (inr (local_here p.name p.type g x (inr old)))
 
 -- the scopes inside a function, where these are its parameters and naming has entered their names
 pub inside_agrees : (of : Numbers) (n k : Scopes) (g : Scope) (ps : List FileVariable) → AgreesFile of n g → Adds (λ x. is_variable ps (of x) ≡ true) n k → Agrees of k (with_parameters ps g)

@@ -10,6 +10,7 @@ use Rattle.ckc_tree.specs.Numbers.{Numbers, number_type, number_type_name}
 use Rattle.ckc_names_rules.specs.Given.{null, given_by}
 use Rattle.ckc_names_rules.specs.Mentions.{Use, Call, UseTag, type_mentions}
 use Rattle.ckc_names_rules.specs.Scopes.{Meaning, Variable, Block, Scopes, visible, is_among, predefined, with_entry, standing_for, is_value, is_function}
+use Rattle.bounds_exprs.specs.declared.term.Bounds.{Bounds}
 use Rattle.bounds_flow.specs.Flows.{Knowledge}
 use Rattle.pointer_modes.specs.Types.{CType}
 use Rattle.region_typing_rules.specs.Verdicts.{passing, meant}
@@ -94,9 +95,9 @@ opened_agrees of n g h = record { value = h.value; function = h.function; tag = 
 pub loop_agrees : (of : Numbers) → (n : Scopes) (g : Scope) → Agrees of n g → Agrees of n (in_loop g)
 loop_agrees of n g h = record { value = h.value; function = h.function; tag = h.tag; given = h.given }
 
--- what is known of numbers and pointers has nothing to do with names
-pub flow_agrees : (of : Numbers) → (n : Scopes) (g : Scope) (f : Knowledge) (b c : Option Knowledge) → Agrees of n g → Agrees of n (record g { flow = f; breaks = b; continues = c })
-flow_agrees of n g f b c h = record { value = h.value; function = h.function; tag = h.tag; given = h.given }
+-- what is known of numbers and pointers, and how many locals are outside of a loop, has nothing to do with names
+pub flow_agrees : (of : Numbers) → (n : Scopes) (g : Scope) (k : ℕ) (f : Knowledge) (b c : Option Knowledge) → Agrees of n g → Agrees of n (record g { outside = k; flow = f; breaks = b; continues = c })
+flow_agrees of n g k f b c h = record { value = h.value; function = h.function; tag = h.tag; given = h.given }
 
 -- ---- scopes that were entered since
 
@@ -120,14 +121,14 @@ pub later_loop : (g after : Scope) → Later (in_loop g) after → Later g after
 later_loop g after h = record { given = h.given; tags = h.tags; functions = h.functions; variables = h.variables; locals = h.locals }
 
 -- where something else is known of numbers and pointers
-pub flow_later : (a g : Scope) (f : Knowledge) (b c : Option Knowledge) → Later a g → Later a (record g { flow = f; breaks = b; continues = c })
-flow_later a g f b c h = record { given = h.given; tags = h.tags; functions = h.functions; variables = h.variables; locals = h.locals }
+pub flow_later : (a g : Scope) (k : ℕ) (f : Knowledge) (b c : Option Knowledge) → Later a g → Later a (record g { outside = k; flow = f; breaks = b; continues = c })
+flow_later a g k f b c h = record { given = h.given; tags = h.tags; functions = h.functions; variables = h.variables; locals = h.locals }
 
-pub from_flow : (g after : Scope) (f : Knowledge) (b c : Option Knowledge) → Later (record g { flow = f; breaks = b; continues = c }) after → Later g after
-from_flow g after f b c h = record { given = h.given; tags = h.tags; functions = h.functions; variables = h.variables; locals = h.locals }
+pub from_flow : (g after : Scope) (k : ℕ) (f : Knowledge) (b c : Option Knowledge) → Later (record g { outside = k; flow = f; breaks = b; continues = c }) after → Later g after
+from_flow g after k f b c h = record { given = h.given; tags = h.tags; functions = h.functions; variables = h.variables; locals = h.locals }
 
-pub later_local : (name : ℕ) (t : CType) (g : Scope) → Later g (with_local name t g)
-later_local name t g = record { given = refl; tags = refl; functions = refl; variables = refl; locals = extends_append g.locals (t ∷ []) }
+pub later_local : (name : ℕ) (t : CType) (b : Option Bounds) (g : Scope) → Later g (with_local name t b g)
+later_local name t b g = record { given = refl; tags = refl; functions = refl; variables = refl; locals = extends_append g.locals (t ∷ []) }
 
 type_some : (o : Option CType) (k : ℕ) → is_some (local_if o k) ≡ true → (t : CType) × (o ≡ Some t)
 type_some None k h = absurd (cc)
@@ -168,8 +169,8 @@ entry_without test name meaning other blocks x h = by (bytes_eq x name) refl blo
     by true e [] h' = h'
     by true e (block ∷ blocks) h' = let now : test (Some meaning) ≡ true = rw e at h' in absurd (cc)
 
-pub local_agrees : (of : Numbers) → (name : Identifier) (t : CType) (n : Scopes) (g : Scope) → Agrees of n g → Agrees of (standing_for name Variable n) (with_local (of name.name) t g)
-local_agrees of name t n g h = record {
+pub local_agrees : (of : Numbers) → (name : Identifier) (t : CType) (b : Option Bounds) (n : Scopes) (g : Scope) → Agrees of n g → Agrees of (standing_for name Variable n) (with_local (of name.name) t b g)
+local_agrees of name t b n g h = record {
   value = λ x v. by x (bytes_eq x name.name) refl v;
   function = λ x f. h.function x (entry_without is_function name.name Variable refl n.blocks x f);
   tag = h.tag;
@@ -177,13 +178,13 @@ local_agrees of name t n g h = record {
 }
   where
     -- what was known is known, also where it has the number of the new one
-    still : (x : List ℕ) (test : Bool) → (of x == of name.name) ≡ test → IsKnown g (of x) → IsKnown (with_local (of name.name) t g) (of x)
+    still : (x : List ℕ) (test : Bool) → (of x == of name.name) ≡ test → IsKnown g (of x) → IsKnown (with_local (of name.name) t b g) (of x)
     still x true e before = rw (e, extends_last g.locals t) refl
     still x false e before =
         rw e (either_some (local_named g.locals g.visible (of x)) (local_named (g.locals ++ t ∷ []) g.visible (of x)) (object_named 0 g.variables (of x)) (object_named 0 g.variables (of x))
         (local_later g.locals (g.locals ++ t ∷ []) g.visible (of x) (extends_append g.locals (t ∷ []))) (λ o. o) before)
 
-    by : (x : List ℕ) (b : Bool) → bytes_eq x name.name ≡ b → is_value (visible (with_entry name.name Variable n.blocks) x) ≡ true → IsKnown (with_local (of name.name) t g) (of x)
+    by : (x : List ℕ) (test : Bool) → bytes_eq x name.name ≡ test → is_value (visible (with_entry name.name Variable n.blocks) x) ≡ true → IsKnown (with_local (of name.name) t b g) (of x)
     by x true e v = rw (number_equal of x name.name e, extends_last g.locals t) refl
     by x false e v = still x (of x == of name.name) refl (h.value x (subst (λ o. is_value o ≡ true) (entry_value name.name Variable n.blocks x e) v))
 

@@ -10,7 +10,7 @@ use Rattle.ckc_tree.specs.Types.{TypeTree}
 use Rattle.ckc_tree.specs.Expressions.{Expression, expression_span}
 use Rattle.ckc_tree.specs.Statements as s
 use Rattle.ckc_tree.specs.Statements.{Initializer, Declarator, Declaration, Assignment, ForInitial, Statement, Statements}
-use Rattle.ckc_tree.specs.Numbers.{Numbers, number_type, number_expression, number_initializer, number_declarator, number_declaration, number_assignment, number_initial, number_statement, number_statements}
+use Rattle.ckc_tree.specs.Numbers.{Numbers, number_type, number_expression, number_bounds, number_initializer, number_declarator, number_declaration, number_assignment, number_initial, number_statement, number_statements}
 use Rattle.built_forms.specs.Built.{built_expression, optional, built_initializer, built_declarator, built_declaration, built_assignment, built_initial, built_statement, built_statements}
 use Rattle.ckc_names_rules.specs.Mentions.{type_mentions, expression_mentions, bounds_mentions, optional_mentions, initializer_mentions, declarator_mentions, declaration_mentions, assignment_mentions, for_initial_mentions, in_block, statement_mentions, statements_mentions}
 use Rattle.ckc_names_rules.specs.Scopes.{Variable, Scopes, standing_for, all_mentioned}
@@ -20,15 +20,18 @@ use Rattle.region_typing_rules.specs.Verdicts.{Passes}
 use Rattle.region_typing_rules.specs.Scopes.{Scope}
 use Rattle.region_typing_rules.specs.Types.{is_scalar, without_stars, base_type}
 use Rattle.region_typing_rules.specs.Expressions.{Places, typed, call_typed}
+use Rattle.bounds_exprs.specs.declared.term.Bounds.{Bounds}
 use Rattle.bounds_flow.specs.Flows.{Knowledge}
+use Rattle.region_typing_rules.specs.DeclaredBounds.{declared_bounds}
 use Rattle.bounds_flow.specs.Settling.{Finding, Meets, WasLost, Falls}
 use Rattle.region_typing_rules.specs.Readings.{told}
 use Rattle.region_typing_rules.specs.Knowing.{assigned_by, first_found, settled_as, settling, knowing, when, cut, broken, continued, at_loop}
-use Rattle.region_typing_rules.specs.Statements.{step_of, one, assignment, assigning, with_local, initialised, first_value, declarator, declarators, declaration, behind_block, behind_branch, behind_both, behind_loop, before_step, in_loop, is_unchecked, condition, optional_condition, optional_step, first_part, return, statement, statements}
+use Rattle.region_typing_rules.specs.Statements.{step_of, one, assignment, assigning, with_local, initialised, first_value, bounded_local, declarator, declarators, declaration, behind_block, behind_branch, behind_both, behind_loop, before_step, in_loop, is_unchecked, condition, optional_condition, optional_step, first_part, return, statement, statements}
 use Rattle.region_typing_rules.proofs.NamedVerdicts.{IsNamed, AllNamed, Any, passing_named, then_named, needs_named, scalar_named, met_named, converted_named, updated_named, stored_named, returned_named, nothing_named}
 use Rattle.region_typing_rules.proofs.NamedMentions.{AreFound, mentioned_append, quiet_front, quiet_all, found_append, type_quiet, expression_quiet, bounds_quiet, optional_quiet, initializer_quiet, assignment_quiet, declared_front, opened, block_mentioned, block_front, for_mentions, for_keeps, statement_keeps, statements_keep}
 use Rattle.region_typing_rules.proofs.NamedScopes.{Agrees, opened_agrees, loop_agrees, flow_agrees, flow_later, from_flow, Later, later_same, later_further, later_block, later_loop, later_local, behind_agrees, local_agrees, found_tags, base_named, stars_named}
 use Rattle.region_typing_rules.proofs.NamedExpressions.{typed_named, call_named}
+use Rattle.region_typing_rules.proofs.NamedBounds.{bounds_named}
 
 -- the scopes of naming agree with these, which are those before with locals entered
 pub record IsBehind (of : Numbers) (m : Scopes) (g after : Scope) : Type 0 where
@@ -47,8 +50,8 @@ behind_block_is of n m g after same h later = record { agrees = subst (λ k. Agr
 behind_further : (of : Numbers) → (m : Scopes) (a b c : Scope) → Later a b → IsBehind of m b c → IsBehind of m a c
 behind_further of m a b c h h' = record { agrees = h'.agrees; later = later_further a b c h h'.later }
 
-behind_flow : (of : Numbers) → (m : Scopes) (g after : Scope) (f : Knowledge) (b c : Option Knowledge) → IsBehind of m g after → IsBehind of m g (record after { flow = f; breaks = b; continues = c })
-behind_flow of m g after f b c h = record { agrees = flow_agrees of m after f b c h.agrees; later = flow_later g after f b c h.later }
+behind_flow : (of : Numbers) → (m : Scopes) (g after : Scope) (k : ℕ) (f : Knowledge) (b c : Option Knowledge) → IsBehind of m g after → IsBehind of m g (record after { outside = k; flow = f; breaks = b; continues = c })
+behind_flow of m g after k f b c h = record { agrees = flow_agrees of m after k f b c h.agrees; later = flow_later g after k f b c h.later }
 
 -- a settling speaks of no name
 found_named : (found : Finding) (f : Knowledge) (span : Span) → AllNamed (settled_as found f span)
@@ -67,16 +70,16 @@ module _ (of : Numbers) (at : Places) where
       let parts = and_parts (built_expression target) (built_expression value) built in
       let both = found_append n (expression_mentions target) (expression_mentions value) found in
       then_named Any (typed at g (number_expression of target)) _ (typed_named of at n g agrees target parts.0 both.0)
-      (λ a. then_named Any (typed at g (number_expression of value)) _ (typed_named of at n g agrees value parts.1 both.1) (λ b. stored_named at g.flow operator a b span))
+      (λ a. then_named Any (typed at g (number_expression of value)) _ (typed_named of at n g agrees value parts.1 both.1) (λ b. stored_named at g operator a b span))
   assignment_named n g agrees (s.Step operator side target span) built found =
-      then_named Any (typed at g (number_expression of target)) _ (typed_named of at n g agrees target built found) (λ a. updated_named at (step_of operator) a one span)
+      then_named Any (typed at g (number_expression of target)) _ (typed_named of at n g agrees target built found) (λ a. updated_named at g (step_of operator) a one span)
 
   -- an assignment, with what is known behind it
   assigning_named : (n m : Scopes) (g : Scope) → m ≡ n → Agrees of n g → (a : Assignment) → built_assignment a ≡ true → AreFound n (assignment_mentions a) → IsNamed (Behind {A = core.Statement} of m g) (assigning at g (number_assignment of a))
   assigning_named n m g same agrees a built found =
       then_named (Behind {A = core.Statement} of m g) (assignment at g (number_assignment of a)) _ (assignment_named n g agrees a built found)
       (λ x. then_named (Behind {A = core.Statement} of m g) (settling (assigned_by g.locals x g.flow) (s.assignment_span (number_assignment of a))) _ (settling_named (assigned_by g.locals x g.flow) (s.assignment_span (number_assignment of a)))
-      (λ f. behind_flow of m g g f g.breaks g.continues (behind_same of n m g same agrees)))
+      (λ f. behind_flow of m g g g.outside f g.breaks g.continues (behind_same of n m g same agrees)))
 
   condition_named : (n : Scopes) (g : Scope) → Agrees of n g → (x : Expression) → built_expression x ≡ true → AreFound n (expression_mentions x) → AllNamed (condition at g (number_expression of x))
   condition_named n g agrees x built found = then_named Any (typed at g (number_expression of x)) _ (typed_named of at n g agrees x built found) (λ t. scalar_named t (expression_span (number_expression of x)) Passes (λ v. tt))
@@ -101,6 +104,17 @@ module _ (of : Numbers) (at : Places) where
   initialised_named n g agrees (Some (s.Value value)) type local span built found = then_named Any (typed at g (number_expression of value)) _ (typed_named of at n g agrees value built found) (λ t. converted_named t type span _ (λ v. met_named g.flow t type span _ tt))
   initialised_named n g agrees (Some (s.Constants constants list)) type local span built found = tt
 
+  bounded_local_named : (m : Scopes) (g : Scope) (d : Declarator) (t : CType) (span : Span) (b : Option Bounds) → Agrees of m (with_local (of d.name.name) t b g) → optional built_initializer d.initializer ≡ true
+      → AreFound m (optional_mentions initializer_mentions d.initializer) → IsNamed (Behind {A = core.Statement} of m g) (bounded_local at g (number_declarator of d) t span b)
+  bounded_local_named m g d t span b now built found =
+      let inside = with_local (of d.name.name) t b g in
+      then_named (Behind {A = core.Statement} of m g) (initialised at inside (option_map (number_initializer of) d.initializer) t (length g.locals) span) _
+      (initialised_named m inside now d.initializer t (length g.locals) span built found)
+      (λ x. needs_named (Behind {A = core.Statement} of m g) (is_scalar t) E13 span _
+      (let value = assigned_by inside.locals (first_value (option_map (number_initializer of) d.initializer) x (length g.locals) t) inside.flow in
+      then_named (Behind {A = core.Statement} of m g) (settling value span) _ (settling_named value span)
+      (λ f. behind_flow of m g inside inside.outside f g.breaks g.continues (record { agrees = now; later = later_local (of d.name.name) t b g }))))
+
   declarator_named : (n m : Scopes) (g : Scope) (base : TypeTree) (type : CType) (span : Span) (d : Declarator) → Agrees of n g → built_declarator d ≡ true → all_mentioned (declarator_mentions d) n ≡ Ok m
       → IsNamed (Behind {A = core.Statement} of m g) (declarator at g base type span (number_declarator of d))
   declarator_named n m g base type span d agrees built h =
@@ -112,14 +126,10 @@ module _ (of : Numbers) (at : Places) where
       let forms = (and_parts _ _ (and_parts _ _ built).1).1 in
       needs_named (Behind {A = core.Statement} of m g) (nat_lt (length g.locals) g.flow.vars) E08 span _
       (then_named (Behind {A = core.Statement} of m g) (without_stars base d.stars type) _ (stars_named base d.stars type)
-      (λ t. (let now = local_agrees of d.name t n g agrees in
-      then_named (Behind {A = core.Statement} of m g) (initialised at (with_local (of d.name.name) t g) (option_map (number_initializer of) d.initializer) t (length g.locals) span) _
-      (initialised_named inner (with_local (of d.name.name) t g) now d.initializer t (length g.locals) span forms last.0)
-      (λ x. needs_named (Behind {A = core.Statement} of m g) (is_scalar t) E13 span _
-      (let inside = with_local (of d.name.name) t g in
-      let value = assigned_by inside.locals (first_value (option_map (number_initializer of) d.initializer) x (length g.locals) t) inside.flow in
-      then_named (Behind {A = core.Statement} of m g) (settling value span) _ (settling_named value span)
-      (λ f. behind_flow of m g inside f g.breaks g.continues (record { agrees = subst (λ k. Agrees of k inside) (sym last.1) now; later = later_local (of d.name.name) t g })))))))
+      (λ t. then_named (Behind {A = core.Statement} of m g) (declared_bounds (with_local (of d.name.name) t None g) t (length g.locals) (option_map (number_bounds of) d.bounds)) _
+      (bounds_named of inner (with_local (of d.name.name) t None g) (local_agrees of d.name t None n g agrees).tag t (length g.locals) d.bounds behind.0)
+      (λ b. bounded_local_named m g d t span b (subst (λ k. Agrees of k (with_local (of d.name.name) t b g)) (sym last.1) (local_agrees of d.name t b n g agrees)) forms
+      (subst (λ k. AreFound k initial) (sym last.1) last.0))))
 
   declarators_named : (n m : Scopes) (g : Scope) (base : TypeTree) (type : CType) (span : Span) (ds : List Declarator) → Agrees of n g → list_all built_declarator ds ≡ true → all_mentioned (flat_map declarator_mentions ds) n ≡ Ok m
       → IsNamed (Behind {A = core.Statement} of m g) (declarators at g base type span (map (number_declarator of) ds))
@@ -185,9 +195,9 @@ module _ (of : Numbers) (at : Places) where
         (λ c. let yes = told g.locals c true g.flow in
         let inside = knowing yes g in
         passing_named (Behind {A = core.Statement} of block.0 inside) (Behind {A = core.Statement} of m g) (statement at inside (number_statement of consequent)) _
-        (statement_named consequent (opened n) block.0 inside (opened_agrees of n inside (flow_agrees of n g yes g.breaks g.continues agrees)) parts.1 block.1)
+        (statement_named consequent (opened n) block.0 inside (opened_agrees of n inside (flow_agrees of n g g.outside yes g.breaks g.continues agrees)) parts.1 block.1)
         (λ x b. let behind = behind_block g x.1 in
-        behind_flow of m g behind (behind_branch g c x.1).flow behind.breaks behind.continues (behind_block_is of n m g x.1 block.2 agrees (from_flow g x.1 yes g.breaks g.continues b.later))))
+        behind_flow of m g behind behind.outside (behind_branch g c x.1).flow behind.breaks behind.continues (behind_block_is of n m g x.1 block.2 agrees (from_flow g x.1 g.outside yes g.breaks g.continues b.later))))
     statement_named (s.IfElse test consequent alternative span) n m g agrees built h =
         let parts = and_parts (built_expression test) (built_statement consequent && built_statement alternative) built in
         let both = and_parts (built_statement consequent) (built_statement alternative) parts.1 in
@@ -198,31 +208,31 @@ module _ (of : Numbers) (at : Places) where
         (λ c. let yes = told g.locals c true g.flow in
         let inside = knowing yes g in
         passing_named (Behind {A = core.Statement} of first.0 inside) (Behind {A = core.Statement} of m g) (statement at inside (number_statement of consequent)) _
-        (statement_named consequent (opened n) first.0 inside (opened_agrees of n inside (flow_agrees of n g yes g.breaks g.continues agrees)) both.0 first.1)
+        (statement_named consequent (opened n) first.0 inside (opened_agrees of n inside (flow_agrees of n g g.outside yes g.breaks g.continues agrees)) both.0 first.1)
         (λ x b. let behind = behind_block g x.1 in
         let no = told g.locals c false g.flow in
         let between = knowing no behind in
-        let later = from_flow g x.1 yes g.breaks g.continues b.later in
-        let now = flow_agrees of n behind no behind.breaks behind.continues (behind_agrees of n g x.1 agrees later) in
+        let later = from_flow g x.1 g.outside yes g.breaks g.continues b.later in
+        let now = flow_agrees of n behind behind.outside no behind.breaks behind.continues (behind_agrees of n g x.1 agrees later) in
         passing_named (Behind {A = core.Statement} of second.0 between) (Behind {A = core.Statement} of m g) (statement at between (number_statement of alternative)) _
         (statement_named alternative (opened n) second.0 between (opened_agrees of n between now) both.1 second.1)
         (λ y b'. let last = behind_block behind y.1 in
-        behind_flow of m g last (behind_both g x.1 y.1).flow last.breaks last.continues
+        behind_flow of m g last last.outside (behind_both g x.1 y.1).flow last.breaks last.continues
         (behind_further of m g behind last (later_block g x.1 later)
-        (behind_block_is of n m behind y.1 second.2 (behind_agrees of n g x.1 agrees later) (from_flow behind y.1 no behind.breaks behind.continues b'.later))))))
+        (behind_block_is of n m behind y.1 second.2 (behind_agrees of n g x.1 agrees later) (from_flow behind y.1 behind.outside no behind.breaks behind.continues b'.later))))))
     statement_named (s.While test body span) n m g agrees built h =
         let parts = and_parts (built_expression test) (built_statement body) built in
         let front = quiet_front (expression_mentions test) _ (expression_quiet test) n m h in
         let block = block_mentioned (statement_mentions body) (statement_keeps body) n m front.1 in
         let head = at_loop (number_statement of body) None g in
-        let headed = flow_agrees of n g head.flow None None agrees in
+        let headed = flow_agrees of n g head.outside head.flow None None agrees in
         then_named (Behind {A = core.Statement} of m g) (condition at head (number_expression of test)) _ (condition_named n head headed test parts.0 front.0)
         (λ c. let turn = when c true head in
-        let turned = flow_agrees of n g turn.flow None None agrees in
+        let turned = flow_agrees of n g turn.outside turn.flow None None agrees in
         passing_named (Behind {A = core.Statement} of block.0 (in_loop turn)) (Behind {A = core.Statement} of m g) (statement at (in_loop turn) (number_statement of body)) _
         (statement_named body (opened n) block.0 (in_loop turn) (opened_agrees of n (in_loop turn) (loop_agrees of n turn turned)) parts.1 block.1)
-        (λ x b. behind_flow of m g (behind_block g x.1) (behind_loop g head c x.1).flow g.breaks g.continues
-        (behind_block_is of n m g x.1 block.2 agrees (from_flow g x.1 turn.flow None None (later_loop turn x.1 b.later)))))
+        (λ x b. behind_flow of m g (behind_block g x.1) g.outside (behind_loop g head c x.1).flow g.breaks g.continues
+        (behind_block_is of n m g x.1 block.2 agrees (from_flow g x.1 turn.outside turn.flow None None (later_loop turn x.1 b.later)))))
     statement_named (s.For initial test step body span) n m g agrees built h =
         let forms = and_parts (built_initial initial) (optional built_expression test && (optional built_assignment step && built_statement body)) built in
         let more = and_parts (optional built_expression test) (optional built_assignment step && built_statement body) forms.1 in
@@ -232,31 +242,31 @@ module _ (of : Numbers) (at : Places) where
         let parts = for_parts split.0 block.0 test step body split.2 in
         passing_named (Behind {A = core.Statement} of split.0 g) (Behind {A = core.Statement} of m g) (first_part at g (number_initial of initial)) _ (first_named (opened n) split.0 g initial (opened_agrees of n g agrees) forms.0 split.1)
         (λ first b. let head = at_loop (number_statement of body) (option_map (number_assignment of) step) first.1 in
-        let headed = flow_agrees of split.0 first.1 head.flow None None b.agrees in
+        let headed = flow_agrees of split.0 first.1 head.outside head.flow None None b.agrees in
         then_named (Behind {A = core.Statement} of m g) (optional_condition at head (option_map (number_expression of) test)) _ (optional_condition_named split.0 head headed test more.0 parts.test_found)
         (λ c. let turn = when c true head in
-        let turned = flow_agrees of split.0 first.1 turn.flow None None b.agrees in
+        let turned = flow_agrees of split.0 first.1 turn.outside turn.flow None None b.agrees in
         passing_named (Behind {A = core.Statement} of parts.inside (in_loop turn)) (Behind {A = core.Statement} of m g) (statement at (in_loop turn) (number_statement of body)) _
         (statement_named body (opened split.0) parts.inside (in_loop turn) (opened_agrees of split.0 (in_loop turn) (loop_agrees of split.0 turn turned)) rest.1 parts.body_is)
-        (λ x b'. (let later = from_flow first.1 x.1 turn.flow None None (later_loop turn x.1 b'.later) in
+        (λ x b'. (let later = from_flow first.1 x.1 turn.outside turn.flow None None (later_loop turn x.1 b'.later) in
         let ended = behind_block first.1 x.1 in
         let last = before_step first.1 x.1 in
-        let lasts = flow_later first.1 ended last.flow ended.breaks ended.continues (later_block first.1 x.1 later) in
+        let lasts = flow_later first.1 ended ended.outside last.flow ended.breaks ended.continues (later_block first.1 x.1 later) in
         passing_named (Behind {A = core.Statement} of split.0 last) (Behind {A = core.Statement} of m g) (optional_step at last (option_map (number_assignment of) step)) _
-        (step_named split.0 last (flow_agrees of split.0 ended last.flow ended.breaks ended.continues (behind_agrees of split.0 first.1 x.1 b.agrees later)) step rest.0 parts.step_found)
+        (step_named split.0 last (flow_agrees of split.0 ended ended.outside last.flow ended.breaks ended.continues (behind_agrees of split.0 first.1 x.1 b.agrees later)) step rest.0 parts.step_found)
         (λ y b''. let loop = behind_loop first.1 head c y.1 in
         let over = later_block first.1 y.1 (later_further first.1 last y.1 lasts b''.later) in
         behind_block_is of n m g loop block.2 agrees
-        (later_further g first.1 loop b.later (flow_later first.1 (behind_block first.1 y.1) loop.flow first.1.breaks first.1.continues over)))))))
+        (later_further g first.1 loop b.later (flow_later first.1 (behind_block first.1 y.1) first.1.outside loop.flow first.1.breaks first.1.continues over)))))))
     statement_named (s.Return value span) n m g agrees built h =
         let all = quiet_all (optional_mentions expression_mentions value) (optional_quiet expression_mentions expression_quiet value) n m h in
-        then_named (Behind {A = core.Statement} of m g) (return at g (option_map (number_expression of) value) span) _ (return_named n g agrees value span built all.0) (λ x. behind_flow of m g g (cut g).flow g.breaks g.continues (behind_same of n m g all.1 agrees))
+        then_named (Behind {A = core.Statement} of m g) (return at g (option_map (number_expression of) value) span) _ (return_named n g agrees value span built all.0) (λ x. behind_flow of m g g g.outside (cut g).flow g.breaks g.continues (behind_same of n m g all.1 agrees))
     statement_named (s.Break span) n m g agrees built h =
         needs_named (Behind {A = core.Statement} of m g) g.in_loop E30 span _
-        (behind_flow of m g g (broken g).flow (broken g).breaks (broken g).continues (behind_same of n m g (quiet_all [] tt n m h).1 agrees))
+        (behind_flow of m g g g.outside (broken g).flow (broken g).breaks (broken g).continues (behind_same of n m g (quiet_all [] tt n m h).1 agrees))
     statement_named (s.Continue span) n m g agrees built h =
         needs_named (Behind {A = core.Statement} of m g) g.in_loop E30 span _
-        (behind_flow of m g g (continued g).flow (continued g).breaks (continued g).continues (behind_same of n m g (quiet_all [] tt n m h).1 agrees))
+        (behind_flow of m g g g.outside (continued g).flow (continued g).breaks (continued g).continues (behind_same of n m g (quiet_all [] tt n m h).1 agrees))
 
     pub statements_named : (xs : Statements) (n m : Scopes) (g : Scope) → Agrees of n g → built_statements xs ≡ true → all_mentioned (statements_mentions xs) n ≡ Ok m → IsNamed (Behind {A = core.Statements} of m g) (statements at g (number_statements of xs))
     statements_named s.NoMore n m g agrees built h = behind_same of n m g (quiet_all [] tt n m h).1 agrees

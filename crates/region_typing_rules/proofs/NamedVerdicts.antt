@@ -3,7 +3,7 @@ use Rattle.std.proofs.Common.{◌≡◌, ℕ, Bool, true, false, List, [], ◌�
 use Rattle.std.specs.Prelude.{◌==◌, ◌&&◌, ◌||◌, not, is_some}
 use Rattle.ckc_text.specs.declared.place.Span.{Span}
 use Rattle.ckc_text.specs.declared.code.Code.{Code}
-use Rattle.ckc_text.specs.declared.code.Code.TheVariants.{E13, E14, E17, E18, E19, E24}
+use Rattle.ckc_text.specs.declared.code.Code.TheVariants.{E13, E14, E17, E18, E19, E24, E26}
 use Rattle.ckc_tree.specs.declared.expr.UnaryOperator.{UnaryOperator}
 use Rattle.ckc_tree.specs.declared.expr.UnaryOperator.TheVariants as unary
 use Rattle.ckc_tree.specs.declared.expr.BinaryOperator.{BinaryOperator}
@@ -14,7 +14,6 @@ use Rattle.pointer_modes.specs.declared.ctype.Kind.TheVariants as kinds
 use Rattle.bounds_flow.specs.Flows.{Knowledge}
 use Rattle.pointer_modes.specs.Types.{CType, Int, Char, Struct, Pointer, members_of}
 use Rattle.ckc_core.specs.declared.program.Site.{Site}
-use Rattle.act_words.specs.declared.operator.Operator.{Operator}
 use Rattle.act_words.specs.declared.operator.ArithmeticOperator.TheVariants as arithmetics
 use Rattle.act_words.specs.declared.operator.BitwiseOperator.TheVariants as bits
 use Rattle.act_words.specs.declared.operator.Operator.TheVariants as operators
@@ -27,8 +26,8 @@ use Rattle.ckc_core.specs.Meaning.{bounds_of}
 use Rattle.region_typing_rules.specs.Verdicts.{Verdict, Passes, Stops, Broken, Nameless, passing, needs}
 use Rattle.region_typing_rules.specs.Scopes.{Scope, Signature, members_named}
 use Rattle.region_typing_rules.specs.Types.{is_number, is_pointer, are_comparable, converts}
-use Rattle.region_typing_rules.specs.Expressions.{Places, Lvalue, OfLocal, OfCell, Standing, ForNothing, ForArray, For, Typed, Value, AStruct, Called, Gives, GivesNothing, plain, number, sum_node, at_place, member_from, member_at, dotted, struct_place, first_element, with_elements, pointed_by, arrowed, pointed_at, dereferenced, address_at, address, number_of, scalar_of, unary_typed, is_single_value, lacks_bounds, without_ptr, two_numbers, two_scalars, summands, operator_along, summed, sum_typed, equated_values, equated, ordered_values, ordered, arithmetic, binary_typed, element_at, indexed, in_type, asked_of, meets, bounds_met, converted, arguments_as, arguments_met, is_import, is_checked_argument, without_checked, crossing, declared_call, writes, with_result}
-use Rattle.region_typing_rules.specs.Statements.{assigned, updated, stored, returned, returned_nothing}
+use Rattle.region_typing_rules.specs.Expressions.{Places, site_at, Lvalue, OfLocal, OfCell, Standing, ForNothing, ForArray, For, Typed, Value, AStruct, Called, Gives, GivesNothing, plain, number, sum_node, at_place, member_from, member_at, dotted, struct_place, first_element, with_elements, pointed_by, arrowed, pointed_at, dereferenced, address_at, address, number_of, scalar_of, unary_typed, is_single_value, lacks_bounds, without_ptr, two_numbers, two_scalars, operator_along, summed, sum_typed, equated_values, equated, are_related, ordered_values, ordered, arithmetic, binary_typed, element_at, indexed, in_type, asked_of, meets, bounds_met, converted, arguments_as, arguments_met, is_import, is_checked_argument, without_checked, crossing, declared_call, writes, with_result}
+use Rattle.region_typing_rules.specs.Statements.{assigned, update, moved, updated_as, updated, stored, returned, returned_nothing}
 
 -- no name stands for nothing, and this is so of the value where no rule is broken
 abbrev pub IsNamed : {A : Type 0} → (A → Type 0) → Verdict A → Type 0
@@ -143,9 +142,6 @@ apart_named : {A : Type 0} (a b : Typed) (span : Span) (next : Verdict A) → Al
 apart_named a b span next h =
     needs_named Any (not (is_single_value a || is_single_value b)) E19 span _ (needs_named Any (not (lacks_bounds a || lacks_bounds b)) E18 span next h)
 
-summands_named : {A : Type 0} (a b : Typed) (span : Span) (next : core.Expression → core.Expression → Verdict A) → ((v w : core.Expression) → AllNamed (next v w)) → AllNamed (summands a b span next)
-summands_named a b span next h = apart_named a b span _ (numbers_named a b span next h)
-
 summed_named : (s : Scope) (direction : Direction) (a b : Typed) (site : Site) (span : Span) → AllNamed (summed s direction a b site span)
 summed_named s direction (Value (Pointer mode kind target) zero pointer place) b site span =
     number_named b span (λ w. plain (Pointer mode kind target) (core.Sum pointer direction w site (sum_node s.locals direction pointer w site))) (λ w. tt)
@@ -172,18 +168,18 @@ equated_named (Value t z v p) (Value u y w q) span = equated_values_named t z v 
 equated_named (Value t z v p) (AStruct n q) span = tt
 equated_named (AStruct n p) b span = tt
 
-ordered_values_named : (comparison : Comparison) (t : CType) (v : core.Expression) (u : CType) (w : core.Expression) (span : Span) → AllNamed (ordered_values comparison t v u w span)
-ordered_values_named comparison t v u w span = by (is_number t && is_number u) (are_comparable t u) refl refl
+ordered_values_named : (comparison : Comparison) (t : CType) (v : core.Expression) (u : CType) (w : core.Expression) (site : Site) (span : Span) → AllNamed (ordered_values comparison t v u w site span)
+ordered_values_named comparison t v u w site span = by (is_number t && is_number u) (are_comparable t u) refl refl
   where
-    by : (numbers same : Bool) → (is_number t && is_number u) ≡ numbers → are_comparable t u ≡ same → AllNamed (ordered_values comparison t v u w span)
+    by : (numbers same : Bool) → (is_number t && is_number u) ≡ numbers → are_comparable t u ≡ same → AllNamed (ordered_values comparison t v u w site span)
     by true same e e1 = rw e tt
-    by false true e e1 = rw (e, e1) tt
+    by false true e e1 = rw (e, e1) (needs_named Any (are_related t v u w) E26 span (number (core.Order comparison v w site)) tt)
     by false false e e1 = rw (e, e1) tt
 
-ordered_named : (comparison : Comparison) (a b : Typed) (span : Span) → AllNamed (ordered comparison a b span)
-ordered_named comparison (Value t z v p) (Value u y w q) span = ordered_values_named comparison t v u w span
-ordered_named comparison (Value t z v p) (AStruct n q) span = tt
-ordered_named comparison (AStruct n p) b span = tt
+ordered_named : (comparison : Comparison) (a b : Typed) (site : Site) (span : Span) → AllNamed (ordered comparison a b site span)
+ordered_named comparison (Value t z v p) (Value u y w q) site span = ordered_values_named comparison t v u w site span
+ordered_named comparison (Value t z v p) (AStruct n q) site span = tt
+ordered_named comparison (AStruct n p) b site span = tt
 
 pub binary_named : (s : Scope) (operator : BinaryOperator) (a b : Typed) (site : Site) (span : Span) → AllNamed (binary_typed s operator a b site span)
 binary_named s binary.Or a b site span = scalars_named a b span _ (λ v w. tt)
@@ -193,10 +189,10 @@ binary_named s binary.BitXor a b site span = numbers_named a b span (arithmetic 
 binary_named s binary.BitAnd a b site span = numbers_named a b span (arithmetic (operators.Bitwise bits.And) site) (λ v w. tt)
 binary_named s binary.Equal a b site span = then_named Any (equated a b span) number (equated_named a b span) (λ v. tt)
 binary_named s binary.NotEqual a b site span = then_named Any (equated a b span) _ (equated_named a b span) (λ v. tt)
-binary_named s binary.Less a b site span = ordered_named comparisons.Less a b span
-binary_named s binary.LessEqual a b site span = ordered_named comparisons.LessEqual a b span
-binary_named s binary.Greater a b site span = ordered_named comparisons.Greater a b span
-binary_named s binary.GreaterEqual a b site span = ordered_named comparisons.GreaterEqual a b span
+binary_named s binary.Less a b site span = ordered_named comparisons.Less a b site span
+binary_named s binary.LessEqual a b site span = ordered_named comparisons.LessEqual a b site span
+binary_named s binary.Greater a b site span = ordered_named comparisons.Greater a b site span
+binary_named s binary.GreaterEqual a b site span = ordered_named comparisons.GreaterEqual a b site span
 binary_named s binary.ShiftLeft a b site span = numbers_named a b span (arithmetic (operators.Arithmetic arithmetics.ShiftLeft) site) (λ v w. tt)
 binary_named s binary.ShiftRight a b site span = numbers_named a b span (arithmetic (operators.Arithmetic arithmetics.ShiftRight) site) (λ v w. tt)
 binary_named s binary.Add a b site span = sum_named s directions.Forward a b site span
@@ -265,13 +261,27 @@ assigned_named (Value type zero value ForArray) span next h = tt
 assigned_named (Value type zero value (For place)) span next h = h type place
 assigned_named (AStruct number place) span next h = tt
 
-pub updated_named : (at : Places) (operator : Operator) (target right : Typed) (span : Span) → AllNamed (updated at operator target right span)
-updated_named at operator target right span = assigned_named target span _ (λ type place. summands_named target right span _ (λ old value. tt))
+moved_named : (place : Lvalue) (sum : core.Expression) (span : Span) → AllNamed (moved place sum span)
+moved_named (OfLocal local) sum span = tt
+moved_named (OfCell place) sum span = tt
 
-pub stored_named : (at : Places) (f : Knowledge) (operator : StoreOperator) (target right : Typed) (span : Span) → AllNamed (stored at f operator target right span)
-stored_named at f stores.Set target right span = assigned_named target span _ (λ type place. converted_named right type span _ (λ value. met_named f right type span _ tt))
-stored_named at f stores.Add target right span = updated_named at (operators.Arithmetic arithmetics.Add) target right span
-stored_named at f stores.Subtract target right span = updated_named at (operators.Arithmetic arithmetics.Subtract) target right span
+updated_as_named : (g : Scope) (direction : Direction) (type : CType) (place : Lvalue) (target right : Typed) (site : Site) (span : Span) → AllNamed (updated_as g direction type place target right site span)
+updated_as_named g direction (Pointer mode kind to) place (Value type zero pointer old) right site span =
+    number_named right span (λ v. moved place (core.Sum pointer direction v site (sum_node g.locals direction pointer v site)) span)
+    (λ v. moved_named place (core.Sum pointer direction v site (sum_node g.locals direction pointer v site)) span)
+updated_as_named g direction (Pointer mode kind to) place (AStruct k old) right site span = tt
+updated_as_named g direction Int place target right site span = numbers_named target right span (λ old v. Passes (update place Int (operator_along direction) v site)) (λ old v. tt)
+updated_as_named g direction Char place target right site span = numbers_named target right span (λ old v. Passes (update place Char (operator_along direction) v site)) (λ old v. tt)
+updated_as_named g direction (Struct k) place target right site span = numbers_named target right span (λ old v. Passes (update place (Struct k) (operator_along direction) v site)) (λ old v. tt)
+
+pub updated_named : (at : Places) (g : Scope) (direction : Direction) (target right : Typed) (span : Span) → AllNamed (updated at g direction target right span)
+updated_named at g direction target right span =
+    assigned_named target span _ (λ type place. apart_named target right span _ (updated_as_named g direction type place target right (site_at at span) span))
+
+pub stored_named : (at : Places) (g : Scope) (operator : StoreOperator) (target right : Typed) (span : Span) → AllNamed (stored at g operator target right span)
+stored_named at g stores.Set target right span = assigned_named target span _ (λ type place. converted_named right type span _ (λ value. met_named g.flow right type span _ tt))
+stored_named at g stores.Add target right span = updated_named at g directions.Forward target right span
+stored_named at g stores.Subtract target right span = updated_named at g directions.Backward target right span
 
 pub returned_named : (f : Knowledge) (result : Option CType) (t : Typed) (span : Span) → AllNamed (returned f result t span)
 returned_named f None t span = tt

@@ -16,7 +16,8 @@ use Rattle.region_typing_rules.specs.Items.{Defined, same_types, same_result, sa
 use Rattle.region_typing_rules.specs.Cores.{body_of}
 use Rattle.region_typing_rules.proofs.Sides.{trusted_functions, tainted_functions}
 use Rattle.region_typing_rules.specs.Typed.{IsScalar, IsScalarResult, IsNumberResult}
-use Rattle.region_typing_rules.proofs.Knowledge.{IsNumberType, same_equal}
+use Rattle.region_typing_rules.proofs.Knowledge.{IsNumberType}
+use Rattle.region_typing_rules.proofs.SameTypes.{same_equal}
 
 -- ---- names
 

@@ -5,7 +5,9 @@ use Rattle.ckc_text.specs.declared.code.Code.TheVariants.{E15, E30}
 use Rattle.ckc_tree.specs.Statements as s
 use Rattle.ckc_tree.specs.Statements.{Assignment, ForInitial, Statement, Statements}
 use Rattle.pointer_modes.specs.Types.{Structure}
-use Rattle.bounds_flow.specs.Flows.{Knowledge}
+use Rattle.bounds_flow.specs.Flows.{Knowledge, cut_off, met}
+use Rattle.bounds_flow_meaning.specs.Laws.{AreBeside}
+use Rattle.bounds_flow_meaning.proofs.Beside.{flows_stay_alike}
 use Rattle.ckc_core.specs.Outcome.{Gives}
 use Rattle.ckc_core.specs.Core as core
 use Rattle.ckc_core.specs.States.{State}
@@ -13,15 +15,15 @@ use Rattle.ckc_core.specs.Steps.{Result, Flow, Next, Broke, Continued, Returned,
 use Rattle.region_typing_rules.specs.Verdicts.{Verdict, Passes, Stops}
 use Rattle.region_typing_rules.specs.Scopes.{Scope}
 use Rattle.region_typing_rules.specs.Readings.{told}
-use Rattle.region_typing_rules.specs.Knowing.{hidden_by, when, cut, broken, continued, at_loop, marked, step_marked}
+use Rattle.region_typing_rules.specs.Knowing.{assigned_in, hidden_by, when, cut, way_out, broken, continued, at_loop, marked, step_marked}
 use Rattle.region_typing_rules.specs.Statements.{Walked, both, behind_block, behind_branch, at_alternative, behind_both, behind_loop, before_step, in_loop, is_unchecked, condition, optional_condition, optional_step, first_part, alone, return, declaration, assigning, statement, statements}
 use Rattle.region_typing_rules.proofs.Keeping.{IsAfter}
 use Rattle.region_typing_rules.proofs.Moving.{IsMovedTo, moved_here, effect_moves, knots_move}
 use Rattle.region_typing_rules.proofs.Told.{told_fits}
-use Rattle.region_typing_rules.proofs.Between.{between_told}
+use Rattle.region_typing_rules.proofs.Between.{beside_of, between_told, between_without, outside_beside, outside_here, told_beside}
 use Rattle.region_typing_rules.proofs.Sources.{IsFreshCall, call_typed_fresh}
-use Rattle.region_typing_rules.proofs.Ways.{extends_length, fits_further, way_further, fits_first, on_way_here, on_way_before, walk_knowing, walk_when, walk_cut, walk_broken, walk_continued, walk_block, walk_meeting, walk_head, walk_in_loop, walk_step, walk_behind, so_block, so_meeting, known_block}
-use Rattle.std.proofs.Common.{◌≡◌, ℕ, ◌≤◌, Bool, true, false, List, [], length, replicate, Option, Some, None, refl, sym, ◌∙◌, subst, arith}
+use Rattle.region_typing_rules.proofs.Ways.{Declares, beside_sym, block_declares, block_outside_of, declares_here, declares_knowing, declares_on, declares_turn, extends_length, fits_further, way_further, fits_first, known_out, loop_same, met_behind, on_way_here, on_way_before, step_keeps, way_out_between, way_out_outside, walk_knowing, walk_when, walk_cut, walk_broken, walk_continued, walk_block, walk_meeting, walk_head, walk_in_loop, walk_step, walk_behind, so_block, so_meeting, known_block}
+use Rattle.std.proofs.Common.{◌≡◌, ℕ, ◌-◌, ◌<◌, ◌≤◌, Bool, true, false, List, [], length, replicate, Option, Some, None, refl, sym, ◌∙◌, subst, arith}
 use Rattle.std.specs.List.{AllByRecursion}
 use Rattle.ckc_text.specs.declared.place.Span.{Span}
 use Rattle.ckc_tree.specs.Expressions.{Expression}
@@ -30,7 +32,7 @@ use Rattle.ckc_core.specs.States.{Value}
 use Rattle.ckc_core.specs.Meaning.{Knot, Setting, effect, effects, knot, value as value_of}
 use Rattle.region_typing_rules.specs.Expressions.{Places, Typed, Called, Gives as GivesValue, GivesNothing, call_typed, typed as typed_at}
 use Rattle.region_typing_rules.specs.Statements.{returned, returned_nothing}
-use Rattle.region_typing_rules.specs.KnownIsSo.{FitsAlike, IsKnown, IsOnWay, IsBetween, IsWalk, ConditionsAreSo, ChangesMarked, MarkedAlone}
+use Rattle.region_typing_rules.specs.KnownIsSo.{declared_at, FitsAlike, IsKnown, IsOnWay, IsBetween, IsWalk, ConditionsAreSo, ChangesMarked, MarkedAlone}
 use Rattle.region_typing_rules.specs.Typed as typed
 use Rattle.region_typing_rules.specs.Typed.{Frame, HasType, IsScalar, IsSimple, IsStatement}
 use Rattle.region_typing_rules.proofs.Verdicts.{Promises, passing_promises, needs_promises, both_promise, later_promises, promised_so, Extends}
@@ -40,7 +42,7 @@ use Rattle.region_typing_rules.proofs.Expressions.{Fits, FitsCall, call_promises
 use Rattle.region_typing_rules.proofs.Statements.{AreIn, IsIn, IsScalarValue, alone_typed, condition_promises, in_loop_known, optional_promises, simple_any, statement_from, statements_from}
 use Rattle.region_typing_rules.proofs.Soundness.{EndsAs, IsAnswer, IsKept, IsNext, OfType, Runs, runs_both, runs_further, runs_on, runs_then, simple_runs, typed_goes}
 use Rattle.region_typing_rules.proofs.Terms.{so_further}
-use Rattle.region_typing_rules.proofs.Alike.{fits_moved}
+use Rattle.region_typing_rules.proofs.Alike.{alike_here, fits_moved}
 use Rattle.region_typing_rules.proofs.Assigns.{IsPlain}
 use Rattle.region_typing_rules.proofs.Marking.{IsMarked, call_only, covers_before, hidden_here, marked_within, statement_marked, step_marked_so, step_within}
 use Rattle.region_typing_rules.proofs.Declaring.{GoesOn, IsAt, Knots, assigning_goes, declaration_goes, first_goes, knows_here, nothing_goes, running, step_goes, ticking}
@@ -73,6 +75,7 @@ module _ (frame : Frame) (types : List CType) (all_scalar : AllByRecursion IsSca
   pub record Promise (g h : Scope) (IsTyped : Type 0) (run : ℕ → State → Result Flow) : Type 0 where
     pub walk : IsWalk vars h
     pub more : Extends g.locals h.locals
+    pub keeps : Declares g h
     pub breaks : (n : ℕ) (t : State) → IsOnWay structs n g.breaks t → IsOnWay structs n h.breaks t
     pub continues : (n : ℕ) (t : State) → IsOnWay structs n g.continues t → IsOnWay structs n h.continues t
     pub typed : Reached h → IsTyped
@@ -91,6 +94,7 @@ module _ (frame : Frame) (types : List CType) (all_scalar : AllByRecursion IsSca
   goes_sound g w h = record {
     walk = h.walk;
     more = h.more;
+    keeps = h.keeps;
     breaks = λ n t k. subst (λ o. IsOnWay structs n o t) (sym h.breaks) k;
     continues = λ n t k. subst (λ o. IsOnWay structs n o t) (sym h.continues) k;
     typed = λ reaches. h.typed reaches g.result g.in_loop;
@@ -112,6 +116,7 @@ module _ (frame : Frame) (types : List CType) (all_scalar : AllByRecursion IsSca
   then_sound g x y grows a b = record {
     walk = b.walk;
     more = λ k t e. b.more k t (a.more k t e);
+    keeps = declares_on g x.1 y.1 (extends_length g.locals x.1.locals a.more) a.keeps b.keeps;
     breaks = λ n t h. b.breaks n t (a.breaks n t h);
     continues = λ n t h. b.continues n t (a.continues n t h);
     typed = λ reaches. typed.then_more (a.typed (before reaches)) (statements_from frame types all_scalar g x.1 y.0 grows (b.typed reaches));
@@ -132,10 +137,14 @@ module _ (frame : Frame) (types : List CType) (all_scalar : AllByRecursion IsSca
       by reaches n calls low Continued t h kept = ((h.0, b.continues (length y.1.locals) t (way_further structs (length x.1.locals) (length y.1.locals) x.1.continues t le h.1)), kept)
       by reaches n calls low (Returned v) t h kept = ((h.0, tt), kept)
 
-  block_sound : (g : Scope) (w : core.Statements × Scope) → AreSound g w → IsSound g (core.Block w.0, behind_block g w.1)
-  block_sound g w h = record {
-    walk = walk_block vars g w.1 h.walk;
+  block_walk : (g : Scope) → IsWalk vars g → (inside : Scope) → Extends g.locals inside.locals → Declares g inside → IsWalk vars inside → IsWalk vars (behind_block g inside)
+  block_walk g w inside more keeps h = let low = w.outside in let same = keeps.loop in walk_block vars g inside (extends_length g.locals inside.locals more) (omega (arith, low, same)) h
+
+  block_sound : (g : Scope) → IsWalk vars g → (w : core.Statements × Scope) → AreSound g w → IsSound g (core.Block w.0, behind_block g w.1)
+  block_sound g start w h = record {
+    walk = block_walk g start w.1 h.more h.keeps h.walk;
     more = h.more;
+    keeps = block_declares vars g w.1 (extends_length g.locals w.1.locals h.more) h.keeps h.walk;
     breaks = h.breaks;
     continues = h.continues;
     typed = λ reaches. typed.block (h.typed reaches);
@@ -145,6 +154,13 @@ module _ (frame : Frame) (types : List CType) (all_scalar : AllByRecursion IsSca
   }
 
   -- ---- branches
+
+  -- what is declared at the end of a branch, and where it wasn't taken
+  untaken_beside : (g : Scope) (w : IsWalk vars g) (c : core.Expression) (x : Scope) → length g.locals ≤ length x.locals → Declares g x → IsWalk vars x → AreBeside (told g.locals c false g.flow) (behind_block g x).flow
+  untaken_beside g w c x le keeps h =
+      let told_out = outside_beside (length g.locals) g.flow g.flow (told g.locals c false g.flow) (told_beside g.locals vars c false g.flow w.few w.between) (outside_here (length g.locals) g.flow w.beyond) in
+      beside_of vars (length g.locals) g.flow (told g.locals c false g.flow) (behind_block g x).flow (between_told g.locals vars c false g.flow w.few w.between)
+      (between_without vars (length g.locals) (length x.locals - length g.locals) x.flow h.between) told_out (block_outside_of vars g x le keeps h)
 
   module _ (g : Scope) (w : IsWalk vars g) (c : core.Expression) where
     abbrev Told : Value → State → Type 0
@@ -158,8 +174,9 @@ module _ (frame : Frame) (types : List CType) (all_scalar : AllByRecursion IsSca
 
     branch_sound : (x : Walked) → (Reached g → IsScalarValue frame types all_scalar g c) → IsSound (when c true g) x → IsSound g (core.If c x.0 core.Nothing, behind_branch g c x.1)
     branch_sound x tested h = record {
-      walk = walk_meeting vars no (behind_block g x.1) no_between (walk_block vars g x.1 h.walk);
+      walk = walk_meeting vars no (behind_block g x.1) no_between beside_back block;
       more = h.more;
+      keeps = declares_on g (behind_block g x.1) (behind_branch g c x.1) le (block_declares vars g x.1 le keeps h.walk) (declares_knowing (met no (behind_block g x.1).flow) (behind_block g x.1) (met_behind vars no (behind_block g x.1).flow no_between block.between beside));
       breaks = h.breaks;
       continues = h.continues;
       typed = λ reaches. typed.choice (tested (before reaches)).typed (h.typed reaches) (typed.simple {here = g} typed.nothing);
@@ -168,11 +185,11 @@ module _ (frame : Frame) (types : List CType) (all_scalar : AllByRecursion IsSca
           (λ v t after q kept. chosen_runs frame types all_scalar vars budget sandbox trusted n low Q (truth v) _ (Gives Next t)
           (λ e. runs_further frame budget n low types (Ending (when c true g) x.1) Q (effect true setting (K n) x.0 t)
           (h.runs reaches n calls low t (record { kept = kept; known = subst (λ b. FitsAlike structs (length g.locals) (told g.locals c b g.flow) t) e q }))
-          (λ flow u r. (r.0, so_meeting structs vars no (behind_block g x.1) no_between (walk_block vars g x.1 h.walk) flow u (so_block structs vars g x.1 h.walk le flow u r.1))))
+          (λ flow u r. (r.0, so_meeting structs vars no (behind_block g x.1) no_between beside block flow u (so_block structs vars g x.1 h.walk le flow u r.1))))
           (λ e. (
             (
               tt,
-              fits_first structs vars (length x.1.locals) t no (behind_block g x.1).flow no_between (walk_block vars g x.1 h.walk).between
+              fits_first structs vars (length x.1.locals) t no (behind_block g x.1).flow no_between block.between beside
                   (fits_further structs (length g.locals) (length x.1.locals) no t le (subst (λ b. FitsAlike structs (length g.locals) (told g.locals c b g.flow) t) e q)),
             ),
             kept,
@@ -185,13 +202,26 @@ module _ (frame : Frame) (types : List CType) (all_scalar : AllByRecursion IsSca
         le : length g.locals ≤ length x.1.locals
         le = extends_length g.locals x.1.locals h.more
 
+        keeps : Declares g x.1
+        keeps = declares_on g (when c true g) x.1 (omega arith) (declares_knowing (told g.locals c true g.flow) g (told_beside g.locals vars c true g.flow w.few w.between)) h.keeps
+
+        block : IsWalk vars (behind_block g x.1)
+        block = block_walk g w x.1 h.more keeps h.walk
+
+        beside : AreBeside no (behind_block g x.1).flow
+        beside = untaken_beside g w c x.1 le keeps h.walk
+
+        beside_back : AreBeside (behind_block g x.1).flow no
+        beside_back = beside_sym no (behind_block g x.1).flow beside
+
         Q : Flow → State → Type 0
         Q flow t = Ending g (behind_branch g c x.1) flow t
 
     branches_sound : (x y : Walked) → Grows g (at_alternative g c x.1) → (Reached g → IsScalarValue frame types all_scalar g c) → IsSound (when c true g) x → IsSound (at_alternative g c x.1) y → IsSound g (core.If c x.0 y.0, behind_both g x.1 y.1)
     branches_sound x y grows tested h k = record {
-      walk = walk_meeting vars first.flow (behind_block first y.1) first_walk.between (walk_block vars first y.1 k.walk);
+      walk = walk_meeting vars first.flow (behind_block first y.1) first_walk.between beside_back second;
       more = λ i t e. k.more i t (h.more i t e);
+      keeps = declares_on g (behind_block first y.1) (behind_both g x.1 y.1) le_all (declares_on g first (behind_block first y.1) le g_first first_second) (declares_knowing (met first.flow (behind_block first y.1).flow) (behind_block first y.1) (met_behind vars first.flow (behind_block first y.1).flow first_walk.between second.between beside));
       breaks = λ n t q. k.breaks n t (h.breaks n t q);
       continues = λ n t q. k.continues n t (h.continues n t q);
       typed = λ reaches. typed.choice (tested (before (middle reaches))).typed (h.typed (middle reaches)) (statement_from frame types all_scalar g (at_alternative g c x.1) y.0 grows (k.typed reaches));
@@ -202,7 +232,7 @@ module _ (frame : Frame) (types : List CType) (all_scalar : AllByRecursion IsSca
           (h.runs (middle reaches) n calls low t (record { kept = kept; known = subst (λ b. FitsAlike structs (length g.locals) (told g.locals c b g.flow) t) e q })) first_ends)
           (λ e. runs_further frame budget n low types (Ending (at_alternative g c x.1) y.1) Q (effect true setting (K n) y.0 t)
           (k.runs reaches n calls low t (record { kept = kept; known = fits_further structs (length g.locals) (length x.1.locals) _ t le (subst (λ b. FitsAlike structs (length g.locals) (told g.locals c b g.flow) t) e q) }))
-          (λ flow u r. (ends_before g (at_alternative g c x.1) grows flow u r.0, so_meeting structs vars first.flow (behind_block first y.1) first_walk.between (walk_block vars first y.1 k.walk) flow u (so_block structs vars first y.1 k.walk le' flow u r.1)))));
+          (λ flow u r. (ends_before g (at_alternative g c x.1) grows flow u r.0, so_meeting structs vars first.flow (behind_block first y.1) first_walk.between beside second flow u (so_block structs vars first y.1 k.walk le' flow u r.1)))));
     }
       where
         middle : Reached y.1 → Reached x.1
@@ -214,8 +244,11 @@ module _ (frame : Frame) (types : List CType) (all_scalar : AllByRecursion IsSca
         first : Scope
         first = behind_block g x.1
 
+        x_keeps : Declares g x.1
+        x_keeps = declares_on g (when c true g) x.1 (omega arith) (declares_knowing (told g.locals c true g.flow) g (told_beside g.locals vars c true g.flow w.few w.between)) h.keeps
+
         first_walk : IsWalk vars (behind_block g x.1)
-        first_walk = walk_block vars g x.1 h.walk
+        first_walk = block_walk g w x.1 h.more x_keeps h.walk
 
         le : length g.locals ≤ length x.1.locals
         le = extends_length g.locals x.1.locals h.more
@@ -223,13 +256,41 @@ module _ (frame : Frame) (types : List CType) (all_scalar : AllByRecursion IsSca
         le' : length x.1.locals ≤ length y.1.locals
         le' = extends_length x.1.locals y.1.locals k.more
 
+        le_all : length g.locals ≤ length y.1.locals
+        le_all = let a = le in let b = le' in omega (arith, a, b)
+
+        g_first : Declares g (behind_block g x.1)
+        g_first = block_declares vars g x.1 le x_keeps h.walk
+
+        -- the alternative begins where the condition came out false, among the locals behind the first branch
+        alternative_beside : AreBeside first.flow (at_alternative g c x.1).flow
+        alternative_beside = beside_sym (told g.locals c false g.flow) first.flow (untaken_beside g w c x.1 le x_keeps h.walk)
+
+        first_declares : Declares first y.1
+        first_declares = declares_on first (at_alternative g c x.1) y.1 (omega arith) (declares_knowing (told g.locals c false g.flow) first alternative_beside) k.keeps
+
+        second : IsWalk vars (behind_block first y.1)
+        second = block_walk first first_walk y.1 k.more first_declares k.walk
+
+        first_second : Declares first (behind_block first y.1)
+        first_second = block_declares vars first y.1 le' first_declares k.walk
+
+        -- behind both branches the same bounds are declared
+        beside : AreBeside first.flow (behind_block first y.1).flow
+        beside =
+            beside_of vars (length first.locals) first.flow first.flow (behind_block first y.1).flow first_walk.between second.between (outside_here (length first.locals) first.flow first_walk.beyond)
+            (block_outside_of vars first y.1 le' first_declares k.walk)
+
+        beside_back : AreBeside (behind_block first y.1).flow first.flow
+        beside_back = beside_sym first.flow (behind_block first y.1).flow beside
+
         Q : Flow → State → Type 0
         Q flow t = Ending g (behind_both g x.1 y.1) flow t
 
         first_ends : (flow : Flow) (u : State) → Ending (when c true g) x.1 flow u → Ending g (behind_both g x.1 y.1) flow u
         first_ends Next u r = (
           tt,
-          fits_first structs vars (length y.1.locals) u first.flow (behind_block first y.1).flow first_walk.between (walk_block vars first y.1 k.walk).between
+          fits_first structs vars (length y.1.locals) u first.flow (behind_block first y.1).flow first_walk.between second.between beside
               (fits_further structs (length x.1.locals) (length y.1.locals) first.flow u le' (known_block structs vars g x.1 h.walk le u r.1)),
         )
         first_ends Broke u r = (r.0, k.breaks (length y.1.locals) u (way_further structs (length x.1.locals) (length y.1.locals) x.1.breaks u le' r.1))
@@ -254,17 +315,18 @@ module _ (frame : Frame) (types : List CType) (all_scalar : AllByRecursion IsSca
         → IsMarked (length g.locals) (hidden_by (length g.locals) body g.visible) (marked (length g.locals) g.visible body) x → IsMarked (length g.locals) g.visible (step_marked g.visible step) y
         → IsSound g (core.Loop c x.0 y.0, behind_loop g (at_loop body step g) c y.1)
     loop_sound x y tested h k x_marks y_marks = record {
-      walk = walk_behind vars g (at_loop body step g) c y.1 w (walk_head vars body step g w) w.few k.walk;
+      walk = walk_behind vars g (at_loop body step g) c y.1 y_keeps.structs (λ i t e. k.more i t (h.more i t e)) y_keeps.loop head_beside last_same w.few w head_walk.between k.walk;
       more = λ i t e. k.more i t (h.more i t e);
+      keeps = record { same = λ p low. behind_same p low; loop = refl; structs = y_keeps.structs };
       breaks = λ n t q. q;
       continues = λ n t q. q;
       typed = λ reaches. typed.repeat (tested (before reaches)).typed (h.typed (middle reaches)) (k.typed reaches g.result false);
       runs = λ reaches n calls low s at.
-          loop_on frame types all_scalar vars budget sandbox trusted g w body step (marks_many g body step) c (tested (before reaches)).type x.0 y.0 x.1 y.1 h.walk k.walk h.more k.more k.breaks
+          loop_on frame types all_scalar vars budget sandbox trusted g w body step (marks_many g body step) c (tested (before reaches)).type x.0 y.0 x.1 y.1 h.walk k.walk h.more k.more k.breaks y_keeps.structs x_keeps.loop y_keeps.loop inside_same last_same
           (x_marks.only (λ y. slice_index_or marks y true) none (length-replicate (length g.locals) false) (covers_before (λ y. slice_index_or marks y true) behind marks (step_within g.visible step behind) (λ i e. e)))
           (y_marks.only (λ y. slice_index_or marks y true) behind ((marked_within (length g.locals) g.visible body none).many ∙ length-replicate (length g.locals) false) (λ i e. e))
           reaches (tested (before reaches)).typed (λ m calls' low' t at'. h.runs (middle reaches) m calls' low' t at') (λ m calls' low' t at'. k.runs reaches m calls' low' t at')
-          n low s s calls at.known (moved_here (λ y. slice_index_or marks y true) s) at.kept;
+          n low s s calls at.known (moved_here (λ y. slice_index_or marks y true) s) (at.known s (alike_here (length g.locals) s)).declared at.kept;
     }
       where
         middle : Reached y.1 → Reached x.1
@@ -272,6 +334,34 @@ module _ (frame : Frame) (types : List CType) (all_scalar : AllByRecursion IsSca
 
         before : Reached y.1 → Reached (at_loop body step g)
         before reaches i t e = reaches i t (k.more i t (h.more i t e))
+
+        head_walk : IsWalk vars (at_loop body step g)
+        head_walk = walk_head vars body step g w
+
+        head_beside : AreBeside g.flow (at_loop body step g).flow
+        head_beside = (flows_stay_alike.0 g.flow).enter_loop (assigned_in g body step)
+
+        le : length g.locals ≤ length x.1.locals
+        le = extends_length g.locals x.1.locals h.more
+
+        -- what the body declares, against the head of the loop
+        x_keeps : Declares (at_loop body step g) x.1
+        x_keeps = declares_on (at_loop body step g) turn x.1 (omega arith) (declares_turn (at_loop body step g) c head_walk) h.keeps
+
+        inside_same : (p : ℕ) → p < length g.locals → declared_at x.1.flow p ≡ declared_at g.flow p
+        inside_same p low = x_keeps.same p low ∙ head_beside.declared p
+
+        step_declares : Declares (at_loop body step g) (before_step g x.1)
+        step_declares = step_keeps vars g (at_loop body step g) x.1 le refl x_keeps.loop x_keeps h.walk
+
+        y_keeps : Declares (at_loop body step g) y.1
+        y_keeps = declares_on (at_loop body step g) (before_step g x.1) y.1 le step_declares k.keeps
+
+        last_same : (p : ℕ) → p < length g.locals → declared_at y.1.flow p ≡ declared_at g.flow p
+        last_same p low = y_keeps.same p low ∙ head_beside.declared p
+
+        behind_same : (p : ℕ) → p < length g.locals → declared_at (behind_loop g (at_loop body step g) c y.1).flow p ≡ declared_at g.flow p
+        behind_same p low = loop_same vars g (at_loop body step g) c y.1 y_keeps.loop head_beside last_same w.few w head_walk.between k.walk p low
 
         none : List Bool
         none = replicate (length g.locals) false
@@ -294,6 +384,7 @@ module _ (frame : Frame) (types : List CType) (all_scalar : AllByRecursion IsSca
     breaks = refl;
     continues = refl;
     more = λ k t e. e;
+    keeps = declares_here g;
     typed = λ reaches. simple_any frame types all_scalar g (alone c) (simple reaches);
     runs = λ reaches n calls low s at.
         runs_further frame budget n low types (λ flow t. IsNext flow t × IsMovedTo (λ y. false) s t) (λ flow t. IsNext flow t × IsKnown structs g t) (effect true setting (K n) (alone c) s)
@@ -325,6 +416,7 @@ module _ (frame : Frame) (types : List CType) (all_scalar : AllByRecursion IsSca
   return_sound g w x h = record {
     walk = walk_cut vars g w;
     more = λ k t e. e;
+    keeps = declares_knowing (cut_off g.flow) g (flows_stay_alike.0 g.flow).cut;
     breaks = λ n t q. q;
     continues = λ n t q. q;
     typed = λ reaches. return_typed g (h reaches);
@@ -335,29 +427,42 @@ module _ (frame : Frame) (types : List CType) (all_scalar : AllByRecursion IsSca
   break_sound g w loops = record {
     walk = walk_broken vars g w;
     more = λ k t e. e;
-    breaks = λ n t q. on_way_before structs vars n t g.flow g.breaks w.between w.breaks q;
+    keeps = record { same = λ p low. refl; loop = refl; structs = refl };
+    breaks = λ n t q. on_way_before structs vars n t g.outside g.flow (way_out g) g.breaks (way_out_between vars g w) (way_out_outside vars g w) w.breaks q;
     continues = λ n t q. q;
     typed = λ reaches. subst (λ l. IsStatement frame types g.result l core.Break) (sym loops) typed.broken;
-    runs = λ reaches n calls low s at. ((loops, on_way_here structs vars (length g.locals) s g.flow g.breaks w.between w.breaks at.known), at.kept);
+    runs = λ reaches n calls low s at. ((loops, on_way_here structs vars (length g.locals) s g.outside g.flow (way_out g) g.breaks (way_out_between vars g w) (way_out_outside vars g w) w.breaks (known_out structs vars g w s at.known)), at.kept);
   }
 
   continue_sound : (g : Scope) → IsWalk vars g → g.in_loop ≡ true → IsSound g (core.Continue, continued g)
   continue_sound g w loops = record {
     walk = walk_continued vars g w;
     more = λ k t e. e;
+    keeps = record { same = λ p low. refl; loop = refl; structs = refl };
     breaks = λ n t q. q;
-    continues = λ n t q. on_way_before structs vars n t g.flow g.continues w.between w.continues q;
+    continues = λ n t q. on_way_before structs vars n t g.outside g.flow (way_out g) g.continues (way_out_between vars g w) (way_out_outside vars g w) w.continues q;
     typed = λ reaches. subst (λ l. IsStatement frame types g.result l core.Continue) (sym loops) typed.continued;
-    runs = λ reaches n calls low s at. ((loops, on_way_here structs vars (length g.locals) s g.flow g.continues w.between w.continues at.known), at.kept);
+    runs = λ reaches n calls low s at. ((loops, on_way_here structs vars (length g.locals) s g.outside g.flow (way_out g) g.continues (way_out_between vars g w) (way_out_outside vars g w) w.continues (known_out structs vars g w s at.known)), at.kept);
   }
 
   none_sound : (g : Scope) → IsWalk vars g → AreSound g (core.NoMore, g)
-  none_sound g w = record { walk = w; more = λ k t e. e; breaks = λ n t q. q; continues = λ n t q. q; typed = λ reaches. typed.no_more; runs = λ reaches n calls low s at. ((tt, at.known), at.kept) }
+  none_sound g w = record { walk = w; more = λ k t e. e; keeps = declares_here g; breaks = λ n t q. q; continues = λ n t q. q; typed = λ reaches. typed.no_more; runs = λ reaches n calls low s at. ((tt, at.known), at.kept) }
 
-  both_sound : (g : Scope) (x y : Walked) → Grows g x.1 → Grows x.1 y.1 → IsSound g x → IsSound x.1 y → IsSound g (both x.0 y.0, behind_block g y.1)
-  both_sound g x y gx gy a b = block_sound g (core.Then x.0 (core.Then y.0 core.NoMore), y.1) (then_sound g x (core.Then y.0 core.NoMore, y.1) gx a (then_sound x.1 y (core.NoMore, y.1) gy b (none_sound y.1 b.walk)))
+  both_sound : (g : Scope) → IsWalk vars g → (x y : Walked) → Grows g x.1 → Grows x.1 y.1 → IsSound g x → IsSound x.1 y → IsSound g (both x.0 y.0, behind_block g y.1)
+  both_sound g w x y gx gy a b = block_sound g w (core.Then x.0 (core.Then y.0 core.NoMore), y.1) (then_sound g x (core.Then y.0 core.NoMore, y.1) gx a (then_sound x.1 y (core.NoMore, y.1) gy b (none_sound y.1 b.walk)))
 
   -- ---- the walk
+
+  -- where the alternative begins
+  alternative_walk : (g : Scope) (w : IsWalk vars g) (c : core.Expression) (x : Walked) → IsSound (when c true g) x → IsWalk vars (at_alternative g c x.1)
+  alternative_walk g w c x h =
+      let keeps = declares_on g (when c true g) x.1 (omega arith) (declares_knowing (told g.locals c true g.flow) g (told_beside g.locals vars c true g.flow w.few w.between)) h.keeps in
+      walk_knowing vars (told g.locals c false g.flow) (behind_block g x.1) (between_told g.locals vars c false g.flow w.few w.between)
+      (beside_sym (told g.locals c false g.flow) (behind_block g x.1).flow (untaken_beside g w c x.1 (extends_length g.locals x.1.locals h.more) keeps h.walk)) (block_walk g w x.1 h.more keeps h.walk)
+
+  -- and the step of a loop
+  stepped : (g : Scope) (w : IsWalk vars g) (body : Statement) (step : Option Assignment) (c : core.Expression) (x : Walked) → IsSound (in_loop (when c true (at_loop body step g))) x → IsWalk vars (before_step g x.1)
+  stepped g w body step c x h = walk_step vars g x.1 (extends_length g.locals x.1.locals h.more) h.keeps.loop h.walk
 
   -- a condition, where the locals are reached
   condition_typed : (at : Places) (g : Scope) → IsWalk vars g → KnowsFile frame g → (x : Expression) → Promises (λ (e : core.Expression). Reached g → IsScalarValue frame types all_scalar g e) (condition at g x)
@@ -392,7 +497,7 @@ module _ (frame : Frame) (types : List CType) (all_scalar : AllByRecursion IsSca
   mutual
     pub statement_sound : (at : Places) (g : Scope) (x : Statement) → IsWalk vars g → KnowsFile frame g → Promises (IsSound g) (statement at g x)
     statement_sound at g (s.Block mark inner span) w file =
-        passing_promises (AreSound g) (IsSound g) (statements at g inner) _ (statements_sound at g inner w file) (λ v h. needs_promises (IsSound g) (not (is_unchecked mark || g.is_off)) E15 span _ (λ on. block_sound g v h))
+        passing_promises (AreSound g) (IsSound g) (statements at g inner) _ (statements_sound at g inner w file) (λ v h. needs_promises (IsSound g) (not (is_unchecked mark || g.is_off)) E15 span _ (λ on. block_sound g w v h))
     statement_sound at g (s.Bundle assignments span) w file = tt
     statement_sound at g (s.Declare d span) w file = goes_promised g (declaration at g d) (declaration_goes frame types all_scalar vars budget sandbox trusted at g w file d)
     statement_sound at g (s.Assign a span) w file = goes_promised g (assigning at g a) (assigning_goes frame types all_scalar vars budget sandbox trusted at g w file a)
@@ -415,7 +520,7 @@ module _ (frame : Frame) (types : List CType) (all_scalar : AllByRecursion IsSca
         (statement_sound at (when c true g) consequent (walk_when vars c true g w) (file_known frame g (when c true g) (when_grows c true g) file)))
         (λ x h. let grows = alternative_grows g c x.1 h.0 in
         passing_promises (IsSound (at_alternative g c x.1)) (IsSound g) (statement at (at_alternative g c x.1) alternative) _
-        (statement_sound at (at_alternative g c x.1) alternative (walk_knowing vars (told g.locals c false g.flow) (behind_block g x.1) (between_told g.locals vars c false g.flow w.few w.between) (walk_block vars g x.1 h.1.walk))
+        (statement_sound at (at_alternative g c x.1) alternative (alternative_walk g w c x h.1)
         (file_known frame g (at_alternative g c x.1) grows file))
         (λ y k. branches_sound g w c x y grows tested h.1 k)))
     statement_sound at g (s.While test body span) w file =
@@ -425,7 +530,7 @@ module _ (frame : Frame) (types : List CType) (all_scalar : AllByRecursion IsSca
         passing_promises (λ (x : Walked). IsSound turned x × IsMarked (length g.locals) (hidden_by (length g.locals) body g.visible) (marked (length g.locals) g.visible body) x) (IsSound g) (statement at turned body) _
         (both_promise (IsSound turned) (IsMarked (length g.locals) (hidden_by (length g.locals) body g.visible) (marked (length g.locals) g.visible body)) (statement at turned body)
         (statement_sound at turned body (turn_walk g w body None c) (turned_known g file body None c)) (statement_marked at turned body (length g.locals) g.visible (hidden_here (length g.locals) g.visible) (omega arith)))
-        (λ x h. loop_sound g w body None c x (core.Nothing, before_step g x.1) tested h.0 (nothing_goes frame types all_scalar vars budget sandbox trusted (before_step g x.1) (walk_step vars g x.1 h.0.walk)) h.1
+        (λ x h. loop_sound g w body None c x (core.Nothing, before_step g x.1) tested h.0 (nothing_goes frame types all_scalar vars budget sandbox trusted (before_step g x.1) (stepped g w body None c x h.0)) h.1
         (step_marked_so at (before_step g x.1) None (length g.locals) g.visible (hidden_here (length g.locals) g.visible) (extends_length g.locals x.1.locals h.0.more))))
     statement_sound at g (s.For initial test step body span) w file =
         passing_promises (λ (first : Walked). GrowsTo g first × Going g first) (IsSound g) (first_part at g initial) _
@@ -442,9 +547,9 @@ module _ (frame : Frame) (types : List CType) (all_scalar : AllByRecursion IsSca
         passing_promises (λ (y : Walked). GrowsTo last y × (Going last y × IsMarked (length first.1.locals) first.1.visible (step_marked first.1.visible step) y)) (IsSound g) (optional_step at last step) _
         (both_promise (GrowsTo last) (λ (y : Walked). Going last y × IsMarked (length first.1.locals) first.1.visible (step_marked first.1.visible step) y) (optional_step at last step) (optional_grows at last step)
         (both_promise (Going last) (IsMarked (length first.1.locals) first.1.visible (step_marked first.1.visible step)) (optional_step at last step)
-        (step_goes frame types all_scalar vars budget sandbox trusted at last (walk_step vars first.1 x.1 h.1.0.walk) (file_known frame first.1 last (step_grows first.1 body step c x.1 h.0) known) step)
+        (step_goes frame types all_scalar vars budget sandbox trusted at last (stepped first.1 i.1.walk body step c x h.1.0) (file_known frame first.1 last (step_grows first.1 body step c x.1 h.0) known) step)
         (step_marked_so at last step (length first.1.locals) first.1.visible (hidden_here (length first.1.locals) first.1.visible) (extends_length first.1.locals x.1.locals h.1.0.more))))
-        (λ y k. both_sound g first (core.Loop c x.0 y.0, behind_loop first.1 (at_loop body step first.1) c y.1) i.0
+        (λ y k. both_sound g w first (core.Loop c x.0 y.0, behind_loop first.1 (at_loop body step first.1) c y.1) i.0
         (behind_grows first.1 body step c y.1 (grows_further first.1 last y.1 (step_grows first.1 body step c x.1 h.0) k.0))
         (goes_sound g first i.1) (loop_sound first.1 i.1.walk body step c x y tested h.1.0 k.1.0 h.1.1 k.1.1)))))
     statement_sound at g (s.Return value span) w file = passing_promises (IsReturnIn g) (IsSound g) (return at g value span) _ (return_in at g w file value span) (λ x h. return_sound g w x h)

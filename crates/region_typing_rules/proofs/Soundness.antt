@@ -6,7 +6,7 @@ use Rattle.std.specs.List.{AllByRecursion}
 use Rattle.std.specs.Int.{w32}
 use Rattle.std.proofs.lemmas.Int.{ints, to_z_pos}
 use Rattle.std.proofs.lemmas.Bool.Decides.{nat_tests}
-use Rattle.std.proofs.lemmas.Option.{slice_get_within}
+use Rattle.std.proofs.lemmas.Option.{cond_some, slice_get_within}
 use Rattle.std.proofs.lemmas.Bool.{and_from}
 use Rattle.std.proofs.lemmas.List.{length-replicate}
 use Rattle.ckc_core.specs.Outcome.{Gives, and_then}
@@ -34,27 +34,29 @@ use Rattle.ckc_core.specs.declared.program.PointerBounds.{PointerBounds}
 use Rattle.ckc_core.specs.Programs.{Import, Initial}
 use Rattle.ckc_core.specs.declared.program.Direction.{Direction}
 use Rattle.ckc_core.specs.declared.program.Direction.TheVariants as directions
-use Rattle.ckc_core.specs.Bounds.{Ends as EndsOf, Pointed, ends_at, with_ends}
-use Rattle.ckc_core.specs.Pointers.{number_given, checked_if, distance, lies_below, lies_up_to, cell_behind, pointer_at, pointer_if}
+use Rattle.bounds_exprs.specs.declared.term.Bounds.{Bounds}
+use Rattle.ckc_core.specs.Bounds.{Ends as EndsOf, Pointed, base_byte, ends_at, term_value, with_ends}
+use Rattle.ckc_core.specs.Pointers.{not_null, ordered, ordered_if, number_given, checked_if, distance, lies_below, lies_up_to, cell_behind, pointer_at, pointer_if}
 use Rattle.ckc_core.specs.Steps.{Result, Flow, Next, Broke, Continued, Returned, given, checked, value_if, value_in, place_if, place_at, variable_if, variable_at, load_at, pointer_to, truth, number_of_test, same_place, test_given, result_of, arithmetic_of, compared, negated, complemented, low_byte_of, asked, words_of, reply_as, back, passed, cross, cross_if, call_tainted, takes, parameters_of, enter_if, call_trusted, result_given, choose, leaves_zero, store_if, store_over, store_at, set_if, set_over, set_local, kept_if, is_char, printed, put, no_result, called}
 use Rattle.ckc_core.specs.Meaning.{Knot, Setting, audit, bounds_of, site_of, Target, element, element_within, summed, without_ends, value, values, place, target_of, sound_if, effect}
 use Rattle.region_typing_rules.specs.Types.{is_number}
 use Rattle.region_typing_rules.specs.Scopes.{Scope}
-use Rattle.region_typing_rules.specs.Expressions.{bounds_at}
+use Rattle.region_typing_rules.specs.Expressions.{bounds_at, row_of}
 use Rattle.bounds_exprs.specs.Terms.{is_within, term_limit}
 use Rattle.bounds_flow_meaning.specs.Laws.{IsMoved}
 use Rattle.bounds_flow_meaning.specs.Holding.{target_size}
 use Rattle.region_typing_rules.specs.Verdicts.{picked}
-use Rattle.region_typing_rules.specs.Readings.{Behind, behind_by, behind_local, constant, constant_of, further, is_pointer_type, term, toward}
-use Rattle.region_typing_rules.specs.KnownIsSo.{WhereGiven, IsKnown}
+use Rattle.region_typing_rules.specs.Readings.{Behind, based_bounds, own_bounds, behind_by, behind_local, constant, constant_of, further, is_pointer_type, term, toward}
+use Rattle.region_typing_rules.specs.KnownIsSo.{IsAlike, WhereGiven, IsKnown}
 use Rattle.region_typing_rules.specs.Typed as typed
 use Rattle.bounds_exprs.specs.declared.term.Term.{Term}
 use Rattle.bounds_flow.specs.Conditions.{IsFlow}
-use Rattle.bounds_flow_meaning.specs.Holding.{IsValid, types_of}
+use Rattle.bounds_flow_meaning.specs.Holding.{IsValid, at_node, types_of}
 use Rattle.bounds_flow_meaning.specs.Rows.{HasRow, IsPlace, slots}
 use Rattle.bounds_flow_meaning.proofs.Rows.{place_grown, still_there}
-use Rattle.bounds_flow_meaning.proofs.Validity.{grown_valid, times_plus}
-use Rattle.region_typing_rules.specs.Typed.{Frame, HasBounds, HasValue, IsNumberResult, IsCallee, AreRows, AreSumBounds, HasElements, HasType, HaveTypes, HasPlace, IsSimple, IsScalar}
+use Rattle.bounds_flow_meaning.proofs.Numbers.{same_number}
+use Rattle.bounds_flow_meaning.proofs.Validity.{ends_parts, grown_valid, times_plus, valid_from}
+use Rattle.region_typing_rules.specs.Typed.{Frame, HasBounds, IsBoundedBy, HasValue, IsNumberResult, IsCallee, AreRows, AreSumBounds, HasElements, HasType, HaveTypes, HasPlace, IsSimple, IsScalar}
 use Rattle.ckc_core.proofs.Numbers.{IsNumber, IfHolds, result_fits, overflow_fits, signed_fits, complement_fits, low_byte_small}
 use Rattle.region_typing_rules.proofs.Worlds.{IsWorld, Answers, Anything, IsWord, tick_answers, enter_answers, touch_answers, next_answers}
 use Rattle.region_typing_rules.proofs.Values.{same_refl, mapped_there, grows_here, grows_on, at_cell, zero_left, shapes_stored, member_place, scalar_cell, some_cell, value_grown, value_typed, value_widened, value_number, HaveValues, values_count, values_fit, HaveLocals, local_there, locals_set, HoldsValues, cell_typed, stored_typed, values_grown, locals_grown}
@@ -62,10 +64,11 @@ use Rattle.region_typing_rules.proofs.Validity.{same_pointer, sound}
 use Rattle.region_typing_rules.proofs.Verdicts.{Extends}
 use Rattle.region_typing_rules.proofs.Sure.{Sure, sure_on, sure_further, sure_both, sure_given}
 use Rattle.region_typing_rules.proofs.Keeping.{IsAfter, after_here, after_on, CallsKeep}
-use Rattle.region_typing_rules.proofs.Terms.{so_always, so_further, so_on, audited_so, IsOfTerm, term_so}
-use Rattle.region_typing_rules.proofs.Alike.{fits_after, types_alike}
-use Rattle.region_typing_rules.proofs.Assigns.{IsBehind, stays}
-use Rattle.region_typing_rules.proofs.Elements.{AreOf, pointing, passes_at, ends_there, size_there, within, up_to, as_many, IsSum, sum_valid, sum_size, array_valid, one_valid, single_typed}
+use Rattle.region_typing_rules.proofs.Terms.{so_always, so_both, so_further, so_on, audited_so, IsOfTerm, term_so}
+use Rattle.region_typing_rules.proofs.Alike.{alike_here, alike_on, fits_after, types_alike}
+use Rattle.region_typing_rules.proofs.Given.{IsGivenIf, AreGivenAt, AreGiven, given_later, local_given, none_given, own_given, plain_given}
+use Rattle.region_typing_rules.proofs.Assigns.{IsBehind, IsGivenTo, stays}
+use Rattle.region_typing_rules.proofs.Elements.{AreOf, pointing, passes_at, ends_there, size_there, within, up_to, as_many, IsSum, sum_among, sum_based, sum_valid, sum_size, array_valid, one_valid, single_typed}
 
 -- locals of these types are there
 pub has_locals : (structs : List Structure) (b : List Shape) (ts types : List CType) (ls : List Local) → Extends ts types → HaveLocals structs b types ls → (x : ℕ) (c : CType) → slice_get ts x ≡ Some c → slice_get (types_of ls) x ≡ Some c
@@ -118,8 +121,8 @@ module _ (g : Frame) (types : List CType) (here : Scope) (reaches : Extends here
   base_of (typed.word fits) b is m d target same = absurd (cc)
   base_of (typed.byte fits) b is m d target same = absurd (cc)
   base_of typed.null b is m d target same = absurd (cc)
-  base_of (typed.local {k = i} {t = t} e bounds) b is m d target same = based_local i b t e is m d target same
-  base_of (typed.bounded {k = i} {mode = m'} {t = t} e size limited force) b is m d target same = based_local i b (Pointer m' kinds.Array t) e is m d target same
+  base_of (typed.local {k = i} {t = t} e bounds) b is m d target same = based_local i b t (reaches i t e) is m d target same
+  base_of (typed.bounded {k = i} {mode = m'} {t = t} e size limited force) b is m d target same = based_local i b (Pointer m' kinds.Array t) (reaches i (Pointer m' kinds.Array t) e) is m d target same
   base_of (typed.widened h) b is m d target same = absurd (cc)
   base_of (typed.single {mode = m'} {t = t} h elements leads) b is m d target same = base_of h b is m kinds.Array target (of_kind kinds.Array m' m kinds.One d t target same)
   base_of (typed.row {mode = m'} {t = t} h bounds) b is m d target same = base_of h b is m kinds.One target (of_kind kinds.One m' m kinds.Array d t target same)
@@ -137,6 +140,7 @@ module _ (g : Frame) (types : List CType) (here : Scope) (reaches : Extends here
   base_of (typed.arithmetic ha hb) b is m d target same = absurd (cc)
   base_of (typed.compare ha hb) b is m d target same = absurd (cc)
   base_of (typed.same ha hb) b is m d target same = absurd (cc)
+  base_of (typed.order ha from hb to) b is m d target same = absurd (cc)
   base_of (typed.both ha hb) b is m d target same = absurd (cc)
   base_of (typed.either ha hb) b is m d target same = absurd (cc)
   base_of (typed.low_byte h) b is m d target same = absurd (cc)
@@ -751,9 +755,9 @@ module _ (g : Frame) (budget n : ℕ) where
           (λ v u _ x u_kept. goes_further low types u (λ (z : ℤ) (w : State). v ≡ Number z) (λ (z : ℤ) (w : State). (c : ℤ) → constant here.locals i ≡ Some c → z ≡ c) (number_given site v u) (index_goes u site v x.0 u_kept)
           (λ z w same c e. constant_number s.locals (term here.locals i) v z c x.1 same e))
 
-      -- nothing else
-      abbrev NoMore : Value → State → Type 0
-      NoMore v u = Unit {0}
+      -- the value of an expression is valid with the bounds that it has
+      abbrev pub GivenTo : core.Expression → Mode → CType → Value → State → Type 0
+      GivenTo e m t v u = AreGiven g.structs (length here.locals) (Pointer m kinds.Array t) e v u
 
       -- what a sum comes to, where something else is so of its pointer
       pub record IsSummed (e i : core.Expression) (m : Mode) (t : CType) (direction : Direction) (p : PointerBounds) (X : Value → State → Type 0) (x : Value) (y : State) : Type 0 where
@@ -799,10 +803,152 @@ module _ (g : Frame) (budget n : ℕ) where
       sum_typed : {e i : core.Expression} {m : Mode} {t : CType} {p : PointerBounds} {X : Value → State → Type 0} (direction : Direction) (x : Value) (y : State) → IsSummed e i m t direction p X x y → OfType g (Pointer m kinds.Array t) x y
       sum_typed {m = m} {t = t} direction x y h = subst (λ x. OfType g (Pointer m kinds.Array t) x y) (sym h.sum.behind) tt
 
-      sum_bounded : (e i : core.Expression) (m : Mode) (t : CType) (direction : Direction) (p : PointerBounds) (b : Option PointerBounds) → AreSumBounds here.locals (Pointer m kinds.Array t) e direction i p b → (X : Value → State → Type 0) (x : Value) (y : State) → IsSummed e i m t direction p X x y
+      -- what a sum is given with, at each state that is alike
+      sum_there : (e i : core.Expression) (m : Mode) (t : CType) (direction : Direction) (p : PointerBounds) (x : Value) (y w : State) → IsAlike (length here.locals) y w → (h : IsSummed e i m t direction p (GivenTo e m t) x y) → IsSum g.structs t direction h.number h.before x w
+      sum_there e i m t direction p x y w alike h = sum_among g.structs t direction h.number h.before x y w alike.blocks h.sum
+
+      own_there : (e : core.Expression) (c : CType) (p : PointerBounds) (v : Value) (w : State) → bounds_of e ≡ Some p → IsGivenIf g.structs c (own_bounds e) v w → IsBoundedBy g.structs p.bounds (record { type = c; value = v }) w
+      own_there e c p v w own h = subst (λ o. IsGivenIf g.structs c (option_map (λ (q : PointerBounds). q.bounds) o) v w) own h
+
+      based_there : (e : core.Expression) (c : CType) (v : Value) (w : State) → IsGivenIf g.structs c (based_bounds e) v w → (d : Bounds) → based_bounds e ≡ Some d → IsBoundedBy g.structs d (record { type = c; value = v }) w
+      based_there e c v w h d is = subst (λ o. IsGivenIf g.structs c o v w) is h
+
+      sum_given : (e i : core.Expression) (m : Mode) (t : CType) (direction : Direction) (site : Site) (p : PointerBounds) (b : Option PointerBounds) → bounds_of e ≡ Some p → AreSumBounds here.locals e direction i p b → (x : Value) (y : State) → IsSummed e i m t direction p (GivenTo e m t) x y
+          → GivenTo (core.Sum e direction i site b) m t x y
+      sum_given e i m t direction site p b own are x y h w alike = (at_node b are, from_base (based_bounds e) refl)
+        where
+          there : AreGivenAt g.structs (Pointer m kinds.Array t) e h.before w
+          there = h.other w alike
+
+          at_node : (b : Option PointerBounds) → AreSumBounds here.locals e direction i p b → IsGivenIf g.structs (Pointer m kinds.Array t) (option_map (λ (q : PointerBounds). q.bounds) b) x w
+          at_node None are = tt
+          at_node (Some q) are =
+              sum_valid g.structs m t direction h.number h.before x w (sum_there e i m t direction p x y w alike h) here.locals e i p (Some q) are h.constant
+              (own_there e (Pointer m kinds.Array t) p h.before w own there.0) (based_there e (Pointer m kinds.Array t) h.before w there.1) q refl
+
+          from_base : (o : Option Bounds) → based_bounds e ≡ o → IsGivenIf g.structs (Pointer m kinds.Array t) o x w
+          from_base None is = tt
+          from_base (Some d) is = sum_based g.structs m t direction h.number h.before x w (sum_there e i m t direction p x y w alike h) e d is (based_there e (Pointer m kinds.Array t) h.before w there.1 d is)
+
+      node_bounded : (m : Mode) (t : CType) (b : Option PointerBounds) (x : Value) (y : State) → IsGivenIf g.structs (Pointer m kinds.Array t) (option_map (λ (q : PointerBounds). q.bounds) b) x y → IsBounded g (Pointer m kinds.Array t) b x y
+      node_bounded m t None x y h = tt
+      node_bounded m t (Some q) x y h = h.0
+
+      sum_bounded : (e i : core.Expression) (m : Mode) (t : CType) (direction : Direction) (site : Site) (p : PointerBounds) (b : Option PointerBounds) → bounds_of e ≡ Some p → AreSumBounds here.locals e direction i p b → (x : Value) (y : State) → IsSummed e i m t direction p (GivenTo e m t) x y
           → IsBounded g (Pointer m kinds.Array t) b x y
-      sum_bounded e i m t direction p None are X x y h = tt
-      sum_bounded e i m t direction p (Some q) are X x y h = sum_valid g.structs m t direction h.number h.before x y h.sum here.locals e i p (Some q) are h.local h.constant h.valid q refl
+      sum_bounded e i m t direction site p b own are x y h = node_bounded m t b x y (sum_given e i m t direction site p b own are x y h y (alike_here (length here.locals) y)).0
+
+      -- a value with what it is given with
+      with_given : (e : core.Expression) (m : Mode) (t : CType) (s : State) → Goes low types s (OfNode g e (Pointer m kinds.Array t)) (value true setting k e s) → WhereGiven (GivenTo e m t) (value true setting k e s)
+          → Goes low types s (λ v u. OfNode g e (Pointer m kinds.Array t) v u × GivenTo e m t v u) (value true setting k e s)
+      with_given e m t s h given =
+          sure_further (λ v u. (OfNode g e (Pointer m kinds.Array t) v u × IsAfter s u × IsKept low types u) × GivenTo e m t v u) (λ v u. (OfNode g e (Pointer m kinds.Array t) v u × GivenTo e m t v u) × IsAfter s u × IsKept low types u) (value true setting k e s)
+          (sure_both (λ v u. OfNode g e (Pointer m kinds.Array t) v u × IsAfter s u × IsKept low types u) (GivenTo e m t) (value true setting k e s) h given) (λ v u x. ((x.0.0, x.1), x.0.1, x.0.2))
+
+      given_stays : (e : core.Expression) (m : Mode) (t : CType) (v : Value) (u w : State) → IsAfter u w → GivenTo e m t v u → GivenTo e m t v w
+      given_stays e m t v u w after h = given_later g.structs (length here.locals) (Pointer m kinds.Array t) e v u w after h
+
+      -- the bounds that its type gives it
+      plainly_given : (e : core.Expression) (m : Mode) (d : Kind) (t : CType) (s : State) → HasBounds g.structs (Pointer m d t) (bounds_of e) → based_bounds e ≡ None → Goes low types s (OfNode g e (Pointer m d t)) (value true setting k e s) → WhereGiven (GivenTo e m t) (value true setting k e s)
+      plainly_given e m d t s told based h =
+          so_further (λ v u. OfNode g e (Pointer m d t) v u × IsAfter s u × IsKept low types u) (GivenTo e m t) (value true setting k e s)
+          (sure_given (λ v u. OfNode g e (Pointer m d t) v u × IsAfter s u × IsKept low types u) (value true setting k e s) h) (λ v u x. plain_given g.structs (length here.locals) m d t e v u told based x.0.0)
+
+      -- another expression, which has no bounds
+      given_none : (e : core.Expression) (m : Mode) (t : CType) (s : State) → own_bounds e ≡ None → based_bounds e ≡ None → WhereGiven (GivenTo e m t) (value true setting k e s)
+      given_none e m t s own based = so_always (GivenTo e m t) (value true setting k e s) (λ v u. none_given g.structs (length here.locals) (Pointer m kinds.Array t) e v u own based)
+
+      -- a local, whose own bounds are so
+      local_given_by : (i : ℕ) (b : Option PointerBounds) (m : Mode) (d : Kind) (t : CType) (s : State) → IsHere s → slice_get here.locals i ≡ Some (Pointer m d t) → Goes low types s (OfNode g (core.Local i b) (Pointer m d t)) (value true setting k (core.Local i b) s)
+          → ((v : Value) (u w : State) (l : Local) → IsKnown g.structs here w → OfType g (Pointer m d t) v w → slice_get w.locals i ≡ Some l → l.type ≡ Pointer m d t → l.value ≡ v → IsGivenIf g.structs (Pointer m kinds.Array t) (own_bounds (core.Local i b)) v w)
+          → WhereGiven (GivenTo (core.Local i b) m t) (value true setting k (core.Local i b) s)
+      local_given_by i b m d t s h is goes own =
+          so_further (λ v u. (OfNode g (core.Local i b) (Pointer m d t) v u × IsAfter s u × IsKept low types u) × ((l : Local) → slice_get u.locals i ≡ Some l → l.value ≡ v)) (GivenTo (core.Local i b) m t) (value true setting k (core.Local i b) s)
+          (so_both (λ v u. OfNode g (core.Local i b) (Pointer m d t) v u × IsAfter s u × IsKept low types u) (λ (v : Value) (u : State). (l : Local) → slice_get u.locals i ≡ Some l → l.value ≡ v) (value true setting k (core.Local i b) s)
+          (sure_given (λ v u. OfNode g (core.Local i b) (Pointer m d t) v u × IsAfter s u × IsKept low types u) (value true setting k (core.Local i b) s) goes) (local_read i b s))
+          (λ v u x w alike. by v u w alike x.0.0.0 x.0.1 x.0.2 x.1)
+        where
+          other : (o : Option CType) → o ≡ Some (Pointer m d t) → o ≡ Some Char → ⊥
+          other o p q = cc
+
+          by : (v : Value) (u w : State) → IsAlike (length here.locals) u w → OfType g (Pointer m d t) v u → IsAfter s u → IsKept low types u → ((l : Local) → slice_get u.locals i ≡ Some l → l.value ≡ v) → AreGivenAt g.structs (Pointer m kinds.Array t) (core.Local i b) v w
+          by v u w alike typed after kept read =
+              let l = local_there g.structs (shaped u) types u.locals i (Pointer m d t) kept.locals (reaches i (Pointer m d t) is) in
+              let type_u = mapped_there (λ (l : Local). l.type) u.locals i l.0 l.1 ∙ ap Some l.2 in
+              let there : slice_get w.locals i ≡ Some l.0 = alike.tracked i (slice_get_within here.locals i (Pointer m d t) is) (other (slice_get (types_of u.locals) i) type_u) ∙ l.1 in
+              let known_u = fits_after g.structs (length here.locals) here.flow s u flow after h.0 in
+              let known_w : IsKnown g.structs here w = λ z again. known_u z (alike_on (length here.locals) u w z alike again) in
+              let typed_w = subst (λ x. HasValue g.structs (shapes x) (Pointer m d t) v) (sym alike.blocks) typed in
+              local_given g.structs m d t i v w l.0 there l.2 (read l.0 l.1) b (ap (λ ts. slice_get ts i) alike.same ∙ type_u)
+              (own v u w l.0 known_w typed_w there l.2 (read l.0 l.1))
+
+      -- bounds that are in force of a local, as those of the value
+      forced : (m : Mode) (d : Kind) (t : CType) (v : Value) (w : State) (l : Local) → l.type ≡ Pointer m d t → l.value ≡ v → (b : Bounds) → IsBoundedBy g.structs b l w → IsBoundedBy g.structs b (pointing m t v) w
+      forced m d t v w l type value b h =
+          let made : l ≡ record { type = Pointer m d t; value = v } = ap (λ c. record { type = c; value = l.value }) type ∙ ap (λ v. record { type = Pointer m d t; value = v }) value in
+          let there = subst (λ l. IsBoundedBy g.structs b l w) made h in
+          (record { passes = there.0.passes; leads = there.0.leads }, there.1)
+
+      element_is : (m : Mode) (d : Kind) (t t' : CType) → Pointer modes.Checked kinds.Array t' ≡ Pointer m d t → t' ≡ t
+      element_is m d t t' same = cc
+
+      mode_is : (m' m : Mode) (d : Kind) (t t' : CType) → Pointer m' kinds.Array t' ≡ Pointer m d t → m' ≡ m
+      mode_is m' m d t t' same = cc
+
+      target_is : (m' m : Mode) (d : Kind) (t t' : CType) → Pointer m' kinds.Array t' ≡ Pointer m d t → t' ≡ t
+      target_is m' m d t t' same = cc
+
+      array_given : (m : Mode) (t t' : CType) (n object : ℕ) (is : List Initial) (p : PointerBounds) → 0 < n → t' ≡ t → AreRows g.structs (shape (object_block is)) t' n → p.bounds ≡ row_of n → (v : Value) (u : State) → v ≡ At object 0 → slice_get (shaped u) object ≡ Some (shape (object_block is))
+          → GivenTo (core.AddressOf (core.Direct object 0) (Some p)) m t v u
+      array_given m t t' n object is p some target rows bounds v u at found w alike = (
+        (
+          subst (λ v. IsValid g.structs (Some p.bounds) (pointing m t v) w) (sym at)
+              (array_valid g.structs m t n object (shape (object_block is)) w (subst (λ b. slice_get (shapes b) object ≡ Some (shape (object_block is))) (sym alike.blocks) found) some (subst (λ t. AreRows g.structs (shape (object_block is)) t n) target rows) p bounds),
+          λ q c e there. absurd (let none : p.bounds.base ≡ None = ap (λ (b : Bounds). b.base) bounds in let k : None ≡ Some q = sym none ∙ e in cc),
+        ),
+        tt,
+      )
+
+      -- ---- order
+
+      -- the block in which a pointer stands is that of its base
+      in_base : (m : Mode) (t : CType) (d : Bounds) (q block byte : ℕ) (s : State) → IsBoundedBy g.structs d (pointing m t (At block byte)) s → d.base ≡ Some q → (w : ℕ) × (l : Local) × (slice_get s.locals q ≡ Some l) × (l.value ≡ At block w)
+      in_base m t d q block byte s h base =
+          let site : Site = record { place = record { line = 0; col = 0 } } in
+          let v = valid_from (at_node d (size_of g.structs t) site) block byte s (h.0.passes site) in
+          let parts = ends_parts (size_of g.structs t) (base_byte d.base s.locals block byte) (term_value d.lo s.locals) (term_value d.hi s.locals) v.ends v.are in
+          there (slice_get s.locals q) refl parts.byte (sym (ap (λ o. base_byte o s.locals block byte) base) ∙ parts.at_base)
+        where
+          there : (o : Option Local) → slice_get s.locals q ≡ o → (w : ℕ) → base_byte (Some q) s.locals block byte ≡ Some w → (w : ℕ) × (l : Local) × (slice_get s.locals q ≡ Some l) × (l.value ≡ At block w)
+          there None found w h = absurd (let none : None ≡ Some w = rw found at h in cc)
+          there (Some l) found w h = by l.value refl
+            where
+              by : (v : Value) → l.value ≡ v → (w : ℕ) × (l : Local) × (slice_get s.locals q ≡ Some l) × (l.value ≡ At block w)
+              by (Number z) e = absurd (let none : None ≡ Some w = rw (found, e) at h in cc)
+              by Null e = absurd (let none : None ≡ Some w = rw (found, e) at h in cc)
+              by (At other place) e =
+                  let one : cond (other == block) (Some place) None ≡ Some w = rw (found, e) at h in
+                  let c = cond_some (other == block) place w one in
+                  (w, l, found, e ∙ (ap (λ b. At b place) (same_number other block c.0) ∙ ap (At block) c.1))
+
+      ordered_goes : (m m' : Mode) (t t' : CType) (comparison : Comparison) (site : Site) (d d' : Bounds) (q : ℕ) → d.base ≡ Some q → d'.base ≡ Some q → (v w : Value) (s : State) → OfType g (Pointer m kinds.Array t) v s → OfType g (Pointer m' kinds.Array t') w s
+          → IsBoundedBy g.structs d (pointing m t v) s → IsBoundedBy g.structs d' (pointing m' t' w) s → IsKept low types s
+          → Goes low types s (OfType g Int) (and_then (not_null site v s) (λ _ x. and_then (not_null site w x) (λ _ y. ordered comparison (Some site) v w y)))
+      ordered_goes m m' t t' comparison site d d' q base base' (Number z) w s hv hw bv bw kept = absurd hv
+      ordered_goes m m' t t' comparison site d d' q base base' Null w s hv hw bv bw kept = tt
+      ordered_goes m m' t t' comparison site d d' q base base' (At block byte) (Number z) s hv hw bv bw kept = absurd hw
+      ordered_goes m m' t t' comparison site d d' q base base' (At block byte) Null s hv hw bv bw kept = tt
+      ordered_goes m m' t t' comparison site d d' q base base' (At block byte) (At other byte') s hv hw bv bw kept =
+          let a = in_base m t d q block byte s bv base in
+          let b = in_base m' t' d' q other byte' s bw base' in
+          let same : block ≡ other = same_block a.1 b.1 (sym a.2 ∙ b.2) a.3 b.3 in
+          subst (λ test. Goes low types s (OfType g Int) (ordered_if test comparison (Some site) byte byte' s)) (sym (is_same same)) (test_goes low types s (holds comparison (pos byte) (pos byte')) kept)
+        where
+          is_same : block ≡ other → (block == other) ≡ true
+          is_same e = grind (arith, nat_tests)
+
+          same_block : {x y : ℕ} (l k : Local) → Some l ≡ Some k → l.value ≡ At block x → k.value ≡ At other y → block ≡ other
+          same_block l k e p r = cc
 
       -- a pointer as one with bounds
       row_value : (m : Mode) (d : Kind) (t : CType) (v : Value) (u : State) → OfType g (Pointer m d t) v u → OfType g (Pointer m kinds.Array t) v u
@@ -826,11 +972,11 @@ module _ (g : Frame) (budget n : ℕ) where
             with_none (core.Number z) Char s (λ v u. tt) (byte_number_goes low types s z (is_word_number z) (value_widened g.structs (shaped s) (Number z) fits) fits h.1)
         value_goes (typed.null {mode = m} {kind = d} {t = t}) s h = with_none core.Null (Pointer m d t) s (none_bounded (Pointer m d t)) (tt, after_here s, h.1)
         value_goes (typed.local {k = i} {t = t} {b = b} e bounds) s h =
-            with_none (core.Local i b) t s (plain_bounded t b bounds) (audited_goes low types s t b (given (slice_get s.locals i) s) bounds (given_goes low types s i t h.1 e))
+            with_none (core.Local i b) t s (plain_bounded t b bounds) (audited_goes low types s t b (given (slice_get s.locals i) s) bounds (given_goes low types s i t h.1 (reaches i t e)))
         value_goes (typed.bounded {k = i} {mode = m} {t = t} {p = p} e size limited force) s h =
-            let l = local_there g.structs (shaped s) types s.locals i (Pointer m kinds.Array t) h.1.locals e in
+            let l = local_there g.structs (shaped s) types s.locals i (Pointer m kinds.Array t) h.1.locals (reaches i (Pointer m kinds.Array t) e) in
             subst (λ o. Goes low types s (OfNode g (core.Local i (Some p)) (Pointer m kinds.Array t)) (and_then (given o s) (audit true (Some p)))) (sym l.1)
-            (bounded_goes low types s m t (Some p) l.0.value size l.3 (subst (λ c. IsValid g.structs (Some p.bounds) (record { type = c; value = l.0.value }) s) l.2 (force s h.0 l.0 l.1)) h.1)
+            (bounded_goes low types s m t (Some p) l.0.value size l.3 (subst (λ c. IsValid g.structs (Some p.bounds) (record { type = c; value = l.0.value }) s) l.2 (force s h.0 l.0 l.1).0) h.1)
         value_goes (typed.widened {e = e} h) s here' = with_none e Int s (λ v u. tt) (widened_goes low types s (value true setting k e s) (typed_alone e Char s (value_goes h s here')))
         value_goes (typed.single {e = e} {mode = m} {t = t} {p = p} h elements leads) s here' =
             goes_further low types s (λ v u. OfNode g e (Pointer m kinds.Array t) v u × IsKnown g.structs here u) (OfNode g e (Pointer m kinds.One t)) (value true setting k e s)
@@ -854,12 +1000,17 @@ module _ (g : Frame) (budget n : ℕ) where
             (bounded_goes low types u modes.Checked t (Some p) (At object 0) size tt
             (array_valid g.structs modes.Checked t n object (shape (object_block is)) u (object_there low types u object is found u_kept) some rows p bounds) u_kept))
         value_goes (typed.sum {e = e} {i = i} {mode = m} {t = t} {direction = direction} {site = site} {p = p} {b = b} h elements hi bounds) s here' =
-            goes_on low types s (IsSummed e i m t direction p NoMore) (OfNode g (core.Sum e direction i site b) (Pointer m kinds.Array t)) _ (audit true b)
-            (sum_goes e i m t direction p site elements NoMore s here' (λ v u w after x. tt)
-            (goes_further low types s (OfNode g e (Pointer m kinds.Array t)) (λ v u. OfNode g e (Pointer m kinds.Array t) v u × NoMore v u) (value true setting k e s) (value_goes h s here') (λ v u x. (x, tt)))
-            (λ u stands. typed_alone i Int u (value_goes hi u stands)))
-            (λ x y _ summed y_kept. bounded_goes low types y m t b x (sum_size g.structs t here.locals (Pointer m kinds.Array t) e direction i p b bounds elements.size) (sum_typed direction x y summed)
-            (sum_bounded e i m t direction p b bounds NoMore x y summed) y_kept)
+            goes_on low types s (IsSummed e i m t direction p (GivenTo e m t)) (OfNode g (core.Sum e direction i site b) (Pointer m kinds.Array t)) _ (audit true b)
+            (sum_goes e i m t direction p site elements (GivenTo e m t) s here' (given_stays e m t) (with_given e m t s (value_goes h s here') (given_so h m kinds.Array t refl s here' (value_goes h s here'))) (λ u stands. typed_alone i Int u (value_goes hi u stands)))
+            (λ x y _ summed y_kept. bounded_goes low types y m t b x (sum_size g.structs t here.locals e direction i p b bounds elements.size) (sum_typed direction x y summed) (sum_bounded e i m t direction site p b elements.bounds bounds x y summed) y_kept)
+        value_goes (typed.order {comparison = comparison} {a = a} {b = b} {mode = m} {mode' = m'} {t = t} {t' = t'} {k = q} {site = site} ha from hb to) s here' =
+            with_none (core.Order comparison a b site) Int s (λ v u. tt)
+            (goes_on low types s (λ v u. OfNode g a (Pointer m kinds.Array t) v u × GivenTo a m t v u) (OfType g Int) (value true setting k a s) _ (with_given a m t s (value_goes ha s here') (given_so ha m kinds.Array t refl s here' (value_goes ha s here')))
+            (λ v u after first u_kept. goes_on low types u (λ w x. OfNode g b (Pointer m' kinds.Array t') w x × GivenTo b m' t' w x) (OfType g Int) (value true setting k b u) _
+            (with_given b m' t' u (value_goes hb u (here_later s u after here' u_kept)) (given_so hb m' kinds.Array t' refl u (here_later s u after here' u_kept) (value_goes hb u (here_later s u after here' u_kept))))
+            (λ w x later second x_kept. ordered_goes m m' t t' comparison site from.bounds to.bounds q from.base to.base v w x (value_grown g.structs (shaped u) (shaped x) later.0 (Pointer m kinds.Array t) v first.0.0) second.0.0
+            (based_there a (Pointer m kinds.Array t) v x (given_stays a m t v u x later first.1 x (alike_here (length here.locals) x)).1 from.bounds from.based)
+            (based_there b (Pointer m' kinds.Array t') w x (second.1 x (alike_here (length here.locals) x)).1 to.bounds to.based) x_kept)))
         value_goes (typed.negate {e = e} {site = site} h) s here' =
             with_none (core.Negate e site) Int s (λ v u. tt) (goes_on low types s (OfType g Int) (OfType g Int) (value true setting k e s) (negated site) (typed_alone e Int s (value_goes h s here')) (λ v u _ typed u_kept. negated_goes low types u site v typed u_kept))
         value_goes (typed.complement {e = e} h) s here' =
@@ -899,6 +1050,53 @@ module _ (g : Frame) (budget n : ℕ) where
         value_goes typed.next_input s here' =
             with_none core.NextInput Int s (λ v u. tt)
             (asked_goes low low types IsNumber (OfType g Int) (next_input s.world) s _ (next_answers budget low s.world here'.1.world) here'.1.enough here'.1 (λ z u _ fits u_kept. (fits, after_here u, u_kept)))
+
+        -- a pointer is valid with its bounds, and with those from its base
+        pub given_so : {e : core.Expression} {c : CType} → HasType g types here e c → (m : Mode) (d : Kind) (t : CType) → c ≡ Pointer m d t → (s : State) → IsHere s → Goes low types s (OfNode g e c) (value true setting k e s) → WhereGiven (GivenTo e m t) (value true setting k e s)
+        given_so (typed.word fits) m d t same s h goes = absurd (cc)
+        given_so (typed.byte fits) m d t same s h goes = absurd (cc)
+        given_so typed.null m d t same s h goes = given_none core.Null m t s refl refl
+        given_so (typed.local {k = i} {t = c} {b = b} e bounds) m d t same s h goes =
+            local_given_by i b m d t s h (e ∙ ap Some same) (subst (λ c. Goes low types s (OfNode g (core.Local i b) c) (value true setting k (core.Local i b) s)) same goes)
+            (λ v u w l known typed there type value. own_given g.structs m d t (core.Local i b) v w (subst (λ c. HasBounds g.structs c b) same bounds) typed)
+        given_so (typed.bounded {k = i} {mode = m'} {t = t'} {p = p} e size limited force) m d t same s h goes =
+            local_given_by i (Some p) m d t s h (e ∙ ap Some same) (subst (λ c. Goes low types s (OfNode g (core.Local i (Some p)) c) (value true setting k (core.Local i (Some p)) s)) same goes)
+            (λ v u w l known typed there type value. forced m d t v w l type value p.bounds (force w known l there))
+        given_so (typed.widened h) m d t same s here' goes = absurd (cc)
+        given_so (typed.single {mode = m'} {t = t'} h elements leads) m d t same s here' goes = given_so h m kinds.Array t (of_kind g types here reaches kinds.Array m' m kinds.One d t' t same) s here' (value_goes h s here')
+        given_so (typed.row {mode = m'} {t = t'} h bounds) m d t same s here' goes = given_so h m kinds.One t (of_kind g types here reaches kinds.One m' m kinds.Array d t' t same) s here' (value_goes h s here')
+        given_so (typed.ended_row {mode = m'} {t = t'} h none) m d t same s here' goes = given_so h m kinds.Nt t (of_kind g types here reaches kinds.Nt m' m kinds.Array d t' t same) s here' (value_goes h s here')
+        given_so (typed.load {t = c} {p = p} {b = b} scalar h bounds) m d t same s here' goes =
+            plainly_given (core.Load c p b) m d t s (subst (λ c. HasBounds g.structs c b) same bounds) refl (subst (λ x. Goes low types s (OfNode g (core.Load c p b) x) (value true setting k (core.Load c p b) s)) same goes)
+        given_so (typed.address_of {mode = m'} {t = t'} {p = p} {b = b} h bounds) m d t same s here' goes =
+            plainly_given (core.AddressOf p b) m d t s (subst (λ c. HasBounds g.structs c b) same bounds) refl (subst (λ x. Goes low types s (OfNode g (core.AddressOf p b) x) (value true setting k (core.AddressOf p b) s)) same goes)
+        given_so (typed.array {object = object} {n = n} {t = t'} {p = p} {cells = is} found some few rows bounds size) m d t same s here' goes =
+            so_on (λ (v : Value) (u : State). (v ≡ At object 0) × IsAfter s u × IsKept low types u) (GivenTo (core.AddressOf (core.Direct object 0) (Some p)) m t) (and_then (variable_at setting object 0 s) pointer_to) (audit true (Some p))
+            (sure_given (λ (v : Value) (u : State). (v ≡ At object 0) × IsAfter s u × IsKept low types u) (and_then (variable_at setting object 0 s) pointer_to)
+            (goes_on low types s (λ (at : ℕ × ℕ) (u : State). at ≡ (object, 0)) (λ (v : Value) (u : State). v ≡ At object 0) (variable_at setting object 0 s) pointer_to (first_goes low types s t' object n is found some rows here'.1)
+            (λ at u _ at_start u_kept. (ap (λ (at : ℕ × ℕ). At at.0 at.1) at_start, after_here u, u_kept))))
+            (λ v u x. audited_so (GivenTo (core.AddressOf (core.Direct object 0) (Some p)) m t) true (Some p) v u
+            (array_given m t t' n object is p some (element_is m d t t' same) rows bounds v u x.0 (object_there low types u object is found x.2)))
+        given_so (typed.sum {e = e} {i = i} {mode = m'} {t = t'} {direction = direction} {site = site} {p = p} {b = b} h elements hi bounds) m d t same s here' goes =
+            subst (λ m. WhereGiven (GivenTo (core.Sum e direction i site b) m t) (value true setting k (core.Sum e direction i site b) s)) (mode_is m' m d t t' same)
+            (subst (λ t. WhereGiven (GivenTo (core.Sum e direction i site b) m' t) (value true setting k (core.Sum e direction i site b) s)) (target_is m' m d t t' same)
+            (so_on (λ x y. IsSummed e i m' t' direction p (GivenTo e m' t') x y × IsAfter s y × IsKept low types y) (GivenTo (core.Sum e direction i site b) m' t') _ (audit true b)
+            (sure_given (λ x y. IsSummed e i m' t' direction p (GivenTo e m' t') x y × IsAfter s y × IsKept low types y) _
+            (sum_goes e i m' t' direction p site elements (GivenTo e m' t') s here' (given_stays e m' t') (with_given e m' t' s (value_goes h s here') (given_so h m' kinds.Array t' refl s here' (value_goes h s here'))) (λ u stands. typed_alone i Int u (value_goes hi u stands))))
+            (λ x y summed. audited_so (GivenTo (core.Sum e direction i site b) m' t') true b x y (sum_given e i m' t' direction site p b elements.bounds bounds x y summed.0))))
+        given_so (typed.negate h) m d t same s here' goes = absurd (cc)
+        given_so (typed.complement h) m d t same s here' goes = absurd (cc)
+        given_so (typed.inverse h) m d t same s here' goes = absurd (cc)
+        given_so (typed.arithmetic ha hb) m d t same s here' goes = absurd (cc)
+        given_so (typed.compare ha hb) m d t same s here' goes = absurd (cc)
+        given_so (typed.same ha hb) m d t same s here' goes = absurd (cc)
+        given_so (typed.order ha from hb to) m d t same s here' goes = absurd (cc)
+        given_so (typed.both ha hb) m d t same s here' goes = absurd (cc)
+        given_so (typed.either ha hb) m d t same s here' goes = absurd (cc)
+        given_so (typed.low_byte h) m d t same s here' goes = absurd (cc)
+        given_so (typed.call {callee = callee} {arguments = arguments} {t = c} {b = b} known h bounds) m d t same s here' goes =
+            plainly_given (core.Call callee arguments b) m d t s (subst (λ c. HasBounds g.structs c b) same bounds) refl (subst (λ x. Goes low types s (OfNode g (core.Call callee arguments b) x) (value true setting k (core.Call callee arguments b) s)) same goes)
+        given_so typed.next_input m d t same s here' goes = absurd (cc)
 
         pub values_go : {arguments : core.Arguments} {ts : List CType} → HaveTypes g types here arguments ts → (s : State) → IsHere s → Goes low types s (OfTypes g ts) (values true setting k arguments s)
         values_go typed.done s h = (tt, after_here s, h.1)
@@ -1013,11 +1211,21 @@ module _ (g : Frame) (budget n : ℕ) where
       behind_so (typed.arithmetic {operator = operator} {a = a} {b = c} {site = site} ha hb) s h = nowhere (core.Arithmetic operator a c site) s (λ b is. absurd (cc))
       behind_so (typed.compare {comparison = comparison} {a = a} {b = c} ha hb) s h = nowhere (core.Compare comparison a c) s (λ b is. absurd (cc))
       behind_so (typed.same {a = a} {b = c} ha hb) s h = nowhere (core.Same a c) s (λ b is. absurd (cc))
+      behind_so (typed.order {comparison = comparison} {a = a} {b = c} {site = site} ha from hb to) s h = nowhere (core.Order comparison a c site) s (λ b is. absurd (cc))
       behind_so (typed.both {a = a} {b = c} ha hb) s h = nowhere (core.AndAlso a c) s (λ b is. absurd (cc))
       behind_so (typed.either {a = a} {b = c} ha hb) s h = nowhere (core.OrElse a c) s (λ b is. absurd (cc))
       behind_so (typed.low_byte {e = e} he) s h = nowhere (core.LowByte e) s (λ b is. absurd (cc))
       behind_so (typed.call {callee = callee} {arguments = arguments} {b = c} known ha bounds) s h = nowhere (core.Call callee arguments c) s (λ b is. absurd (cc))
       behind_so typed.next_input s h = nowhere core.NextInput s (λ b is. absurd (cc))
+
+      -- what a pointer is given, by its kind
+      pub given_to_so : {e : core.Expression} (c : CType) → HasType g types here e c → (s : State) → IsHere low types here flow reaches s → WhereGiven (IsGivenTo g.structs (length here.locals) c e) (value true setting k e s)
+      given_to_so {e = e} Int h s here' = so_always (IsGivenTo g.structs (length here.locals) Int e) (value true setting k e s) (λ v u. tt)
+      given_to_so {e = e} Char h s here' = so_always (IsGivenTo g.structs (length here.locals) Char e) (value true setting k e s) (λ v u. tt)
+      given_to_so {e = e} (Struct number) h s here' = so_always (IsGivenTo g.structs (length here.locals) (Struct number) e) (value true setting k e s) (λ v u. tt)
+      given_to_so {e = e} (Pointer m kinds.One t) h s here' = so_always (IsGivenTo g.structs (length here.locals) (Pointer m kinds.One t) e) (value true setting k e s) (λ v u. tt)
+      given_to_so {e = e} (Pointer m kinds.Nt t) h s here' = so_always (IsGivenTo g.structs (length here.locals) (Pointer m kinds.Nt t) e) (value true setting k e s) (λ v u. tt)
+      given_to_so {e = e} (Pointer m kinds.Array t) h s here' = given_so low types here flow reaches h m kinds.Array t refl s here' (value_goes low types here flow reaches h s here')
 
     -- ---- stores
 

@@ -2,7 +2,7 @@
 use Rattle.std.proofs.Common.{◌≡◌, ℕ, suc, ◌^◌, Bool, true, false, List, [], ◌∷◌, length, Option, Some, None, refl}
 use Rattle.std.specs.Prelude.{◌==◌, nat_lt, ◌&&◌, slice_get}
 use Rattle.ckc_text.specs.declared.place.Span.{Span}
-use Rattle.ckc_text.specs.declared.code.Code.TheVariants.{E04, E13, E14}
+use Rattle.ckc_text.specs.declared.code.Code.TheVariants.{E04, E13, E14, E26}
 use Rattle.ckc_tree.specs.declared.expr.UnaryOperator.{UnaryOperator}
 use Rattle.ckc_tree.specs.declared.expr.UnaryOperator.TheVariants as unary
 use Rattle.ckc_tree.specs.declared.expr.BinaryOperator.{BinaryOperator}
@@ -30,7 +30,7 @@ use Rattle.region_typing_rules.specs.Scopes.{Scope, Signature, FileVariable, Vis
 use Rattle.region_typing_rules.specs.Types.{type_named, is_number, is_pointer, are_comparable}
 use Rattle.region_typing_rules.specs.Expressions.{Places, OfLocal, OfCell, Standing, ForNothing, ForArray, For, Typed, Value, AStruct, Called, Gives, GivesNothing, site_at, with_bounds, bounded, number, at_place, local_typed, name_typed}
 use Rattle.region_typing_rules.specs.Expressions.{struct_place, member_place, member_from, offset_among, member_at, dotted, with_elements, first_element, pointed_by, arrowed, pointed_at, dereferenced, address, number_of, scalar_of, unary_typed, two_numbers, two_scalars, operator_along, summed, sum_typed}
-use Rattle.region_typing_rules.specs.Expressions.{equated, ordered_values, ordered, arithmetic, binary_typed, element_at, indexed, arguments_as, is_import, call_of, declared_callee, first_of, writes, constant_typed, predefined_call, called, with_result, typed, all_typed, call_typed}
+use Rattle.region_typing_rules.specs.Expressions.{equated, are_related, ordered_values, ordered, arithmetic, binary_typed, element_at, indexed, arguments_as, is_import, call_of, declared_callee, first_of, writes, constant_typed, predefined_call, called, with_result, typed, all_typed, call_typed}
 use Rattle.region_typing_rules.specs.Knowing.{local_number}
 use Rattle.region_typing_rules.proofs.Knowledge.{crossing_promises}
 use Rattle.region_typing_rules.proofs.Verdicts.{Promises, passing_promises, needs_promises, promised_so, elements_promise, apart_promises, all_met_promise}
@@ -120,7 +120,7 @@ arrowed_fresh : (s : Scope) (a : Typed) (name : ℕ) (site : Site) (span : Span)
 arrowed_fresh s (Value type zero value place) name site span = pointed_by_fresh s type value name site span
 arrowed_fresh s (AStruct number place) name site span = tt
 
-number_any : {A : Type 0} (Q : A → Type 0) (a : Typed) (span : Span) (next : core.Expression → Verdict A) → ((v : core.Expression) → Promises Q (next v)) → Promises Q (number_of a span next)
+pub number_any : {A : Type 0} (Q : A → Type 0) (a : Typed) (span : Span) (next : core.Expression → Verdict A) → ((v : core.Expression) → Promises Q (next v)) → Promises Q (number_of a span next)
 number_any Q (Value type zero value place) span next more = needs_promises Q (is_number type) E13 span (next value) (λ ok. more value)
 number_any Q (AStruct number place) span next more = tt
 
@@ -151,18 +151,18 @@ summed_fresh s direction (AStruct number place) b site span = tt
 sum_fresh : (s : Scope) (direction : Direction) (a b : Typed) (site : Site) (span : Span) → Promises IsFresh (sum_typed s direction a b site span)
 sum_fresh s direction a b site span = apart_promises IsFresh a b span (summed s direction a b site span) (summed_fresh s direction a b site span)
 
-ordered_values_fresh : (comparison : Comparison) (t : CType) (v : core.Expression) (u : CType) (w : core.Expression) (span : Span) → Promises IsFresh (ordered_values comparison t v u w span)
-ordered_values_fresh comparison t v u w span = by (is_number t && is_number u) (are_comparable t u) refl refl
+ordered_values_fresh : (comparison : Comparison) (t : CType) (v : core.Expression) (u : CType) (w : core.Expression) (site : Site) (span : Span) → Promises IsFresh (ordered_values comparison t v u w site span)
+ordered_values_fresh comparison t v u w site span = by (is_number t && is_number u) (are_comparable t u) refl refl
   where
-    by : (numbers same : Bool) → (is_number t && is_number u) ≡ numbers → are_comparable t u ≡ same → Promises IsFresh (ordered_values comparison t v u w span)
+    by : (numbers same : Bool) → (is_number t && is_number u) ≡ numbers → are_comparable t u ≡ same → Promises IsFresh (ordered_values comparison t v u w site span)
     by true same h0 h1 = rw h0 tt
-    by false true h0 h1 = rw (h0, h1) tt
+    by false true h0 h1 = rw (h0, h1) (needs_promises IsFresh (are_related t v u w) E26 span (number (core.Order comparison v w site)) (λ yes. tt))
     by false false h0 h1 = rw (h0, h1) tt
 
-ordered_fresh : (comparison : Comparison) (a b : Typed) (span : Span) → Promises IsFresh (ordered comparison a b span)
-ordered_fresh comparison (Value t z v p) (Value u y w q) span = ordered_values_fresh comparison t v u w span
-ordered_fresh comparison (Value t z v p) (AStruct k q) span = tt
-ordered_fresh comparison (AStruct k p) b span = tt
+ordered_fresh : (comparison : Comparison) (a b : Typed) (site : Site) (span : Span) → Promises IsFresh (ordered comparison a b site span)
+ordered_fresh comparison (Value t z v p) (Value u y w q) site span = ordered_values_fresh comparison t v u w site span
+ordered_fresh comparison (Value t z v p) (AStruct k q) site span = tt
+ordered_fresh comparison (AStruct k p) b site span = tt
 
 scalars_fresh : (of : core.Expression → core.Expression → core.Expression) (a b : Typed) (span : Span) → Promises IsFresh (two_scalars a b span (λ v w. number (of v w)))
 scalars_fresh of a b span = scalar_any IsFresh a span _ (λ v. scalar_any IsFresh b span _ (λ w. tt))
@@ -175,10 +175,10 @@ binary_fresh s binary.BitXor a b site span = arithmetic_fresh a b (operators.Bit
 binary_fresh s binary.BitAnd a b site span = arithmetic_fresh a b (operators.Bitwise bits.And) site span
 binary_fresh s binary.Equal a b site span = passing_any IsFresh (equated a b span) number (λ v. tt)
 binary_fresh s binary.NotEqual a b site span = passing_any IsFresh (equated a b span) (λ v. number (core.Not v)) (λ v. tt)
-binary_fresh s binary.Less a b site span = ordered_fresh comparisons.Less a b span
-binary_fresh s binary.LessEqual a b site span = ordered_fresh comparisons.LessEqual a b span
-binary_fresh s binary.Greater a b site span = ordered_fresh comparisons.Greater a b span
-binary_fresh s binary.GreaterEqual a b site span = ordered_fresh comparisons.GreaterEqual a b span
+binary_fresh s binary.Less a b site span = ordered_fresh comparisons.Less a b site span
+binary_fresh s binary.LessEqual a b site span = ordered_fresh comparisons.LessEqual a b site span
+binary_fresh s binary.Greater a b site span = ordered_fresh comparisons.Greater a b site span
+binary_fresh s binary.GreaterEqual a b site span = ordered_fresh comparisons.GreaterEqual a b site span
 binary_fresh s binary.ShiftLeft a b site span = arithmetic_fresh a b (operators.Arithmetic arithmetics.ShiftLeft) site span
 binary_fresh s binary.ShiftRight a b site span = arithmetic_fresh a b (operators.Arithmetic arithmetics.ShiftRight) site span
 binary_fresh s binary.Add a b site span = sum_fresh s directions.Forward a b site span
@@ -369,14 +369,14 @@ fresh_source s x (AStruct number place) h = tt
 fresh_sources : (s : Scope) (x : Expression) (v : Verdict Typed) → Promises IsFresh v → Promises (IsSource s x) v
 fresh_sources s x v h = promised_so IsFresh (IsSource s x) v h (fresh_source s x)
 
-local_source : (s : Scope) (x : Expression) (k : ℕ) (t : CType) → slice_get s.locals k ≡ Some t → IsNameOf s.visible x k → IsSource s x (local_typed k t)
-local_source s x k Int h n = (h, n)
-local_source s x k Char h n = (h, n)
-local_source s x k (Struct number) h n = tt
-local_source s x k (Pointer m d t) h n = (h, n)
+local_source : (s : Scope) (x : Expression) (k : ℕ) (t : CType) (site : Site) → slice_get s.locals k ≡ Some t → IsNameOf s.visible x k → IsSource s x (local_typed s.structs s.flow k t site)
+local_source s x k Int site h n = (h, n)
+local_source s x k Char site h n = (h, n)
+local_source s x k (Struct number) site h n = tt
+local_source s x k (Pointer m d t) site h n = (h, n)
 
-name_source : (s : Scope) (name : Identifier) (site : Site) (x : Named) → IsLocalAt s name.number x → IsSource s (e.Name name) (name_typed s.structs x site)
-name_source s name site (Local k t) h = local_source s (e.Name name) k t h.0 h.1
+name_source : (s : Scope) (name : Identifier) (site : Site) (x : Named) → IsLocalAt s name.number x → IsSource s (e.Name name) (name_typed s x site)
+name_source s name site (Local k t) h = local_source s (e.Name name) k t site h.0 h.1
 name_source s name site (Object k t) h = fresh_source s (e.Name name) (at_place t (core.Direct k 0)) (at_place_fresh t (core.Direct k 0))
 name_source s name site (Array k t n) h = tt
 name_source s name site Nothing h = tt
@@ -393,7 +393,7 @@ typed_source at s (e.Number value span) = fresh_sources s (e.Number value span) 
 typed_source at s (e.Character value span) = fresh_sources s (e.Character value span) (constant_typed value false span) (constant_fresh value false span)
 typed_source at s (e.Text bytes span) = tt
 typed_source at s (e.Name name) =
-    passing_promises (IsSource s (e.Name name)) (IsSource s (e.Name name)) (passing (named s name.number) (λ n. Passes (name_typed s.structs n (site_at at name.span)))) _
+    passing_promises (IsSource s (e.Name name)) (IsSource s (e.Name name)) (passing (named s name.number) (λ n. Passes (name_typed s n (site_at at name.span)))) _
     (passing_promises (IsLocalAt s name.number) (IsSource s (e.Name name)) (named s name.number) _ (named_at s name.number) (name_source s name (site_at at name.span))) (with_bounds_source s (e.Name name) (site_at at name.span))
 typed_source at s (e.Call callee arguments span) =
     fresh_sources s (e.Call callee arguments span) (typed at s (e.Call callee arguments span))

@@ -4,14 +4,15 @@ use Rattle.std.specs.Prelude.{◌==◌, nat_lt, ◌&&◌}
 use Rattle.std.specs.List.{AllByRecursion}
 use Rattle.std.proofs.lemmas.Bool.{ltb-true, ltb-false}
 use Rattle.ckc_text.specs.declared.place.Span.{Span}
-use Rattle.ckc_text.specs.declared.code.Code.TheVariants.{E04, E13, E14}
+use Rattle.ckc_text.specs.declared.code.Code.TheVariants.{E04, E13, E14, E26}
 use Rattle.ckc_tree.specs.declared.expr.UnaryOperator.{UnaryOperator}
 use Rattle.ckc_tree.specs.declared.expr.UnaryOperator.TheVariants as unary
 use Rattle.ckc_tree.specs.declared.expr.BinaryOperator.{BinaryOperator}
 use Rattle.ckc_tree.specs.declared.expr.BinaryOperator.TheVariants as binary
 use Rattle.ckc_tree.specs.Expressions as e
 use Rattle.ckc_tree.specs.Expressions.{Expression, Expressions}
-use Rattle.ckc_tree.specs.Heights.{Reach, deeper, ◌beside◌, inside, around, type_reach, expression_reach, expressions_reach}
+use Rattle.ckc_tree.specs.Heights.{Reach, deeper, ◌beside◌, inside, around, type_reach, expression_reach, expressions_reach, bounds_reach}
+use Rattle.bounds_flow.specs.Flows.{Knowledge}
 use Rattle.pointer_modes.specs.declared.ctype.Kind.TheVariants as kinds
 use Rattle.pointer_modes.specs.Types.{CType, Int, Char, Struct, Pointer, Structure, members_of}
 use Rattle.pointer_modes.specs.Layout.{cells_of}
@@ -32,7 +33,7 @@ use Rattle.ckc_names_rules.specs.declared.given.Given.{Given}
 use Rattle.region_typing_rules.specs.Verdicts.{Verdict, Passes, passing}
 use Rattle.region_typing_rules.specs.Scopes.{Scope, Signature, Named, Local, Object, Array, Nothing, named, function_named, members_named}
 use Rattle.region_typing_rules.specs.Types.{type_named, is_number, is_pointer, are_comparable, converts}
-use Rattle.region_typing_rules.specs.Expressions.{Places, OfLocal, OfCell, Standing, ForNothing, ForArray, For, Typed, Value, AStruct, Called, Gives, GivesNothing, site_at, bounds_at, noted, noted_if, with_bounds, sum_node, bounded, plain, number, at_place, local_typed, name_typed, member_place, member_from, offset_among, member_at, dotted, first_element, pointed_by, arrowed, pointed_at, dereferenced, pointer_to, address, number_of, scalar_of, unary_typed, two_numbers, two_scalars, operator_along, summed, sum_typed, as_pointer, equated_values, equated, ordered_values, ordered, arithmetic, binary_typed, element_at, indexed, in_type, converted, arguments_as, is_import, call_of, declared_callee, first_of, writes, predefined_call, called, with_result, typed, all_typed, call_typed}
+use Rattle.region_typing_rules.specs.Expressions.{Places, OfLocal, OfCell, Standing, ForNothing, ForArray, For, Typed, Value, AStruct, Called, Gives, GivesNothing, site_at, bounds_at, noted, noted_if, with_bounds, sum_node, bounded, plain, number, at_place, local_typed, name_typed, member_place, member_from, offset_among, member_at, dotted, first_element, pointed_by, arrowed, pointed_at, dereferenced, pointer_to, address, number_of, scalar_of, unary_typed, two_numbers, two_scalars, operator_along, summed, sum_typed, as_pointer, equated_values, equated, are_related, ordered_values, ordered, arithmetic, binary_typed, element_at, indexed, in_type, converted, arguments_as, is_import, call_of, declared_callee, first_of, writes, predefined_call, called, with_result, typed, all_typed, call_typed}
 use Rattle.region_typing_rules.proofs.Knowledge.{crossing_promises}
 use Rattle.region_typing_rules.proofs.Verdicts.{Promises, passing_promises, needs_promises, anything_promised, promised_so, elements_promise, apart_promises, all_met_promise}
 use Rattle.region_typing_rules.proofs.Signatures.{named_has}
@@ -59,6 +60,24 @@ around_higher start parts = by parts.height
     by : (n : ℕ) → (inside start n parts.start).height ≡ n + 1
     by ℕ.zero = refl
     by (ℕ.suc n) = omega arith
+
+-- an expression is a node
+pub some_reach : (x : Expression) → 1 ≤ (expression_reach x).height
+some_reach (e.Number value span) = omega arith
+some_reach (e.Character value span) = omega arith
+some_reach (e.Text bytes span) = omega arith
+some_reach (e.Name name) = omega arith
+some_reach (e.Call callee arguments span) = omega (arith, around_higher span.from (expressions_reach arguments))
+some_reach (e.SizeOf type span) = omega (arith, around_higher span.from (type_reach type.base))
+some_reach (e.Cast word type operand span) = omega (arith, around_higher span.from (type_reach type.base beside expression_reach operand))
+some_reach (e.BoundedCast word type operand bounds span) = omega (arith, around_higher span.from (type_reach type.base beside expression_reach operand beside bounds_reach bounds))
+some_reach (e.Malloc word type size span) = omega (arith, around_higher span.from (type_reach type.base beside expression_reach size))
+some_reach (e.Calloc word type count size span) = omega (arith, around_higher span.from (type_reach type.base beside expression_reach count beside expression_reach size))
+some_reach (e.Index base index span) = omega (arith, around_higher span.from (expression_reach base beside expression_reach index))
+some_reach (e.Dot base member span) = omega (arith, around_higher span.from (expression_reach base))
+some_reach (e.Arrow base member span) = omega (arith, around_higher span.from (expression_reach base))
+some_reach (e.Unary operator operand span) = omega (arith, around_higher span.from (expression_reach operand))
+some_reach (e.Binary operator left right span) = omega (arith, around_higher span.from (expression_reach left beside expression_reach right))
 
 -- ---- what an expression is takes so many words at most
 
@@ -135,17 +154,17 @@ at_place_low n Char p h = (h, h)
 at_place_low n (Struct number) p h = h
 at_place_low n (Pointer m k t) p h = (h, h)
 
-local_low : (n k : ℕ) (t : CType) → 1 ≤ n → Low n (local_typed k t)
-local_low n k Int h = (h, tt)
-local_low n k Char h = (h, tt)
-local_low n k (Struct number) h = tt
-local_low n k (Pointer m d t) h = (h, tt)
+local_low : (n : ℕ) (structs : List Structure) (f : Knowledge) (k : ℕ) (t : CType) (site : Site) → 1 ≤ n → Low n (local_typed structs f k t site)
+local_low n structs f k Int site h = (h, tt)
+local_low n structs f k Char site h = (h, tt)
+local_low n structs f k (Struct number) site h = tt
+local_low n structs f k (Pointer m d t) site h = (h, tt)
 
-name_low : (n : ℕ) (structs : List Structure) (x : Named) (site : Site) → 2 ≤ n → Low n (name_typed structs x site)
-name_low n structs (Local k t) site h = local_low n k t (omega arith)
-name_low n structs (Object k t) site h = at_place_low n t (core.Direct k 0) (omega arith)
-name_low n structs (Array k t length) site h = (omega arith, tt)
-name_low n structs Nothing site h = (omega arith, tt)
+name_low : (n : ℕ) (s : Scope) (x : Named) (site : Site) → 2 ≤ n → Low n (name_typed s x site)
+name_low n s (Local k t) site h = local_low n s.structs s.flow k t site (omega arith)
+name_low n s (Object k t) site h = at_place_low n t (core.Direct k 0) (omega arith)
+name_low n s (Array k t length) site h = (omega arith, tt)
+name_low n s Nothing site h = (omega arith, tt)
 
 member_place_low : (n : ℕ) (p : core.Place) (offset : ℕ) (site : Site) → 2 ≤ n → place_stack p ≤ n → place_stack (member_place p offset site) ≤ n
 member_place_low n (core.Direct object first) offset site two h = omega (arith, offset_low (first + offset))
@@ -260,18 +279,18 @@ equal_low n (Value t z v p) (Value u y w q) span two ha hb = equated_low n t z v
 equal_low n (Value t z v p) (AStruct k q) span two ha hb = tt
 equal_low n (AStruct k p) b span two ha hb = tt
 
-ordered_low : (n : ℕ) (comparison : Comparison) (t : CType) (v : core.Expression) (u : CType) (w : core.Expression) (span : Span) → IsLow n v → IsLow n w → Promises (Low (n + 1)) (ordered_values comparison t v u w span)
-ordered_low n comparison t v u w span hv hw = by (is_number t && is_number u) (are_comparable t u) refl refl
+ordered_low : (n : ℕ) (comparison : Comparison) (t : CType) (v : core.Expression) (u : CType) (w : core.Expression) (site : Site) (span : Span) → 6 ≤ n → IsLow n v → IsLow n w → Promises (Low (n + 1)) (ordered_values comparison t v u w site span)
+ordered_low n comparison t v u w site span six hv hw = by (is_number t && is_number u) (are_comparable t u) refl refl
   where
-    by : (numbers same : Bool) → (is_number t && is_number u) ≡ numbers → are_comparable t u ≡ same → Promises (Low (n + 1)) (ordered_values comparison t v u w span)
+    by : (numbers same : Bool) → (is_number t && is_number u) ≡ numbers → are_comparable t u ≡ same → Promises (Low (n + 1)) (ordered_values comparison t v u w site span)
     by true same h0 h1 = rw h0 (omega arith, tt)
-    by false true h0 h1 = rw (h0, h1) tt
+    by false true h0 h1 = rw (h0, h1) (needs_promises (Low (n + 1)) (are_related t v u w) E26 span (number (core.Order comparison v w site)) (λ yes. (omega arith, tt)))
     by false false h0 h1 = rw (h0, h1) tt
 
-order_low : (n : ℕ) (comparison : Comparison) (a b : Typed) (span : Span) → Low n a → Low n b → Promises (Low (n + 1)) (ordered comparison a b span)
-order_low n comparison (Value t z v p) (Value u y w q) span ha hb = ordered_low n comparison t v u w span ha.0 hb.0
-order_low n comparison (Value t z v p) (AStruct k q) span ha hb = tt
-order_low n comparison (AStruct k p) b span ha hb = tt
+order_low : (n : ℕ) (comparison : Comparison) (a b : Typed) (site : Site) (span : Span) → 6 ≤ n → Low n a → Low n b → Promises (Low (n + 1)) (ordered comparison a b site span)
+order_low n comparison (Value t z v p) (Value u y w q) site span six ha hb = ordered_low n comparison t v u w site span six ha.0 hb.0
+order_low n comparison (Value t z v p) (AStruct k q) site span six ha hb = tt
+order_low n comparison (AStruct k p) b site span six ha hb = tt
 
 binary_low : (n : ℕ) (s : Scope) (operator : BinaryOperator) (a b : Typed) (site : Site) (span : Span) → 6 ≤ n → Low n a → Low n b → Promises (Low (n + 1)) (binary_typed s operator a b site span)
 binary_low n s binary.Or a b site span six ha hb = truths_low n core.OrElse a b span ha hb (λ v w low low'. omega arith)
@@ -281,10 +300,10 @@ binary_low n s binary.BitXor a b site span six ha hb = arithmetic_low n (operato
 binary_low n s binary.BitAnd a b site span six ha hb = arithmetic_low n (operators.Bitwise bits.And) a b site span ha hb
 binary_low n s binary.Equal a b site span six ha hb = passing_promises (IsLow (n + 1)) (Low (n + 1)) (equated a b span) number (equal_low n a b span (omega arith) ha hb) (λ v low. (low, tt))
 binary_low n s binary.NotEqual a b site span six ha hb = passing_promises (IsLow (n + 1)) (Low (n + 1)) (equated a b span) (λ v. number (core.Not v)) (equal_low n a b span (omega arith) ha hb) (λ v low. (low, tt))
-binary_low n s binary.Less a b site span six ha hb = order_low n comparisons.Less a b span ha hb
-binary_low n s binary.LessEqual a b site span six ha hb = order_low n comparisons.LessEqual a b span ha hb
-binary_low n s binary.Greater a b site span six ha hb = order_low n comparisons.Greater a b span ha hb
-binary_low n s binary.GreaterEqual a b site span six ha hb = order_low n comparisons.GreaterEqual a b span ha hb
+binary_low n s binary.Less a b site span six ha hb = order_low n comparisons.Less a b site span six ha hb
+binary_low n s binary.LessEqual a b site span six ha hb = order_low n comparisons.LessEqual a b site span six ha hb
+binary_low n s binary.Greater a b site span six ha hb = order_low n comparisons.Greater a b site span six ha hb
+binary_low n s binary.GreaterEqual a b site span six ha hb = order_low n comparisons.GreaterEqual a b site span six ha hb
 binary_low n s binary.ShiftLeft a b site span six ha hb = arithmetic_low n (operators.Arithmetic arithmetics.ShiftLeft) a b site span ha hb
 binary_low n s binary.ShiftRight a b site span six ha hb = arithmetic_low n (operators.Arithmetic arithmetics.ShiftRight) a b site span ha hb
 binary_low n s binary.Add a b site span six ha hb = sum_low n s directions.Forward a b site span six ha hb
@@ -392,7 +411,7 @@ module _ (s : Scope) (few : AllByRecursion HasFew s.functions) where
     typed_low at (e.Number value span) n h = needs_promises (Low n) (nat_lt value (2 ^ 31)) E04 span _ (λ low. (omega arith, tt))
     typed_low at (e.Character value span) n h = needs_promises (Low n) (nat_lt value (2 ^ 31)) E04 span _ (λ low. (omega arith, tt))
     typed_low at (e.Text bytes span) n h = tt
-    typed_low at (e.Name name) n h = bounded_low n s (site_at at name.span) (passing (named s name.number) (λ x. Passes (name_typed s.structs x (site_at at name.span)))) (passing_promises (λ (x : Named). Unit {0}) (Low n) (named s name.number) _ (anything_promised (named s name.number)) (λ x _. name_low n s.structs x (site_at at name.span) (omega arith)))
+    typed_low at (e.Name name) n h = bounded_low n s (site_at at name.span) (passing (named s name.number) (λ x. Passes (name_typed s x (site_at at name.span)))) (passing_promises (λ (x : Named). Unit {0}) (Low n) (named s name.number) _ (anything_promised (named s name.number)) (λ x _. name_low n s x (site_at at name.span) (omega arith)))
     typed_low at (e.Call callee arguments span) n h =
         let parts = expressions_reach arguments in
         let higher = around_higher span.from parts in

@@ -15,20 +15,22 @@ use Rattle.ckc_tree.specs.Heights.{◌beside◌, type_reach, expression_reach, o
 use Rattle.pointer_modes.specs.Types.{CType, Int, Char, Struct, Pointer}
 use Rattle.ckc_core.specs.declared.program.Site.{Site}
 use Rattle.act_words.specs.declared.operator.Operator.{Operator}
-use Rattle.act_words.specs.declared.operator.ArithmeticOperator.TheVariants as arithmetics
-use Rattle.act_words.specs.declared.operator.Operator.TheVariants as operators
+use Rattle.bounds_exprs.specs.declared.term.Bounds.{Bounds}
+use Rattle.ckc_core.specs.declared.program.Direction.{Direction}
+use Rattle.ckc_core.specs.declared.program.Direction.TheVariants as directions
 use Rattle.ckc_core.specs.Core as core
 use Rattle.ckc_core.specs.Stacks.{expression_stack, statement_stack, statements_stack}
 use Rattle.region_typing_rules.specs.Verdicts.{Verdict, Passes}
 use Rattle.region_typing_rules.specs.Scopes.{Scope}
 use Rattle.region_typing_rules.specs.Types.{is_scalar, without_stars, base_type}
-use Rattle.region_typing_rules.specs.Expressions.{Places, Typed, Value, AStruct, Called, Gives, GivesNothing, Lvalue, OfLocal, OfCell, ForNothing, ForArray, For, site_at, typed, call_typed}
-use Rattle.region_typing_rules.specs.Statements.{Walked, store, update, assigned, set_to, updated, stored, step_of, one, assignment, assigning, zero_value, with_local, initialised, declarator, declarators, declaration, at_alternative, before_step, in_loop, is_unchecked, condition, optional_condition, optional_step, first_part, alone, returned, returned_nothing, return, statement, statements}
+use Rattle.region_typing_rules.specs.Expressions.{Places, Typed, Value, AStruct, Called, Gives, GivesNothing, Lvalue, OfLocal, OfCell, ForNothing, ForArray, For, site_at, sum_node, operator_along, typed, call_typed}
+use Rattle.region_typing_rules.specs.Statements.{Walked, store, update, assigned, set_to, moved, updated_as, updated, stored, step_of, one, assignment, assigning, zero_value, with_local, initialised, bounded_local, declarator, declarators, declaration, at_alternative, before_step, in_loop, is_unchecked, condition, optional_condition, optional_step, first_part, alone, returned, returned_nothing, return, statement, statements}
+use Rattle.region_typing_rules.specs.DeclaredBounds.{declared_bounds}
 use Rattle.region_typing_rules.specs.Knowing.{when, at_loop}
 use Rattle.region_typing_rules.proofs.Assigning.{assigning_promises, declared_promises}
 use Rattle.region_typing_rules.proofs.Verdicts.{Promises, passing_promises, needs_promises, anything_promised, promised_so, both_promise, apart_promises, met_promises}
 use Rattle.region_typing_rules.proofs.Growth.{Grows, GrowsTo, IsNamedIn, named_further, base_named, alternative_grows, step_grows, declarator_grows, first_grows, statement_grows}
-use Rattle.region_typing_rules.proofs.Stacks.{beside_first, beside_second, around_higher, Low, LowPlace, LowCall, IsLow, HasFew, scalar_of_low, two_low, converted_low, typed_low, call_typed_low}
+use Rattle.region_typing_rules.proofs.Stacks.{beside_first, beside_second, around_higher, Low, LowPlace, LowCall, IsLow, HasFew, some_reach, number_of_low, scalar_of_low, two_low, converted_low, typed_low, call_typed_low}
 
 abbrev pub IsLowStatement : ℕ → core.Statement → Type 0
 IsLowStatement n x = statement_stack x ≤ n
@@ -57,17 +59,35 @@ set_low n f target right span least ht hr =
     assigned_low (IsLowStatement (n + 2)) n target span _ ht
     (λ type place h. converted_low (IsLowStatement (n + 2)) n right type span _ least hr (λ v low. met_promises (IsLowStatement (n + 2)) f right type span _ (store_low n place type v h low)))
 
-updated_low : (n : ℕ) (at : Places) (operator : Operator) (target right : Typed) (span : Span) → Low n target → Low n right → Promises (IsLowStatement (n + 2)) (updated at operator target right span)
-updated_low n at operator target right span ht hr =
-    assigned_low (IsLowStatement (n + 2)) n target span _ ht
-    (λ type place h. apart_promises (IsLowStatement (n + 2)) target right span _
-    (two_low (IsLowStatement (n + 2)) n target right span (λ old v. Passes (update place type operator v (site_at at span))) ht hr
-    (λ old v low low'. update_low n place type operator v (site_at at span) h low')))
+-- a sum checks itself with six words
+moved_low : (n : ℕ) (place : Lvalue) (sum : core.Expression) (span : Span) → expression_stack sum ≤ n + 2 → Promises (IsLowStatement (n + 2)) (moved place sum span)
+moved_low n (OfLocal k) sum span h = h
+moved_low n (OfCell p) sum span h = tt
 
-stored_low : (n : ℕ) (at : Places) (f : Knowledge) (operator : StoreOperator) (target right : Typed) (span : Span) → 1 ≤ n → Low n target → Low n right → Promises (IsLowStatement (n + 2)) (stored at f operator target right span)
-stored_low n at f stores.Set target right span least ht hr = set_low n f target right span least ht hr
-stored_low n at f stores.Add target right span least ht hr = updated_low n at (operators.Arithmetic arithmetics.Add) target right span ht hr
-stored_low n at f stores.Subtract target right span least ht hr = updated_low n at (operators.Arithmetic arithmetics.Subtract) target right span ht hr
+updated_as_low : (n : ℕ) (g : Scope) (direction : Direction) (type : CType) (place : Lvalue) (target right : Typed) (site : Site) (span : Span) → 4 ≤ n → LowPlace n (For place) → Low n target → Low n right
+    → Promises (IsLowStatement (n + 2)) (updated_as g direction type place target right site span)
+updated_as_low n g direction (Pointer mode kind t) place (Value u zero pointer old) right site span four h ht hr =
+    let low = ht.0 in
+    number_of_low (IsLowStatement (n + 2)) n right span (λ v. moved place (core.Sum pointer direction v site (sum_node g.locals direction pointer v site)) span) hr
+    (λ v low'. moved_low n place (core.Sum pointer direction v site (sum_node g.locals direction pointer v site)) span (omega arith))
+updated_as_low n g direction (Pointer mode kind t) place (AStruct k old) right site span four h ht hr = tt
+updated_as_low n g direction Int place target right site span four h ht hr =
+    two_low (IsLowStatement (n + 2)) n target right span (λ old v. Passes (update place Int (operator_along direction) v site)) ht hr (λ old v low low'. update_low n place Int (operator_along direction) v site h low')
+updated_as_low n g direction Char place target right site span four h ht hr =
+    two_low (IsLowStatement (n + 2)) n target right span (λ old v. Passes (update place Char (operator_along direction) v site)) ht hr (λ old v low low'. update_low n place Char (operator_along direction) v site h low')
+updated_as_low n g direction (Struct k) place target right site span four h ht hr =
+    two_low (IsLowStatement (n + 2)) n target right span (λ old v. Passes (update place (Struct k) (operator_along direction) v site)) ht hr
+    (λ old v low low'. update_low n place (Struct k) (operator_along direction) v site h low')
+
+updated_low : (n : ℕ) (at : Places) (g : Scope) (direction : Direction) (target right : Typed) (span : Span) → 4 ≤ n → Low n target → Low n right → Promises (IsLowStatement (n + 2)) (updated at g direction target right span)
+updated_low n at g direction target right span four ht hr =
+    assigned_low (IsLowStatement (n + 2)) n target span _ ht
+    (λ type place h. apart_promises (IsLowStatement (n + 2)) target right span _ (updated_as_low n g direction type place target right (site_at at span) span four h ht hr))
+
+stored_low : (n : ℕ) (at : Places) (g : Scope) (operator : StoreOperator) (target right : Typed) (span : Span) → 4 ≤ n → Low n target → Low n right → Promises (IsLowStatement (n + 2)) (stored at g operator target right span)
+stored_low n at g stores.Set target right span four ht hr = set_low n g.flow target right span (omega arith) ht hr
+stored_low n at g stores.Add target right span four ht hr = updated_low n at g directions.Forward target right span four ht hr
+stored_low n at g stores.Subtract target right span four ht hr = updated_low n at g directions.Backward target right span four ht hr
 
 zero_low : (t : CType) → expression_stack (zero_value t) ≤ 1
 zero_low Int = omega arith
@@ -93,11 +113,11 @@ module _ (at : Places) where
       let m = 17 * (assigned_reach (trees.Store operator target value span)).height + 1 in
       passing_promises (Low m) (IsLowStatement n) (typed at s target) _ (typed_low s few at target m (omega arith))
       (λ a ha. passing_promises (Low m) (IsLowStatement n) (typed at s value) _ (typed_low s few at value m (omega arith))
-      (λ b hb. promised_so (IsLowStatement (m + 2)) (IsLowStatement n) (stored at s.flow operator a b span) (stored_low m at s.flow operator a b span (omega arith) ha hb) (λ x low. omega arith)))
+      (λ b hb. promised_so (IsLowStatement (m + 2)) (IsLowStatement n) (stored at s operator a b span) (stored_low m at s operator a b span (omega (arith, some_reach target)) ha hb) (λ x low. omega arith)))
   assignment_low s few (trees.Step operator side target span) n h =
       let m = 17 * (expression_reach target).height + 1 in
       passing_promises (Low m) (IsLowStatement n) (typed at s target) _ (typed_low s few at target m (omega arith))
-      (λ a ha. promised_so (IsLowStatement (m + 2)) (IsLowStatement n) (updated at (step_of operator) a one span) (updated_low m at (step_of operator) a one span ha (omega arith, tt)) (λ x low. omega arith))
+      (λ a ha. promised_so (IsLowStatement (m + 2)) (IsLowStatement n) (updated at s (step_of operator) a one span) (updated_low m at s (step_of operator) a one span (omega (arith, some_reach target)) ha (omega arith, tt)) (λ x low. omega arith))
 
   condition_low : (s : Scope) → HaveFew s → (x : Expression) (n : ℕ) → 17 * (expression_reach x).height ≤ n → Promises (IsLow n) (condition at s x)
   condition_low s few x n h = passing_promises (Low n) (IsLow n) (typed at s x) _ (typed_low s few at x n h) (λ t low. scalar_of_low (IsLow n) n t (expression_span x) Passes low (λ v low'. low'))
@@ -124,14 +144,20 @@ module _ (at : Places) where
       passing_promises (Low n) (IsLowStatement n) (typed at s value) _ (typed_low s few at value n (omega arith)) (λ x low. converted_low (IsLowStatement n) n x t span _ (omega arith) low (λ v low'. met_promises (IsLowStatement n) s.flow x t span _ low'))
   initialised_low s few (Some (trees.Constants constants list)) t k span n h = tt
 
+  bounded_local_low : (s : Scope) → HaveFew s → (d : Declarator) (t : CType) (span : Span) (b : Option Bounds) (n : ℕ) → 17 * (declarator_reach d).height + 1 ≤ n → Promises (BecomesLow n) (bounded_local at s d t span b)
+  bounded_local_low s few d t span b n h =
+      let two = beside_second (optional_bounds_reach d.bounds) (optional_initializer_reach d.initializer) in
+      let inner = with_local d.name.number t b s in
+      passing_promises (IsLowStatement n) (BecomesLow n) (initialised at inner d.initializer t (length s.locals) span) _ (initialised_low inner few d.initializer t (length s.locals) span n (omega arith))
+      (λ initial low'. needs_promises (BecomesLow n) (is_scalar t) E13 span _
+      (λ scalar. declared_promises (BecomesLow n) inner d.initializer t (length s.locals) span initial (λ k. omega (arith, zero_low t))))
+
   declarator_low : (s : Scope) → HaveFew s → (base : TypeTree) (type : CType) (span : Span) (d : Declarator) (n : ℕ) → 17 * (declarator_reach d).height + 1 ≤ n → Promises (BecomesLow n) (declarator at s base type span d)
   declarator_low s few base type span d n h =
-      let two = beside_second (optional_bounds_reach d.bounds) (optional_initializer_reach d.initializer) in
       needs_promises (BecomesLow n) (nat_lt (length s.locals) s.flow.vars) E08 span _
       (λ low. passing_promises (λ (t : CType). Unit {0}) (BecomesLow n) (without_stars base d.stars type) _ (anything_promised (without_stars base d.stars type))
-      (λ t _. passing_promises (IsLowStatement n) (BecomesLow n) (initialised at (with_local d.name.number t s) d.initializer t (length s.locals) span) _ (initialised_low (with_local d.name.number t s) few d.initializer t (length s.locals) span n (omega arith))
-      (λ initial low'. needs_promises (BecomesLow n) (is_scalar t) E13 span _
-      (λ scalar. declared_promises (BecomesLow n) (with_local d.name.number t s) d.initializer t (length s.locals) span initial (λ k. omega (arith, zero_low t))))))
+      (λ t _. passing_promises (λ (b : Option Bounds). Unit {0}) (BecomesLow n) (declared_bounds (with_local d.name.number t None s) t (length s.locals) d.bounds) _
+      (anything_promised (declared_bounds (with_local d.name.number t None s) t (length s.locals) d.bounds)) (λ b _. bounded_local_low s few d t span b n h)))
 
   declarators_low : (s : Scope) → HaveFew s → (base : TypeTree) (type : CType) (span : Span) (ds : List Declarator) (n : ℕ) → IsNamedIn s type → 17 * (declarators_reach ds).height + 1 ≤ n → Promises (BecomesLow n) (declarators at s base type span ds)
   declarators_low s few base type span [] n named h = omega arith

@@ -14,19 +14,21 @@ use Rattle.bounds_flow.specs.Flows.{Knowledge}
 use Rattle.pointer_modes.specs.Types.{CType, Int, Char, Struct, Pointer}
 use Rattle.ckc_core.specs.declared.program.Site.{Site}
 use Rattle.act_words.specs.declared.operator.Operator.{Operator}
-use Rattle.act_words.specs.declared.operator.ArithmeticOperator.TheVariants as arithmetics
-use Rattle.act_words.specs.declared.operator.Operator.TheVariants as operators
+use Rattle.bounds_exprs.specs.declared.term.Bounds.{Bounds}
+use Rattle.ckc_core.specs.declared.program.Direction.{Direction}
+use Rattle.ckc_core.specs.declared.program.Direction.TheVariants as directions
 use Rattle.ckc_core.specs.Core as core
 use Rattle.ckc_core.specs.Weights.{expression_weight, statement_weight, statements_weight}
 use Rattle.region_typing_rules.specs.Verdicts.{Verdict, Passes}
 use Rattle.region_typing_rules.specs.Scopes.{Scope}
 use Rattle.region_typing_rules.specs.Types.{is_scalar, without_stars, base_type}
-use Rattle.region_typing_rules.specs.Expressions.{Places, Typed, Value, AStruct, Called, Gives, GivesNothing, Lvalue, OfLocal, OfCell, ForNothing, ForArray, For, site_at, typed, call_typed}
-use Rattle.region_typing_rules.specs.Statements.{Walked, store, update, assigned, set_to, updated, stored, step_of, one, assignment, zero_value, with_local, initialised, declarator, declarators, declaration, at_alternative, before_step, in_loop, is_unchecked, condition, optional_condition, optional_step, first_part, alone, returned, returned_nothing, return, statement, statements}
+use Rattle.region_typing_rules.specs.Expressions.{Places, Typed, Value, AStruct, Called, Gives, GivesNothing, Lvalue, OfLocal, OfCell, ForNothing, ForArray, For, site_at, sum_node, operator_along, typed, call_typed}
+use Rattle.region_typing_rules.specs.Statements.{Walked, store, update, assigned, set_to, moved, updated_as, updated, stored, step_of, one, assignment, zero_value, with_local, initialised, bounded_local, declarator, declarators, declaration, at_alternative, before_step, in_loop, is_unchecked, condition, optional_condition, optional_step, first_part, alone, returned, returned_nothing, return, statement, statements}
+use Rattle.region_typing_rules.specs.DeclaredBounds.{declared_bounds}
 use Rattle.region_typing_rules.specs.Knowing.{when, at_loop}
 use Rattle.region_typing_rules.proofs.Assigning.{assigning_promises, declared_promises}
 use Rattle.region_typing_rules.proofs.Verdicts.{Promises, passing_promises, needs_promises, anything_promised, promised_so, apart_promises, met_promises}
-use Rattle.region_typing_rules.proofs.Weights.{Light, LightPlace, LightCall, IsLight, node_there, scalar_of_light, two_light, converted_light, typed_light, call_typed_light}
+use Rattle.region_typing_rules.proofs.Weights.{Light, LightPlace, LightCall, IsLight, node_there, number_of_light, scalar_of_light, two_light, converted_light, typed_light, call_typed_light}
 
 abbrev IsLightStatement : ℕ → core.Statement → Type 0
 IsLightStatement n x = statement_weight x ≤ n
@@ -56,17 +58,38 @@ set_light n m f target right span two ht hr =
     assigned_light (IsLightStatement (n + m + 1)) n target span _ ht
     (λ type place h. converted_light (IsLightStatement (n + m + 1)) m right type span _ two hr (λ v light. met_promises (IsLightStatement (n + m + 1)) f right type span _ (store_light n m place type v h light)))
 
-updated_light : (n m : ℕ) (at : Places) (operator : Operator) (target right : Typed) (span : Span) → Light n target → Light m right → Promises (IsLightStatement (n + m + 1)) (updated at operator target right span)
-updated_light n m at operator target right span ht hr =
+-- a sum of a local pointer has fewer nodes than an update would have that is as heavy
+moved_light : (n m : ℕ) (place : Lvalue) (sum : core.Expression) (span : Span) → expression_weight sum ≤ n + m → Promises (IsLightStatement (n + m + 1)) (moved place sum span)
+moved_light n m (OfLocal k) sum span h = omega arith
+moved_light n m (OfCell p) sum span h = tt
+
+updated_as_light : (n m : ℕ) (g : Scope) (direction : Direction) (type : CType) (place : Lvalue) (target right : Typed) (site : Site) (span : Span) → LightPlace n (For place) → Light n target → Light m right
+    → Promises (IsLightStatement (n + m + 1)) (updated_as g direction type place target right site span)
+updated_as_light n m g direction (Pointer mode kind t) place (Value u zero pointer old) right site span h ht hr =
+    let light = ht.0 in
+    number_of_light (IsLightStatement (n + m + 1)) m right span (λ v. moved place (core.Sum pointer direction v site (sum_node g.locals direction pointer v site)) span) hr
+    (λ v light'. moved_light n m place (core.Sum pointer direction v site (sum_node g.locals direction pointer v site)) span (omega arith))
+updated_as_light n m g direction (Pointer mode kind t) place (AStruct k old) right site span h ht hr = tt
+updated_as_light n m g direction Int place target right site span h ht hr =
+    two_light (IsLightStatement (n + m + 1)) n m target right span (λ old v. Passes (update place Int (operator_along direction) v site)) ht hr
+    (λ old v light light'. update_light n m place Int (operator_along direction) v site h light')
+updated_as_light n m g direction Char place target right site span h ht hr =
+    two_light (IsLightStatement (n + m + 1)) n m target right span (λ old v. Passes (update place Char (operator_along direction) v site)) ht hr
+    (λ old v light light'. update_light n m place Char (operator_along direction) v site h light')
+updated_as_light n m g direction (Struct k) place target right site span h ht hr =
+    two_light (IsLightStatement (n + m + 1)) n m target right span (λ old v. Passes (update place (Struct k) (operator_along direction) v site)) ht hr
+    (λ old v light light'. update_light n m place (Struct k) (operator_along direction) v site h light')
+
+updated_light : (n m : ℕ) (at : Places) (g : Scope) (direction : Direction) (target right : Typed) (span : Span) → Light n target → Light m right → Promises (IsLightStatement (n + m + 1)) (updated at g direction target right span)
+updated_light n m at g direction target right span ht hr =
     assigned_light (IsLightStatement (n + m + 1)) n target span _ ht
     (λ type place h. apart_promises (IsLightStatement (n + m + 1)) target right span _
-    (two_light (IsLightStatement (n + m + 1)) n m target right span (λ old v. Passes (update place type operator v (site_at at span))) ht hr
-    (λ old v light light'. update_light n m place type operator v (site_at at span) h light')))
+    (updated_as_light n m g direction type place target right (site_at at span) span h ht hr))
 
-stored_light : (n m : ℕ) (at : Places) (f : Knowledge) (operator : StoreOperator) (target right : Typed) (span : Span) → 2 ≤ m → Light n target → Light m right → Promises (IsLightStatement (n + m + 1)) (stored at f operator target right span)
-stored_light n m at f stores.Set target right span two ht hr = set_light n m f target right span two ht hr
-stored_light n m at f stores.Add target right span two ht hr = updated_light n m at (operators.Arithmetic arithmetics.Add) target right span ht hr
-stored_light n m at f stores.Subtract target right span two ht hr = updated_light n m at (operators.Arithmetic arithmetics.Subtract) target right span ht hr
+stored_light : (n m : ℕ) (at : Places) (g : Scope) (operator : StoreOperator) (target right : Typed) (span : Span) → 2 ≤ m → Light n target → Light m right → Promises (IsLightStatement (n + m + 1)) (stored at g operator target right span)
+stored_light n m at g stores.Set target right span two ht hr = set_light n m g.flow target right span two ht hr
+stored_light n m at g stores.Add target right span two ht hr = updated_light n m at g directions.Forward target right span ht hr
+stored_light n m at g stores.Subtract target right span two ht hr = updated_light n m at g directions.Backward target right span ht hr
 
 zero_light : (t : CType) → expression_weight (zero_value t) ≡ 1
 zero_light Int = omega arith
@@ -86,12 +109,12 @@ module _ (at : Places) where
       let all = 5 * tree.assignment_weight (trees.Store operator target value span) in
       passing_promises (Light n) (IsLightStatement all) (typed at s target) _ (typed_light at s target)
       (λ a ha. passing_promises (Light m) (IsLightStatement all) (typed at s value) _ (typed_light at s value)
-      (λ b hb. promised_so (IsLightStatement (n + m + 1)) (IsLightStatement all) (stored at s.flow operator a b span) (stored_light n m at s.flow operator a b span (omega (arith, node_there value)) ha hb) (λ x light. omega arith)))
+      (λ b hb. promised_so (IsLightStatement (n + m + 1)) (IsLightStatement all) (stored at s operator a b span) (stored_light n m at s operator a b span (omega (arith, node_there value)) ha hb) (λ x light. omega arith)))
   assignment_light s (trees.Step operator side target span) =
       let n = 5 * tree.expression_weight target in
       let all = 5 * tree.assignment_weight (trees.Step operator side target span) in
       passing_promises (Light n) (IsLightStatement all) (typed at s target) _ (typed_light at s target)
-      (λ a ha. promised_so (IsLightStatement (n + 2 + 1)) (IsLightStatement all) (updated at (step_of operator) a one span) (updated_light n 2 at (step_of operator) a one span ha (omega arith, tt)) (λ x light. omega arith))
+      (λ a ha. promised_so (IsLightStatement (n + 2 + 1)) (IsLightStatement all) (updated at s (step_of operator) a one span) (updated_light n 2 at s (step_of operator) a one span ha (omega arith, tt)) (λ x light. omega arith))
 
   condition_light : (s : Scope) (x : Expression) → Promises (IsLight (5 * tree.expression_weight x)) (condition at s x)
   condition_light s x =
@@ -117,20 +140,29 @@ module _ (at : Places) where
   initialised_light s (Some (trees.Constants constants list)) t k span = tt
 
   -- with one node to spare
-  declarator_light : (s : Scope) (base : TypeTree) (type : CType) (span : Span) (d : Declarator) → Promises (λ (w : Walked). statement_weight w.0 < 5 * tree.declarator_weight d) (declarator at s base type span d)
-  declarator_light s base type span d =
+  abbrev IsSpare : Declarator → Walked → Type 0
+  IsSpare d w = statement_weight w.0 < 5 * tree.declarator_weight d
+
+  bounded_local_light : (s : Scope) (d : Declarator) (t : CType) (span : Span) (b : Option Bounds) → Promises (IsSpare d) (bounded_local at s d t span b)
+  bounded_local_light s d t span b =
       let n = 5 * tree.optional_initializer_weight d.initializer + 1 in
-      needs_promises (λ (w : Walked). statement_weight w.0 < 5 * tree.declarator_weight d) (nat_lt (length s.locals) s.flow.vars) E08 span _
-      (λ low. passing_promises (λ (t : CType). Unit {0}) (λ (w : Walked). statement_weight w.0 < 5 * tree.declarator_weight d) (without_stars base d.stars type) _ (anything_promised (without_stars base d.stars type))
-      (λ t _. passing_promises (IsLightStatement n) (λ (w : Walked). statement_weight w.0 < 5 * tree.declarator_weight d) (initialised at (with_local d.name.number t s) d.initializer t (length s.locals) span) _ (initialised_light (with_local d.name.number t s) d.initializer t (length s.locals) span)
-      (λ initial light. needs_promises (λ (w : Walked). statement_weight w.0 < 5 * tree.declarator_weight d) (is_scalar t) E13 span _
-      (λ scalar. declared_promises (λ (w : Walked). statement_weight w.0 < 5 * tree.declarator_weight d) (with_local d.name.number t s) d.initializer t (length s.locals) span initial (λ k. omega (arith, zero_light t))))))
+      let inner = with_local d.name.number t b s in
+      passing_promises (IsLightStatement n) (IsSpare d) (initialised at inner d.initializer t (length s.locals) span) _ (initialised_light inner d.initializer t (length s.locals) span)
+      (λ initial light. needs_promises (IsSpare d) (is_scalar t) E13 span _
+      (λ scalar. declared_promises (IsSpare d) inner d.initializer t (length s.locals) span initial (λ k. omega (arith, zero_light t))))
+
+  declarator_light : (s : Scope) (base : TypeTree) (type : CType) (span : Span) (d : Declarator) → Promises (IsSpare d) (declarator at s base type span d)
+  declarator_light s base type span d =
+      needs_promises (IsSpare d) (nat_lt (length s.locals) s.flow.vars) E08 span _
+      (λ low. passing_promises (λ (t : CType). Unit {0}) (IsSpare d) (without_stars base d.stars type) _ (anything_promised (without_stars base d.stars type))
+      (λ t _. passing_promises (λ (b : Option Bounds). Unit {0}) (IsSpare d) (declared_bounds (with_local d.name.number t None s) t (length s.locals) d.bounds) _
+      (anything_promised (declared_bounds (with_local d.name.number t None s) t (length s.locals) d.bounds)) (λ b _. bounded_local_light s d t span b)))
 
   declarators_light : (s : Scope) (base : TypeTree) (type : CType) (span : Span) (ds : List Declarator) → Promises (BecomesLight (5 * tree.declarators_weight ds + 1)) (declarators at s base type span ds)
   declarators_light s base type span [] = omega arith
   declarators_light s base type span (d ∷ ds) =
       let all = 5 * tree.declarators_weight (d ∷ ds) + 1 in
-      passing_promises (λ (w : Walked). statement_weight w.0 < 5 * tree.declarator_weight d) (BecomesLight all) (declarator at s base type span d) _ (declarator_light s base type span d)
+      passing_promises (IsSpare d) (BecomesLight all) (declarator at s base type span d) _ (declarator_light s base type span d)
       (λ first hf. passing_promises (BecomesLight (5 * tree.declarators_weight ds + 1)) (BecomesLight all) (declarators at first.1 base type span ds) _ (declarators_light first.1 base type span ds) (λ rest light. omega arith))
 
   declaration_light : (s : Scope) (d : Declaration) → Promises (BecomesLight (5 * tree.declaration_weight d)) (declaration at s d)

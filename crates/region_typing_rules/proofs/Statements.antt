@@ -1,31 +1,35 @@
 -- Simple statements that break no rule have types, where all locals of their function are known.
-use Rattle.std.proofs.Common.{◌≡◌, ℕ, ◌≤◌, Bool, true, List, length, Option, Some, None, refl, sym, subst}
+use Rattle.std.proofs.Common.{◌≡◌, ℕ, ◌≤◌, Bool, true, false, List, length, Option, Some, None, refl, sym, subst}
 use Rattle.std.specs.Prelude.{slice_get}
 use Rattle.std.specs.List.{AllByRecursion}
 use Rattle.ckc_text.specs.declared.place.Span.{Span}
-use Rattle.ckc_text.specs.declared.code.Code.TheVariants.{E13}
 use Rattle.ckc_tree.specs.declared.stmt.StoreOperator.{StoreOperator}
 use Rattle.ckc_tree.specs.declared.stmt.StoreOperator.TheVariants as stores
 use Rattle.ckc_tree.specs.Expressions.{Expression, expression_span}
 use Rattle.ckc_tree.specs.Statements as trees
 use Rattle.ckc_tree.specs.Statements.{Initializer, Declarator, Declaration, Assignment, ForInitial, Statement, Statements}
+use Rattle.pointer_modes.specs.declared.ctype.Kind.TheVariants as kinds
 use Rattle.pointer_modes.specs.Types.{CType, Int, Char, Struct, Pointer}
 use Rattle.ckc_core.specs.declared.program.Site.{Site}
 use Rattle.act_words.specs.declared.operator.Operator.{Operator}
-use Rattle.act_words.specs.declared.operator.ArithmeticOperator.TheVariants as arithmetics
-use Rattle.act_words.specs.declared.operator.Operator.TheVariants as operators
+use Rattle.ckc_core.specs.declared.program.Direction.{Direction}
+use Rattle.ckc_core.specs.declared.program.Direction.TheVariants as directions
+use Rattle.ckc_core.specs.declared.program.PointerBounds.{PointerBounds}
+use Rattle.bounds_exprs.specs.declared.term.Bounds.{Bounds}
 use Rattle.bounds_flow.specs.Conditions.{IsFlow}
+use Rattle.bounds_flow.specs.Flows.{held_at}
 use Rattle.ckc_core.specs.Core as core
+use Rattle.ckc_core.specs.Meaning.{bounds_of}
 use Rattle.region_typing_rules.specs.Verdicts.{Verdict, Passes}
 use Rattle.region_typing_rules.specs.Scopes.{Scope}
 use Rattle.region_typing_rules.specs.Types.{is_number}
-use Rattle.region_typing_rules.specs.Expressions.{Places, Typed, Value, AStruct, ForNothing, ForArray, For, Called, Gives, GivesNothing, Lvalue, OfLocal, OfCell, site_at, typed, number_of, converted, bounds_met}
-use Rattle.region_typing_rules.specs.Statements.{both, store, updated_place, update, assigned, set_to, updated, stored, step_of, one, assignment, zero_value, initialised, in_loop, condition, optional_condition, alone, returned, returned_nothing, return}
+use Rattle.region_typing_rules.specs.Expressions.{Places, Typed, Value, AStruct, ForNothing, ForArray, For, Called, Gives, GivesNothing, Lvalue, OfLocal, OfCell, site_at, typed, two_numbers, is_single_value, lacks_bounds, operator_along, sum_node, converted, bounds_met}
+use Rattle.region_typing_rules.specs.Statements.{both, store, updated_place, update, assigned, set_to, moved, updated_as, updated, stored, step_of, one, assignment, zero_value, initialised, in_loop, condition, optional_condition, alone, returned, returned_nothing, return}
 use Rattle.region_typing_rules.specs.Typed as rules
 use Rattle.region_typing_rules.specs.Typed.{Frame, HasType, HasPlace, IsSimple, IsStatement, AreStatements, IsScalar}
-use Rattle.region_typing_rules.proofs.Verdicts.{Promises, passing_promises, needs_promises, Extends}
-use Rattle.region_typing_rules.proofs.Knowledge.{KnowsFile, Knows}
-use Rattle.region_typing_rules.proofs.Expressions.{FitsPlace, Fits, FitsCall, without_ptr_promises, number_of_promises, scalar_of_promises, met_promises, converted_promises, typed_promises}
+use Rattle.region_typing_rules.proofs.Verdicts.{Promises, passing_promises, Extends}
+use Rattle.region_typing_rules.proofs.Knowledge.{KnowsFile, IsPointing, Knows}
+use Rattle.region_typing_rules.proofs.Expressions.{FitsPlace, Fits, FitsCall, without_ptr_promises, number_of_promises, two_numbers_promise, sum_fits, scalar_of_promises, met_promises, converted_promises, typed_promises}
 use Rattle.region_typing_rules.proofs.Growth.{Grows}
 
 module _ (g : Frame) (types : List CType) (all_scalar : AllByRecursion IsScalar types) where
@@ -75,15 +79,36 @@ module _ (g : Frame) (types : List CType) (all_scalar : AllByRecursion IsScalar 
     update_typed (OfLocal k) type operator value site h number typed = rules.update_local h number refl typed
     update_typed (OfCell p) type operator value site h number typed = rules.update number (updated_typed h site) typed
 
-    updated_promises : (at : Places) (operator : Operator) (target right : Typed) (span : Span) → Fits g types s target → Fits g types s right → Promises IsHere (updated at operator target right span)
-    updated_promises at operator (Value type zero value ForNothing) right span ht hr = tt
-    updated_promises at operator (Value type zero value ForArray) right span ht hr = tt
-    updated_promises at operator (Value type zero value (For place)) right span ht hr =
-        without_ptr_promises g types s IsHere (Value type zero value (For place)) right span _
-        (λ single lacks. needs_promises IsHere (is_number type) E13 span (number_of right span (λ v. Passes (update place type operator v (site_at at span))))
-        (λ number. number_of_promises g types s IsHere right span (λ v. Passes (update place type operator v (site_at at span))) hr
-        (λ v typed. update_typed place type operator v (site_at at span) ht.stands number typed)))
-    updated_promises at operator (AStruct number place) right span ht hr = tt
+    -- a local pointer becomes a sum of it
+    moved_promises : (place : Lvalue) (type : CType) (sum : core.Expression) (span : Span) → FitsPlace g types s type (For place) → HasType g types s sum type → Promises IsHere (moved place sum span)
+    moved_promises (OfLocal k) type sum span h typed = rules.set_local h typed
+    moved_promises (OfCell p) type sum span h typed = tt
+
+    numbers_updated : (direction : Direction) (type : CType) (zero : Bool) (value : core.Expression) (place : Lvalue) (right : Typed) (site : Site) (span : Span) → is_number type ≡ true → Fits g types s (Value type zero value (For place)) → Fits g types s right
+        → Promises IsHere (two_numbers (Value type zero value (For place)) right span (λ old v. Passes (update place type (operator_along direction) v site)))
+    numbers_updated direction type zero value place right site span number ht hr =
+        two_numbers_promise g types s IsHere (Value type zero value (For place)) right span (λ old v. Passes (update place type (operator_along direction) v site)) ht hr (λ old v o typed. update_typed place type (operator_along direction) v site ht.stands number typed)
+
+    updated_as_promises : (direction : Direction) (type : CType) (zero : Bool) (value : core.Expression) (place : Lvalue) (right : Typed) (site : Site) (span : Span) → Fits g types s (Value type zero value (For place)) → Fits g types s right
+        → is_single_value (Value type zero value (For place)) ≡ false → lacks_bounds (Value type zero value (For place)) ≡ false → Promises IsHere (updated_as s direction type place (Value type zero value (For place)) right site span)
+    updated_as_promises direction Int zero value place right site span ht hr single lacks = numbers_updated direction Int zero value place right site span refl ht hr
+    updated_as_promises direction Char zero value place right site span ht hr single lacks = numbers_updated direction Char zero value place right site span refl ht hr
+    updated_as_promises direction (Struct n) zero value place right site span ht hr single lacks = tt
+    updated_as_promises direction (Pointer m kinds.One t) zero value place right site span ht hr single lacks = absurd (cc)
+    updated_as_promises direction (Pointer m kinds.Nt t) zero value place right site span ht hr single lacks = absurd (cc)
+    updated_as_promises direction (Pointer m kinds.Array t) zero value place right site span ht hr single lacks =
+        number_of_promises g types s IsHere right span _ hr (λ w number. by w number (bounds_of value) refl)
+      where
+        by : (w : core.Expression) → HasType g types s w Int → (o : Option PointerBounds) → bounds_of value ≡ o → Promises IsHere (moved place (core.Sum value direction w site (sum_node s.locals direction value w site)) span)
+        by w number None e = let none = rw e at lacks in absurd (cc)
+        by w number (Some p) e = moved_promises place (Pointer m kinds.Array t) _ span ht.stands (sum_fits g types s m t value w direction site p e ht.has_type ht.node number).has_type
+
+    updated_promises : (at : Places) (direction : Direction) (target right : Typed) (span : Span) → Fits g types s target → Fits g types s right → Promises IsHere (updated at s direction target right span)
+    updated_promises at direction (Value type zero value ForNothing) right span ht hr = tt
+    updated_promises at direction (Value type zero value ForArray) right span ht hr = tt
+    updated_promises at direction (Value type zero value (For place)) right span ht hr =
+        without_ptr_promises g types s IsHere (Value type zero value (For place)) right span _ (updated_as_promises direction type zero value place right (site_at at span) span ht hr)
+    updated_promises at direction (AStruct number place) right span ht hr = tt
 
     one_fits : Fits g types s one
     one_fits = record { has_type = rules.word refl; is_number = λ x. refl; stands = tt; scalar = refl; node = tt }
@@ -99,10 +124,10 @@ module _ (g : Frame) (types : List CType) (all_scalar : AllByRecursion IsScalar 
       set_promises target right span ht hr =
           assigned_promises IsHere target span _ ht (λ type place h scalar. value_promises IsHere right type span (store place type) hr (λ v typed. store_typed place type v h scalar typed))
 
-      stored_promises : (at : Places) (operator : StoreOperator) (target right : Typed) (span : Span) → Fits g types s target → Fits g types s right → Promises IsHere (stored at s.flow operator target right span)
+      stored_promises : (at : Places) (operator : StoreOperator) (target right : Typed) (span : Span) → Fits g types s target → Fits g types s right → Promises IsHere (stored at s operator target right span)
       stored_promises at stores.Set target right span ht hr = set_promises target right span ht hr
-      stored_promises at stores.Add target right span ht hr = updated_promises at (operators.Arithmetic arithmetics.Add) target right span ht hr
-      stored_promises at stores.Subtract target right span ht hr = updated_promises at (operators.Arithmetic arithmetics.Subtract) target right span ht hr
+      stored_promises at stores.Add target right span ht hr = updated_promises at directions.Forward target right span ht hr
+      stored_promises at stores.Subtract target right span ht hr = updated_promises at directions.Backward target right span ht hr
 
   pub assignment_promises : (at : Places) (s : Scope) → Knows g types s → (a : Assignment) → Promises (IsSimple g types s) (assignment at s a)
   assignment_promises at s knows (trees.Store operator target value span) =
@@ -154,8 +179,8 @@ module _ (g : Frame) (types : List CType) (all_scalar : AllByRecursion IsScalar 
   abbrev pub Reaches : Scope → Type 0
   Reaches s = Extends s.locals types
 
-  pub knows_from : (s : Scope) → KnowsFile g s → IsFlow s.flow → length s.locals ≤ s.flow.vars → Reaches s → Knows g types s
-  knows_from s file flow few reaches = record { file = file; flow = flow; few = few; locals = reaches; scalar = all_scalar }
+  pub knows_from : (s : Scope) → KnowsFile g s → IsFlow s.flow → ((k : ℕ) (b : Bounds) → (held_at s.flow.held k).bounds ≡ Some b → IsPointing s k b) → length s.locals ≤ s.flow.vars → Reaches s → Knows g types s
+  knows_from s file flow pointers few reaches = record { file = file; flow = flow; pointers = pointers; few = few; locals = reaches; scalar = all_scalar }
 
   -- where its locals are reached, what is behind it has a type
   abbrev pub Becomes : {A : Type 0} → (A → Type 0) → A × Scope → Type 0

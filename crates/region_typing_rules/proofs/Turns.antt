@@ -1,16 +1,17 @@
 -- What is known behind a loop is so: its head fits each turn, which agrees with the state before the loop on what the loop
 -- doesn't assign.
-use Rattle.std.proofs.Common.{◌≡◌, ℕ, zero, suc, ◌+◌, ◌-◌, ◌<◌, ◌≤◌, Bool, true, false, cond, List, [], ◌∷◌, length, replicate, Option, Some, refl, sym, ◌∙◌, ap, subst, arith, ◌⊎◌, inl, inr}
+use Rattle.std.proofs.Common.{◌≡◌, ℕ, zero, suc, ◌+◌, ◌<◌, ◌≤◌, Bool, true, false, cond, List, [], ◌∷◌, length, replicate, Option, Some, refl, sym, ◌∙◌, ap, subst, arith, ◌⊎◌, inl, inr}
 use Rattle.std.specs.Prelude.{slice_get, slice_index_or}
 use Rattle.std.specs.List.{AllByRecursion}
 use Rattle.std.proofs.lemmas.List.Elements.{All-from_recursion}
 use Rattle.ckc_tree.specs.Statements.{Assignment, Statement}
 use Rattle.pointer_modes.specs.Types.{CType, Int, Char, Struct, Pointer, Structure}
 use Rattle.act_words.specs.Touches.{spend_tick}
-use Rattle.bounds_flow.specs.Flows.{at_head}
+use Rattle.bounds_flow.specs.Flows.{Knowledge, at_head}
 use Rattle.bounds_flow_meaning.specs.Holding.{AreDeclared, Fits, HaveTypes, IsValid, types_of}
 use Rattle.bounds_flow_meaning.specs.Laws.{ChangesOnly, IsAmong}
 use Rattle.bounds_flow_meaning.proofs.AllSteps.{flows_hold}
+use Rattle.bounds_flow_meaning.proofs.Beside.{flows_stay_alike}
 use Rattle.ckc_core.specs.Outcome.{Gives, and_then}
 use Rattle.ckc_core.specs.Core as core
 use Rattle.ckc_core.specs.States.{Value, Local, State}
@@ -18,21 +19,22 @@ use Rattle.ckc_core.specs.Steps.{Result, Flow, Next, Broke, Continued, Returned,
 use Rattle.ckc_core.specs.Meaning.{Knot, Setting, effect, value}
 use Rattle.region_typing_rules.specs.Scopes.{Scope}
 use Rattle.region_typing_rules.specs.Readings.{told}
-use Rattle.region_typing_rules.specs.Knowing.{numbers_marked, step_marked, marked, at_loop, when}
+use Rattle.region_typing_rules.specs.Knowing.{assigned_in, numbers_marked, step_marked, marked, at_loop, when}
 use Rattle.region_typing_rules.specs.Statements.{behind_block, behind_loop, before_step, in_loop}
-use Rattle.region_typing_rules.specs.KnownIsSo.{WhereGiven, IsAlike, FitsAlike, IsKnown, IsOnWay, IsSo, IsBetween, IsWalk}
+use Rattle.region_typing_rules.specs.KnownIsSo.{WhereGiven, IsAlike, FitsAlike, IsKnown, IsOnWay, IsSo, HasLocals, IsBetween, declared_at, IsOutside, AreBetween, IsWalk}
 use Rattle.region_typing_rules.proofs.Verdicts.{Extends}
 use Rattle.region_typing_rules.proofs.Keeping.{IsAfter}
 use Rattle.region_typing_rules.proofs.Moving.{AssignsOnly, IsMovedTo, moved_on, moved_after, effect_moves, knots_move}
 use Rattle.region_typing_rules.proofs.Alike.{alike_here, fits_after}
 use Rattle.region_typing_rules.proofs.Told.{told_fits}
-use Rattle.region_typing_rules.proofs.Between.{between_told}
+use Rattle.region_typing_rules.proofs.Given.{declared_alike}
+use Rattle.region_typing_rules.proofs.Between.{outside_beside, outside_here, told_beside, between_told, between_same}
 use Rattle.region_typing_rules.specs.Typed.{Frame, HasType, IsScalar}
 use Rattle.region_typing_rules.proofs.Worlds.{Anything, tick_answers}
 use Rattle.region_typing_rules.proofs.Sure.{sure_both, sure_further}
 use Rattle.region_typing_rules.proofs.Soundness.{EndsAs, Goes, IsKept, IsNext, OfType, Runs, asked_runs, lowered_runs, raised_runs, runs_both, runs_on, runs_then, typed_goes}
 use Rattle.region_typing_rules.proofs.Declaring.{IsAt, Knots, few_vars, has_of, running, ticking}
-use Rattle.region_typing_rules.proofs.Ways.{extends_length, fits_further, way_further, on_first, on_others, walk_block, walk_head, known_block, leaving_low}
+use Rattle.region_typing_rules.proofs.Ways.{below_or_beyond, extends_length, fits_further, way_further, on_first, on_others, walk_block, walk_head, block_outside, known_block}
 
 -- ---- the locals before a loop, with those of a later state that a flow can't tell
 
@@ -173,16 +175,21 @@ module _ (structs : List Structure) (vars : ℕ) (g : Scope) (w : IsWalk vars g)
     only : ChangesOnly changed mix v
     only = record { types = good_behind; same = sym (mixed_types (length g.locals) s.locals v.locals types_same); others = unchanged }
 
-    declared : AreDeclared structs g.flow.held v
-    declared p l e = subst (λ o. IsValid structs o l v) (sym (w.between.declared p)) tt
-
-    head_at : Fits structs (at_head changed g.flow) v
-    head_at =
+    head_at : AreDeclared structs g.flow.held v → Fits structs (at_head changed g.flow) v
+    head_at declared =
         let few = w.few in let size = w.between.size in
         (flows_hold structs g.flow w.between.flow).enter_loop changed mix v (All-from_recursion (λ x. x < g.flow.vars) changed (numbers_low 0 g.flow.vars marks (omega (arith, few, size, many)))) only declared (h mix mix_alike)
 
-  pub head_known : (s u : State) → IsKnown structs g s → IsMovedTo may s u → FitsAlike structs (length g.locals) (at_head changed g.flow) u
-  head_known s u h moved v alike = head_at s u v h moved alike
+  -- where in the state of the turn each pointer is valid with its declared bounds
+  pub head_known : (s u : State) → IsKnown structs g s → IsMovedTo may s u → HasLocals g.locals u → AreDeclared structs g.flow.held u → FitsAlike structs (length g.locals) (at_head changed g.flow) u
+  head_known s u h moved has declared v alike = head_at s u v h moved alike (declared_alike structs g.structs g.locals u v has alike g.flow.held w.declared declared)
+
+  -- a flow in which the same bounds are declared says so
+  pub declared_so : (f : Knowledge) (u : State) → ((p : ℕ) → p < length g.locals → declared_at f p ≡ declared_at g.flow p) → Fits structs f u → AreDeclared structs g.flow.held u
+  declared_so f u same h p l e = elim (below_or_beyond p (length g.locals)) [
+    | inl low ↦ subst (λ o. IsValid structs o l u) (same p low) (h.declared p l e)
+    | inr far ↦ subst (λ o. IsValid structs o l u) (sym (w.beyond p far)) tt
+  ]
 
 -- ---- turns
 
@@ -227,7 +234,9 @@ module _ (frame : Frame) (types : List CType) (all_scalar : AllByRecursion IsSca
 
   module _ (g : Scope) (walk : IsWalk vars g) (body : Statement) (step : Option Assignment) (many : length (step_marked g.visible step (marked (length g.locals) g.visible body (replicate (length g.locals) false))) ≡ length g.locals)
       (c : core.Expression) (ct : CType) (x y : core.Statement) (inside last : Scope) (inside_walk : IsWalk vars inside) (last_walk : IsWalk vars last)
-      (inside_more : Extends g.locals inside.locals) (last_more : Extends inside.locals last.locals) (last_breaks : last.breaks ≡ inside.breaks) where
+      (inside_more : Extends g.locals inside.locals) (last_more : Extends inside.locals last.locals) (last_breaks : last.breaks ≡ inside.breaks)
+      (structs_same : g.structs ≡ last.structs) (inside_at : inside.outside ≡ length g.locals) (last_at : last.outside ≡ length g.locals)
+      (inside_same : (p : ℕ) → p < length g.locals → declared_at inside.flow p ≡ declared_at g.flow p) (last_same : (p : ℕ) → p < length g.locals → declared_at last.flow p ≡ declared_at g.flow p) where
     abbrev head : Scope
     head = at_loop body step g
 
@@ -264,11 +273,20 @@ module _ (frame : Frame) (types : List CType) (all_scalar : AllByRecursion IsSca
       out_between : IsBetween vars (told g.locals c false head.flow)
       out_between = between_told g.locals vars c false head.flow walk.few head_walk.between
 
+      -- outside of the loop the same bounds are declared on each way
+      out_outside : IsOutside (length g.locals) g.flow (told g.locals c false head.flow)
+      out_outside =
+          outside_beside (length g.locals) g.flow head.flow (told g.locals c false head.flow) (told_beside g.locals vars c false head.flow walk.few head_walk.between)
+          (outside_beside (length g.locals) g.flow g.flow head.flow ((flows_stay_alike.0 g.flow).enter_loop (assigned_in g body step)) (outside_here (length g.locals) g.flow walk.beyond))
+
+      ways_of : (a : Scope) (o : Option Knowledge) → a.outside ≡ length g.locals → ((p : ℕ) → p < length g.locals → declared_at a.flow p ≡ declared_at g.flow p) → AreBetween vars a.outside a.flow o → AreBetween vars (length g.locals) g.flow o
+      ways_of a o at same h = between_same vars (length g.locals) a.flow g.flow o (λ p low. sym (same p low)) (subst (λ n. AreBetween vars n a.flow o) at h)
+
       -- out of the loop, by its condition
       leaves : (t : State) → FitsAlike structs' (length g.locals) (told g.locals c false head.flow) t → Q Next t
       leaves t h = (
         tt,
-        on_first structs' vars (length last.locals) t (length g.locals) (length last.locals - length g.locals) last.breaks (told g.locals c false head.flow) out_between last_walk.breaks
+        on_first structs' vars (length last.locals) t (length g.locals) g.flow (told g.locals c false head.flow) last.breaks out_between out_outside (ways_of last last.breaks last_at last_same last_walk.breaks)
             (fits_further structs' (length g.locals) (length last.locals) (told g.locals c false head.flow) t le_all h),
       )
 
@@ -276,24 +294,32 @@ module _ (frame : Frame) (types : List CType) (all_scalar : AllByRecursion IsSca
       breaks_out : (t : State) → IsOnWay structs' (length inside.locals) inside.breaks t → Q Next t
       breaks_out t h = (
         tt,
-        on_others structs' vars (length last.locals) t (length g.locals) (length last.locals - length g.locals) last.breaks (told g.locals c false head.flow) out_between last_walk.breaks (leaving_low structs' vars g last last_walk le_all)
+        on_others structs' vars (length last.locals) t (length g.locals) g.flow (told g.locals c false head.flow) last.breaks out_between out_outside (ways_of last last.breaks last_at last_same last_walk.breaks)
             (subst (λ o. IsOnWay structs' (length last.locals) o t) (sym last_breaks) (way_further structs' (length inside.locals) (length last.locals) inside.breaks t le_last h)),
       )
+
+      -- behind the body the locals inside of it have left their scopes
+      block_between : IsBetween vars (behind_block g inside).flow
+      block_between = (walk_block vars g inside le_inside (let at = inside_at in omega (arith, at)) inside_walk).between
+
+      block_out : IsOutside (length g.locals) g.flow (behind_block g inside).flow
+      block_out =
+          let out = block_outside vars g inside le_inside inside_walk in
+          record { within = λ p low. out.within p low ∙ inside_same p low; beyond = out.beyond }
 
       -- on to the step, behind the body or by a `continue`
       steps_on : (t : State) → IsKnown structs' inside t → IsKnown structs' (before_step g inside) t
       steps_on t h =
-          on_first structs' vars (length inside.locals) t (length g.locals) (length inside.locals - length g.locals) inside.continues (behind_block g inside).flow (walk_block vars g inside inside_walk).between inside_walk.continues
+          on_first structs' vars (length inside.locals) t (length g.locals) g.flow (behind_block g inside).flow inside.continues block_between block_out (ways_of inside inside.continues inside_at inside_same inside_walk.continues)
           (known_block structs' vars g inside inside_walk le_inside t h)
 
       continues_on : (t : State) → IsOnWay structs' (length inside.locals) inside.continues t → IsKnown structs' (before_step g inside) t
       continues_on t h =
-          on_others structs' vars (length inside.locals) t (length g.locals) (length inside.locals - length g.locals) inside.continues (behind_block g inside).flow (walk_block vars g inside inside_walk).between inside_walk.continues
-          (leaving_low structs' vars g inside inside_walk le_inside) h
+          on_others structs' vars (length inside.locals) t (length g.locals) g.flow (behind_block g inside).flow inside.continues block_between block_out (ways_of inside inside.continues inside_at inside_same inside_walk.continues) h
 
       -- further turns, from states that agree with this one on what the loop doesn't assign
       abbrev Turns : ℕ → State → Type 0
-      Turns n s = (low : ℕ) (t : State) → suc budget ≤ low + n → IsMovedTo changes s t → IsKept frame budget n low types t → Runs frame budget n low types Q ((K n).turn c x y t)
+      Turns n s = (low : ℕ) (t : State) → suc budget ≤ low + n → IsMovedTo changes s t → AreDeclared structs' g.flow.held t → IsKept frame budget n low types t → Runs frame budget n low types Q ((K n).turn c x y t)
 
       moves : (n : ℕ) (z : core.Statement) (s : State) → AssignsOnly changes z → WhereGiven (λ (flow : Flow) (t : State). IsMovedTo changes s t) (effect true here (K n) z s)
       moves n z s only = effect_moves true here (K n) (knots_move true here n) changes z s only
@@ -303,7 +329,7 @@ module _ (frame : Frame) (types : List CType) (all_scalar : AllByRecursion IsSca
       step_on n low s t knots enough turns moved at =
           runs_then frame budget n low types (λ flow u. (IsNext flow u × IsKnown structs' last u) × IsMovedTo changes t u) Q (effect true here (K n) y t) (on_next ((K n).turn c x y))
           (runs_both frame budget n low types (λ flow u. IsNext flow u × IsKnown structs' last u) (λ flow u. IsMovedTo changes t u) (effect true here (K n) y t) (y_runs n knots low t at) (moves n y t y_only))
-          (λ flow u k kept. subst (λ flow. Runs frame budget n low types Q (on_next ((K n).turn c x y) flow u)) (sym k.0.0) (turns low u enough (moved_on changes s t u moved k.1) kept))
+          (λ flow u k kept. subst (λ flow. Runs frame budget n low types Q (on_next ((K n).turn c x y) flow u)) (sym k.0.0) (turns low u enough (moved_on changes s t u moved k.1) (declared_so structs' vars g walk marks many last.flow u last_same (k.0.1 u (alike_here (length last.locals) u))) kept))
 
       body_on : (n low : ℕ) (s t : State) → AllKnots n → suc budget ≤ low + n → Turns n s → IsMovedTo changes s t → Stands n low (in_loop (when c true head)) t
           → Runs frame budget n low types Q (and_then (effect true here (K n) x t) (behind_turn (λ u. and_then (effect true here (K n) y u) (on_next ((K n).turn c x y)))))
@@ -319,10 +345,10 @@ module _ (frame : Frame) (types : List CType) (all_scalar : AllByRecursion IsSca
           by (Returned v) u k kept = ((k.0.0, tt), kept)
 
       -- one turn, where further ones are so
-      turn_on : (n low : ℕ) (s t : State) → AllKnots n → Turns n s → IsKnown structs' g s → IsMovedTo changes s t → IsKept frame budget n low types t → Runs frame budget n low types Q (effect true here (K n) (core.Loop c x y) t)
-      turn_on n low s t knots turns known moved kept =
+      turn_on : (n low : ℕ) (s t : State) → AllKnots n → Turns n s → IsKnown structs' g s → IsMovedTo changes s t → AreDeclared structs' g.flow.held t → IsKept frame budget n low types t → Runs frame budget n low types Q (effect true here (K n) (core.Loop c x y) t)
+      turn_on n low s t knots turns known moved declared kept =
           runs_on frame budget n low types t (λ v u. FitsAlike structs' (length g.locals) (told g.locals c (truth v) head.flow) u) Q (value true here (K n) c t) _
-          (tested_goes n low knots head head_walk head_reaches c ct c_typed t (record { kept = kept; known = head_known structs' vars g walk marks many s t known moved })) by
+          (tested_goes n low knots head head_walk head_reaches c ct c_typed t (record { kept = kept; known = head_known structs' vars g walk marks many s t known moved (has_of frame types all_scalar vars budget sandbox trusted n low g t head_reaches kept) declared })) by
         where
           true_flow : IsBetween vars (told g.locals c true head.flow)
           true_flow = between_told g.locals vars c true head.flow walk.few head_walk.between
@@ -338,10 +364,10 @@ module _ (frame : Frame) (types : List CType) (all_scalar : AllByRecursion IsSca
               (record { kept = r_kept; known = fits_after structs' (length g.locals) (told g.locals c true head.flow) u r true_flow.flow later (subst (λ b. FitsAlike structs' (length g.locals) (told g.locals c b head.flow) u) e k) }))))
               (λ e. (leaves u (subst (λ b. FitsAlike structs' (length g.locals) (told g.locals c b head.flow) u) e k), u_kept))
 
-      pub loop_on : (n low : ℕ) (s t : State) → AllKnots n → IsKnown structs' g s → IsMovedTo changes s t → IsKept frame budget n low types t → Runs frame budget n low types Q (effect true here (K n) (core.Loop c x y) t)
-      loop_on zero low s t knots known moved kept = turn_on zero low s t knots (λ low' u few moved' kept'. let w = kept'.world in absurd (omega (arith, few, w.2, w.3))) known moved kept
-      loop_on (suc n) low s t knots known moved kept =
+      pub loop_on : (n low : ℕ) (s t : State) → AllKnots n → IsKnown structs' g s → IsMovedTo changes s t → AreDeclared structs' g.flow.held t → IsKept frame budget n low types t → Runs frame budget n low types Q (effect true here (K n) (core.Loop c x y) t)
+      loop_on zero low s t knots known moved declared kept = turn_on zero low s t knots (λ low' u few moved' declared' kept'. let w = kept'.world in absurd (omega (arith, few, w.2, w.3))) known moved declared kept
+      loop_on (suc n) low s t knots known moved declared kept =
           turn_on (suc n) low s t knots
-          (λ low' u few moved' kept'. raised_runs frame budget (suc n) n low' types Q (effect true here (K n) (core.Loop c x y) u) kept'.enough
-          (loop_on n low' s u (λ m le. knots m (omega (arith, le))) known moved' (record { grown = kept'.grown; cells = kept'.cells; locals = kept'.locals; world = kept'.world; enough = omega (arith, few) })))
-          known moved kept
+          (λ low' u few moved' declared' kept'. raised_runs frame budget (suc n) n low' types Q (effect true here (K n) (core.Loop c x y) u) kept'.enough
+          (loop_on n low' s u (λ m le. knots m (omega (arith, le))) known moved' declared' (record { grown = kept'.grown; cells = kept'.cells; locals = kept'.locals; world = kept'.world; enough = omega (arith, few) })))
+          known moved declared kept

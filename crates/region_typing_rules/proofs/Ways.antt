@@ -1,19 +1,29 @@
 -- Scopes of a walk stay such ones, and what is known at one is so at others.
-use Rattle.std.proofs.Common.{ℕ, zero, suc, ◌+◌, ◌-◌, ◌≤◌, Bool, false, List, [], ◌∷◌, length, Option, Some, None, refl, arith}
+use Rattle.std.proofs.Common.{◌≡◌, ℕ, zero, suc, ◌+◌, ◌-◌, ◌<◌, ◌≤◌, Bool, true, false, List, [], ◌∷◌, ◌++◌, length, Option, Some, None, refl, sym, ◌∙◌, subst, arith, ◌⊎◌, inl, inr}
+use Rattle.std.specs.Prelude.{nat_lt}
+use Rattle.std.proofs.lemmas.Bool.{cases_eq}
+use Rattle.std.proofs.lemmas.Bool.Decides.{nat_tests}
+use Rattle.std.proofs.lemmas.List.{length-append}
 use Rattle.ckc_tree.specs.Statements.{Assignment, Statement}
-use Rattle.pointer_modes.specs.Types.{CType, Structure}
+use Rattle.bounds_exprs.specs.declared.term.Bounds.{Bounds}
+use Rattle.pointer_modes.specs.declared.ctype.Kind.TheVariants as kinds
+use Rattle.pointer_modes.specs.Types.{CType, Int, Pointer, Structure}
 use Rattle.bounds_flow.specs.Flows.{Knowledge, left, cut_off, met}
+use Rattle.bounds_flow.specs.Conditions.{AreBoundsBelow}
+use Rattle.bounds_flow_meaning.specs.Holding.{IsInt}
+use Rattle.bounds_flow_meaning.specs.Laws.{AreBeside}
 use Rattle.bounds_flow_meaning.proofs.AllSteps.{flows_hold}
+use Rattle.bounds_flow_meaning.proofs.Beside.{flows_stay_alike}
 use Rattle.ckc_core.specs.Core as core
 use Rattle.ckc_core.specs.States.{State}
 use Rattle.ckc_core.specs.Steps.{Flow, Next, Broke, Continued, Returned}
 use Rattle.region_typing_rules.specs.Scopes.{Scope}
 use Rattle.region_typing_rules.specs.Readings.{told}
-use Rattle.region_typing_rules.specs.Knowing.{without_locals, knowing, when, cut, with_way, broken, continued, meeting_others, at_loop, assigned_in}
-use Rattle.region_typing_rules.specs.Statements.{with_local, behind_block, meeting, behind_loop, before_step, in_loop}
-use Rattle.region_typing_rules.specs.KnownIsSo.{IsAlike, FitsAlike, IsKnown, IsOnWay, IsSo, IsBetween, AreBetween, IsWalk, HasLocals}
-use Rattle.region_typing_rules.proofs.Verdicts.{Extends}
-use Rattle.region_typing_rules.proofs.Between.{beside_of, between_told, between_cut, between_head, between_met, between_entered, between_without, between_way, between_others}
+use Rattle.region_typing_rules.specs.Knowing.{without_locals, knowing, when, cut, with_way, way_out, broken, continued, with_others, at_loop, assigned_in}
+use Rattle.region_typing_rules.specs.Statements.{with_local, behind_block, behind_loop, before_step, meeting, in_loop}
+use Rattle.region_typing_rules.specs.KnownIsSo.{AreLimitedIf, IsAlike, FitsAlike, IsKnown, IsOnWay, IsSo, IsBetween, declared_at, IsOutside, IsDeclared, AreBetween, IsWalk, HasLocals}
+use Rattle.region_typing_rules.proofs.Verdicts.{Extends, extends_append}
+use Rattle.region_typing_rules.proofs.Between.{outside_beside, outside_here, beside_of, told_beside, between_told, between_cut, between_head, between_met, met_beside, between_entered, between_without, entered_here, entered_other, entered_below, entered_beyond, entered_outside, without_outside, between_way, between_others, between_same}
 
 -- ---- longer lists of locals
 
@@ -38,79 +48,289 @@ way_further structs n m (Some f) s le h = fits_further structs n m f s le h
 -- ---- ways that meet
 
 module _ (structs : List Structure) (vars n : ℕ) (s : State) where
-  pub fits_first : (f g : Knowledge) → IsBetween vars f → IsBetween vars g → FitsAlike structs n f s → FitsAlike structs n (met f g) s
-  fits_first f g a b h t alike = (flows_hold structs f a.flow).join_first g t b.flow (beside_of vars f g a b) (h t alike)
+  pub fits_first : (f g : Knowledge) → IsBetween vars f → IsBetween vars g → AreBeside f g → FitsAlike structs n f s → FitsAlike structs n (met f g) s
+  fits_first f g a b beside h t alike = (flows_hold structs f a.flow).join_first g t b.flow beside (h t alike)
 
-  pub fits_second : (f g : Knowledge) → IsBetween vars f → IsBetween vars g → FitsAlike structs n g s → FitsAlike structs n (met f g) s
-  fits_second f g a b h t alike = (flows_hold structs f a.flow).join_second g t b.flow (beside_of vars f g a b) a.settled (h t alike)
+  pub fits_second : (f g : Knowledge) → IsBetween vars f → IsBetween vars g → AreBeside f g → FitsAlike structs n g s → FitsAlike structs n (met f g) s
+  fits_second f g a b beside h t alike = (flows_hold structs f a.flow).join_second g t b.flow beside a.settled (h t alike)
 
   pub fits_left : (local count : ℕ) (f : Knowledge) → IsBetween vars f → local + count ≤ vars → FitsAlike structs n f s → FitsAlike structs n (without_locals local count f) s
   fits_left local zero f a low h = h
   fits_left local (suc count) f a low h =
       fits_left (suc local) count (left local f) (between_without vars local 1 f a) (omega (arith, low)) (λ t alike. (flows_hold structs f a.flow).leave local t (let size = a.size in omega (arith, low, size)) (h t alike))
 
-  -- a way more
-  pub on_way_here : (f : Knowledge) (o : Option Knowledge) → IsBetween vars f → AreBetween vars o → FitsAlike structs n f s → FitsAlike structs n (with_way f o) s
-  on_way_here f None a b h = h
-  on_way_here f (Some before) a b h = fits_second before f b a h
+  module _ (out : ℕ) (f : Knowledge) where
+    -- a way more
+    pub on_way_here : (h : Knowledge) (o : Option Knowledge) → IsBetween vars h → IsOutside out f h → AreBetween vars out f o → FitsAlike structs n h s → FitsAlike structs n (with_way h o) s
+    on_way_here h None a at b k = k
+    on_way_here h (Some before) a at b k = fits_second before h b.0 a (beside_of vars out f before h b.0 a b.1 at) k
 
-  pub on_way_before : (f : Knowledge) (o : Option Knowledge) → IsBetween vars f → AreBetween vars o → IsOnWay structs n o s → IsOnWay structs n (Some (with_way f o)) s
-  on_way_before f None a b h = absurd h
-  on_way_before f (Some before) a b h = fits_first before f b a h
+    pub on_way_before : (h : Knowledge) (o : Option Knowledge) → IsBetween vars h → IsOutside out f h → AreBetween vars out f o → IsOnWay structs n o s → IsOnWay structs n (Some (with_way h o)) s
+    on_way_before h None a at b k = absurd k
+    on_way_before h (Some before) a at b k = fits_first before h b.0 a (beside_of vars out f before h b.0 a b.1 at) k
 
-  -- where others meet a way
-  pub on_first : (local count : ℕ) (o : Option Knowledge) (f : Knowledge) → IsBetween vars f → AreBetween vars o → FitsAlike structs n f s → FitsAlike structs n (meeting_others local count o f) s
-  on_first local count None f a b h = h
-  on_first local count (Some others) f a b h = fits_first f (without_locals local count others) a (between_without vars local count others b) h
+    -- where others meet a way
+    pub on_first : (h : Knowledge) (o : Option Knowledge) → IsBetween vars h → IsOutside out f h → AreBetween vars out f o → FitsAlike structs n h s → FitsAlike structs n (with_others o h) s
+    on_first h None a at b k = k
+    on_first h (Some others) a at b k = fits_first h others a b.0 (beside_of vars out f h others a b.0 at b.1) k
 
-  pub on_others : (local count : ℕ) (o : Option Knowledge) (f : Knowledge) → IsBetween vars f → AreBetween vars o → local + count ≤ vars → IsOnWay structs n o s → FitsAlike structs n (meeting_others local count o f) s
-  on_others local count None f a b low h = absurd h
-  on_others local count (Some others) f a b low h = fits_second f (without_locals local count others) a (between_without vars local count others b) (fits_left local count others b low h)
+    pub on_others : (h : Knowledge) (o : Option Knowledge) → IsBetween vars h → IsOutside out f h → AreBetween vars out f o → IsOnWay structs n o s → FitsAlike structs n (with_others o h) s
+    on_others h None a at b k = absurd k
+    on_others h (Some others) a at b k = fits_second h others a b.0 (beside_of vars out f h others a b.0 at b.1) k
+
+-- ---- declared bounds
+
+pub int_extends : (ts us : List CType) → Extends ts us → (o : Option ℕ) → IsInt ts o → IsInt us o
+int_extends ts us more None h = tt
+int_extends ts us more (Some x) h = more x Int h
+
+pub declared_extends : (structs : List Structure) (ts us : List CType) (p : ℕ) (b : Bounds) → Extends ts us → IsDeclared structs ts p b → IsDeclared structs us p b
+declared_extends structs ts us p b more d = record {
+  some = d.some;
+  mode = d.mode;
+  element = d.element;
+  own = more p (Pointer d.mode kinds.Array d.element) d.own;
+  ints = record { lo = int_extends ts us more b.lo.var d.ints.lo; hi = int_extends ts us more b.hi.var d.ints.hi };
+  base = λ q e. let it = d.base q e in (it.0, more q (Pointer d.mode it.0 d.element) it.1);
+}
+
+same_declared : (a b : Option Bounds) (P : Bounds → Type 0) → a ≡ b → ((d : Bounds) → b ≡ Some d → P d) → (d : Bounds) → a ≡ Some d → P d
+same_declared a b P e h d q = h d (sym e ∙ q)
+
+none_declared : (o : Option Bounds) (P : Type 0) (d : Bounds) → o ≡ None → o ≡ Some d → P
+none_declared o P d none e = absurd (let q : None ≡ Some d = sym none ∙ e in cc)
+
+pub below_or_beyond : (p n : ℕ) → (p < n) ⊎ (n ≤ p)
+below_or_beyond p n = decided (nat_lt p n) refl
+  where
+    decided : (test : Bool) → nat_lt p n ≡ test → (p < n) ⊎ (n ≤ p)
+    decided true e = inl (grind (arith, nat_tests))
+    decided false e = inr (grind (arith, nat_tests))
 
 -- ---- scopes
 
-pub walk_knowing : (vars : ℕ) (f : Knowledge) (g : Scope) → IsBetween vars f → IsWalk vars g → IsWalk vars (knowing f g)
-walk_knowing vars f g a w = record { between = a; few = w.few; breaks = w.breaks; continues = w.continues }
-
-pub walk_when : (vars : ℕ) (c : core.Expression) (truth : Bool) (g : Scope) → IsWalk vars g → IsWalk vars (when c truth g)
-walk_when vars c truth g w = walk_knowing vars (told g.locals c truth g.flow) g (between_told g.locals vars c truth g.flow w.few w.between) w
-
-pub walk_cut : (vars : ℕ) (g : Scope) → IsWalk vars g → IsWalk vars (cut g)
-walk_cut vars g w = walk_knowing vars (cut_off g.flow) g (between_cut vars g.flow w.between) w
-
-pub walk_broken : (vars : ℕ) (g : Scope) → IsWalk vars g → IsWalk vars (broken g)
-walk_broken vars g w = record { between = between_cut vars g.flow w.between; few = w.few; breaks = between_way vars g.flow g.breaks w.between w.breaks; continues = w.continues }
-
-pub walk_continued : (vars : ℕ) (g : Scope) → IsWalk vars g → IsWalk vars (continued g)
-walk_continued vars g w = record { between = between_cut vars g.flow w.between; few = w.few; breaks = w.breaks; continues = between_way vars g.flow g.continues w.between w.continues }
-
-pub walk_block : (vars : ℕ) (g inside : Scope) → IsWalk vars inside → IsWalk vars (behind_block g inside)
-walk_block vars g inside w = record { between = between_without vars (length g.locals) (length inside.locals - length g.locals) inside.flow w.between; few = w.few; breaks = w.breaks; continues = w.continues }
-
-pub walk_meeting : (vars : ℕ) (f : Knowledge) (g : Scope) → IsBetween vars f → IsWalk vars g → IsWalk vars (meeting f g)
-walk_meeting vars f g a w = walk_knowing vars (met f g.flow) g (between_met vars f g.flow a w.between) w
-
-pub walk_head : (vars : ℕ) (body : Statement) (step : Option Assignment) (g : Scope) → IsWalk vars g → IsWalk vars (at_loop body step g)
-walk_head vars body step g w = record { between = between_head vars (assigned_in g body step) g.flow w.between; few = w.few; breaks = tt; continues = tt }
-
-pub walk_in_loop : (vars : ℕ) (g : Scope) → IsWalk vars g → IsWalk vars (in_loop g)
-walk_in_loop vars g w = record { between = w.between; few = w.few; breaks = w.breaks; continues = w.continues }
-
-pub walk_step : (vars : ℕ) (g inside : Scope) → IsWalk vars inside → IsWalk vars (before_step g inside)
-walk_step vars g inside w =
-    let block = walk_block vars g inside w in
-    walk_knowing vars _ (behind_block g inside) (between_others vars (length g.locals) (length inside.locals - length g.locals) inside.continues (behind_block g inside).flow w.continues block.between) block
-
-pub walk_behind : (vars : ℕ) (g head : Scope) (c : core.Expression) (inside : Scope) → IsWalk vars g → IsWalk vars head → length g.locals ≤ vars → IsWalk vars inside → IsWalk vars (behind_loop g head c inside)
-walk_behind vars g head c inside w h few i = record {
-  between = between_others vars (length g.locals) (length inside.locals - length g.locals) inside.breaks (told g.locals c false head.flow) i.breaks (between_told g.locals vars c false head.flow few h.between);
-  few = i.few;
-  breaks = w.breaks;
-  continues = w.continues;
+-- another flow in which the same bounds are declared
+pub walk_knowing : (vars : ℕ) (f : Knowledge) (g : Scope) → IsBetween vars f → AreBeside g.flow f → IsWalk vars g → IsWalk vars (knowing f g)
+walk_knowing vars f g a beside w = record {
+  between = a;
+  few = w.few;
+  beyond = λ p far. beside.declared p ∙ w.beyond p far;
+  declared = λ p b e. w.declared p b (sym (beside.declared p) ∙ e);
+  outside = w.outside;
+  breaks = between_same vars g.outside g.flow f g.breaks (λ p low. beside.declared p) w.breaks;
+  continues = between_same vars g.outside g.flow f g.continues (λ p low. beside.declared p) w.continues;
 }
 
-pub walk_local : (vars name : ℕ) (t : CType) (g : Scope) → IsWalk vars g → length (with_local name t g).locals ≤ vars → IsWalk vars (with_local name t g)
-walk_local vars name t g w few = record { between = between_entered vars (length g.locals) g.flow w.between; few = few; breaks = w.breaks; continues = w.continues }
+pub walk_when : (vars : ℕ) (c : core.Expression) (truth : Bool) (g : Scope) → IsWalk vars g → IsWalk vars (when c truth g)
+walk_when vars c truth g w = walk_knowing vars (told g.locals c truth g.flow) g (between_told g.locals vars c truth g.flow w.few w.between) (told_beside g.locals vars c truth g.flow w.few w.between) w
+
+pub walk_cut : (vars : ℕ) (g : Scope) → IsWalk vars g → IsWalk vars (cut g)
+walk_cut vars g w = walk_knowing vars (cut_off g.flow) g (between_cut vars g.flow w.between) (flows_stay_alike.0 g.flow).cut w
+
+-- the way out of a loop, on which the locals inside of it have left their scopes
+pub way_out_between : (vars : ℕ) (g : Scope) → IsWalk vars g → IsBetween vars (way_out g)
+way_out_between vars g w = between_without vars g.outside (length g.locals - g.outside) g.flow w.between
+
+pub way_out_outside : (vars : ℕ) (g : Scope) → IsWalk vars g → IsOutside g.outside g.flow (way_out g)
+way_out_outside vars g w = without_outside (length g.locals) g.outside g.flow g.flow w.outside w.beyond (λ p low. refl)
+
+pub walk_broken : (vars : ℕ) (g : Scope) → IsWalk vars g → IsWalk vars (broken g)
+walk_broken vars g w =
+    let c = walk_cut vars g w in
+    record {
+      between = c.between;
+      few = c.few;
+      beyond = c.beyond;
+      declared = c.declared;
+      outside = c.outside;
+      breaks = between_same vars g.outside g.flow (cut_off g.flow) (Some (with_way (way_out g) g.breaks)) (λ p low. refl)
+          (between_way vars g.outside g.flow (way_out g) g.breaks (way_out_between vars g w) (way_out_outside vars g w) w.breaks);
+      continues = c.continues;
+    }
+
+pub walk_continued : (vars : ℕ) (g : Scope) → IsWalk vars g → IsWalk vars (continued g)
+walk_continued vars g w =
+    let c = walk_cut vars g w in
+    record {
+      between = c.between;
+      few = c.few;
+      beyond = c.beyond;
+      declared = c.declared;
+      outside = c.outside;
+      breaks = c.breaks;
+      continues = between_same vars g.outside g.flow (cut_off g.flow) (Some (with_way (way_out g) g.continues)) (λ p low. refl)
+          (between_way vars g.outside g.flow (way_out g) g.continues (way_out_between vars g w) (way_out_outside vars g w) w.continues);
+    }
+
+-- what is declared in the one scope for its locals is so in the other, which stands in the same loop
+pub record Declares (g h : Scope) : Type 0 where
+  pub same : (p : ℕ) → p < length g.locals → declared_at h.flow p ≡ declared_at g.flow p
+  pub loop : h.outside ≡ g.outside
+  pub structs : g.structs ≡ h.structs
+
+pub declares_here : (g : Scope) → Declares g g
+declares_here g = record { same = λ p low. refl; loop = refl; structs = refl }
+
+-- another flow in which the same bounds are declared
+pub declares_knowing : (f : Knowledge) (g : Scope) → AreBeside g.flow f → Declares g (knowing f g)
+declares_knowing f g beside = record { same = λ p low. beside.declared p; loop = refl; structs = refl }
+
+pub declares_on : (g h k : Scope) → length g.locals ≤ length h.locals → Declares g h → Declares h k → Declares g k
+declares_on g h k le a b = record { same = λ p low. b.same p (omega (arith, low, le)) ∙ a.same p low; loop = b.loop ∙ a.loop; structs = a.structs ∙ b.structs }
+
+-- behind a block, what is declared for the locals outside of it is as it was inside
+pub block_outside : (vars : ℕ) (g inside : Scope) → length g.locals ≤ length inside.locals → IsWalk vars inside → IsOutside (length g.locals) inside.flow (behind_block g inside).flow
+block_outside vars g inside le w = without_outside (length inside.locals) (length g.locals) inside.flow inside.flow le w.beyond (λ p low. refl)
+
+pub walk_block : (vars : ℕ) (g inside : Scope) → length g.locals ≤ length inside.locals → inside.outside ≤ length g.locals → IsWalk vars inside → IsWalk vars (behind_block g inside)
+walk_block vars g inside le at w =
+    let out = block_outside vars g inside le w in
+    record {
+      between = between_without vars (length g.locals) (length inside.locals - length g.locals) inside.flow w.between;
+      few = w.few;
+      beyond = λ p far. out.beyond p (omega (arith, far, le));
+      declared = λ p b e. elim (below_or_beyond p (length g.locals)) [
+        | inl low ↦ w.declared p b (sym (out.within p low) ∙ e)
+        | inr far ↦ none_declared (declared_at (behind_block g inside).flow p) (IsDeclared inside.structs inside.locals p b) b (out.beyond p far) e
+      ];
+      outside = w.outside;
+      breaks = between_same vars inside.outside inside.flow (behind_block g inside).flow inside.breaks (λ p low. out.within p (omega (arith, low, at))) w.breaks;
+      continues = between_same vars inside.outside inside.flow (behind_block g inside).flow inside.continues (λ p low. out.within p (omega (arith, low, at))) w.continues;
+    }
+
+-- before the step of a loop, whose body stands outside of which there are as many locals as before it
+pub walk_step : (vars : ℕ) (g inside : Scope) → length g.locals ≤ length inside.locals → inside.outside ≡ length g.locals → IsWalk vars inside → IsWalk vars (before_step g inside)
+walk_step vars g inside le at w =
+    let block = walk_block vars g inside le (omega (arith, at)) w in
+    let out = block_outside vars g inside le w in
+    let here = outside_here inside.outside (behind_block g inside).flow (λ p far. out.beyond p (omega (arith, far, at))) in
+    let others = between_others vars inside.outside (behind_block g inside).flow (behind_block g inside).flow inside.continues block.between here block.continues in
+    walk_knowing vars (with_others inside.continues (behind_block g inside).flow) (behind_block g inside) others.0 (beside_of vars inside.outside (behind_block g inside).flow (behind_block g inside).flow _ block.between others.0 here others.1) block
+
+-- behind a loop
+pub walk_behind : (vars : ℕ) (g head : Scope) (c : core.Expression) (inside : Scope) → g.structs ≡ inside.structs → Extends g.locals inside.locals → inside.outside ≡ length g.locals → AreBeside g.flow head.flow
+    → ((p : ℕ) → p < length g.locals → declared_at inside.flow p ≡ declared_at g.flow p) → length g.locals ≤ vars → IsWalk vars g → IsBetween vars head.flow → IsWalk vars inside → IsWalk vars (behind_loop g head c inside)
+walk_behind vars g head c inside structs more at beside same few w h i =
+    let le = extends_length g.locals inside.locals more in
+    let no = told g.locals c false head.flow in
+    let no_between = between_told g.locals vars c false head.flow few h in
+    let told_same = told_beside g.locals vars c false head.flow few h in
+    let g_out = outside_here (length g.locals) g.flow w.beyond in
+    let no_out = outside_beside (length g.locals) g.flow head.flow no told_same (outside_beside (length g.locals) g.flow g.flow head.flow beside g_out) in
+    let breaks = between_same vars (length g.locals) inside.flow g.flow inside.breaks (λ p low. sym (same p low)) (subst (λ n. AreBetween vars n inside.flow inside.breaks) at i.breaks) in
+    let others = between_others vars (length g.locals) g.flow no inside.breaks no_between no_out breaks in
+    let out_few = w.outside in
+    record {
+      between = others.0;
+      few = i.few;
+      beyond = λ p far. others.1.beyond p (omega (arith, far, le));
+      declared = λ p b e. elim (below_or_beyond p (length g.locals)) [
+        | inl low ↦ subst (λ structs. IsDeclared structs inside.locals p b) structs (declared_extends g.structs g.locals inside.locals p b more (w.declared p b (sym (others.1.within p low) ∙ e)))
+        | inr far ↦ none_declared (declared_at (with_others inside.breaks no) p) (IsDeclared inside.structs inside.locals p b) b (others.1.beyond p far) e
+      ];
+      outside = omega (arith, out_few, le);
+      breaks = between_same vars g.outside g.flow (with_others inside.breaks no) g.breaks (λ p low. others.1.within p (omega (arith, low, out_few))) w.breaks;
+      continues = between_same vars g.outside g.flow (with_others inside.breaks no) g.continues (λ p low. others.1.within p (omega (arith, low, out_few))) w.continues;
+    }
+
+pub walk_meeting : (vars : ℕ) (f : Knowledge) (g : Scope) → IsBetween vars f → AreBeside g.flow f → IsWalk vars g → IsWalk vars (meeting f g)
+walk_meeting vars f g a beside w =
+    let back : AreBeside f g.flow = record { vars = sym beside.vars; declared = λ p. sym (beside.declared p) } in
+    let m = met_beside vars f g.flow a w.between in
+    walk_knowing vars (met f g.flow) g (between_met vars f g.flow a w.between) (record { vars = m.vars ∙ beside.vars; declared = λ p. m.declared p ∙ beside.declared p }) w
+
+pub walk_head : (vars : ℕ) (body : Statement) (step : Option Assignment) (g : Scope) → IsWalk vars g → IsWalk vars (at_loop body step g)
+walk_head vars body step g w =
+    let beside = (flows_stay_alike.0 g.flow).enter_loop (assigned_in g body step) in
+    record { between = between_head vars (assigned_in g body step) g.flow w.between; few = w.few; beyond = λ p far. beside.declared p ∙ w.beyond p far; declared = λ p b e. w.declared p b (sym (beside.declared p) ∙ e); outside = omega arith; breaks = tt; continues = tt }
+
+pub walk_in_loop : (vars : ℕ) (g : Scope) → IsWalk vars g → IsWalk vars (in_loop g)
+walk_in_loop vars g w = record { between = w.between; few = w.few; beyond = w.beyond; declared = w.declared; outside = w.outside; breaks = w.breaks; continues = w.continues }
+
+-- bounds that may be declared for the local that comes next
+pub record MayCome (vars : ℕ) (structs : List Structure) (types : List CType) (t : CType) (declared : Option Bounds) : Type 0 where
+  pub below : AreBoundsBelow vars declared
+  pub limited : AreLimitedIf declared
+  pub formed : (b : Bounds) → declared ≡ Some b → IsDeclared structs (types ++ t ∷ []) (length types) b
+
+pub none_comes : (vars : ℕ) (structs : List Structure) (types : List CType) (t : CType) → MayCome vars structs types t None
+none_comes vars structs types t = record { below = tt; limited = tt; formed = λ b e. absurd (cc) }
+
+pub walk_local : (vars name : ℕ) (t : CType) (declared : Option Bounds) (g : Scope) → MayCome vars g.structs g.locals t declared → IsWalk vars g → length (with_local name t declared g).locals ≤ vars → IsWalk vars (with_local name t declared g)
+walk_local vars name t declared g may w few =
+    let longer = length-append g.locals (t ∷ []) in
+    let at = w.outside in
+    record {
+      between = between_entered vars (length g.locals) declared g.flow may.below may.limited w.between;
+      few = few;
+      beyond = λ p far. entered_beyond (length g.locals) declared g.flow w.beyond p (omega (arith, far, longer));
+      declared = local_declared;
+      outside = omega (arith, at, longer);
+      breaks = local_ways g.breaks w.breaks;
+      continues = local_ways g.continues w.continues;
+    }
+  where
+    here : (b : Bounds) → declared_at (with_local name t declared g).flow (length g.locals) ≡ Some b → declared ≡ Some b
+    here b e = entered_here (length g.locals) declared g.flow b e
+
+    local_declared : (p : ℕ) (b : Bounds) → declared_at (with_local name t declared g).flow p ≡ Some b → IsDeclared g.structs (with_local name t declared g).locals p b
+    local_declared p b e = elim (cases_eq p (length g.locals)) [
+      | inl same ↦ subst (λ p. IsDeclared g.structs (g.locals ++ t ∷ []) p b) (sym same) (may.formed b (here b (subst (λ p. declared_at (with_local name t declared g).flow p ≡ Some b) same e)))
+      | inr ne ↦ declared_extends g.structs g.locals (g.locals ++ t ∷ []) p b (extends_append g.locals (t ∷ [])) (w.declared p b (sym (entered_other (length g.locals) p declared g.flow ne) ∙ e))
+    ]
+
+    local_ways : (o : Option Knowledge) → AreBetween vars g.outside g.flow o → AreBetween vars g.outside (with_local name t declared g).flow o
+    local_ways None b = tt
+    local_ways (Some h) b = (b.0, entered_outside (length g.locals) g.outside declared g.flow h w.outside b.1)
+
+pub declares_local : (name : ℕ) (t : CType) (declared : Option Bounds) (g : Scope) → Declares g (with_local name t declared g)
+declares_local name t declared g = record { same = λ p low. entered_below (length g.locals) declared g.flow p low; loop = refl; structs = refl }
+
+-- ---- what is declared behind them
+
+pub beside_sym : (f g : Knowledge) → AreBeside f g → AreBeside g f
+beside_sym f g b = record { vars = sym b.vars; declared = λ p. sym (b.declared p) }
+
+-- where two ways met, the same is declared as on the second
+pub met_behind : (vars : ℕ) (f g : Knowledge) → IsBetween vars f → IsBetween vars g → AreBeside f g → AreBeside g (met f g)
+met_behind vars f g a b beside = let m = met_beside vars f g a b in record { vars = m.vars ∙ sym beside.vars; declared = λ p. m.declared p ∙ sym (beside.declared p) }
+
+pub block_outside_of : (vars : ℕ) (g inside : Scope) → length g.locals ≤ length inside.locals → Declares g inside → IsWalk vars inside → IsOutside (length g.locals) g.flow (behind_block g inside).flow
+block_outside_of vars g inside le keeps w =
+    let out = block_outside vars g inside le w in
+    record { within = λ p low. out.within p low ∙ keeps.same p low; beyond = out.beyond }
+
+pub block_declares : (vars : ℕ) (g inside : Scope) → length g.locals ≤ length inside.locals → Declares g inside → IsWalk vars inside → Declares g (behind_block g inside)
+block_declares vars g inside le keeps w = record { same = (block_outside_of vars g inside le keeps w).within; loop = keeps.loop; structs = keeps.structs }
+
+-- a turn of a loop begins
+pub declares_turn : (head : Scope) (c : core.Expression) {vars : ℕ} → IsWalk vars head → Declares head (in_loop (when c true head))
+declares_turn head c {vars} w = record { same = λ p low. (told_beside head.locals vars c true head.flow w.few w.between).declared p; loop = refl; structs = refl }
+
+-- and its step, where the head of the loop has the locals before it
+pub step_keeps : (vars : ℕ) (g head inside : Scope) → length g.locals ≤ length inside.locals → head.locals ≡ g.locals → inside.outside ≡ length g.locals → Declares head inside → IsWalk vars inside → Declares head (before_step g inside)
+step_keeps vars g head inside le same at keeps w = record {
+  same = λ p low.
+      let low_g : p < length g.locals = subst (λ ls. p < length ls) same low in
+      let block = walk_block vars g inside le (omega (arith, at)) w in
+      let out = block_outside vars g inside le w in
+      let here = outside_here inside.outside (behind_block g inside).flow (λ p far. out.beyond p (omega (arith, far, at))) in
+      let others = between_others vars inside.outside (behind_block g inside).flow (behind_block g inside).flow inside.continues block.between here block.continues in
+      others.1.within p (omega (arith, low_g, at)) ∙ (out.within p low_g ∙ keeps.same p low);
+  loop = keeps.loop;
+  structs = keeps.structs;
+}
+
+-- behind a loop
+pub loop_same : (vars : ℕ) (g head : Scope) (c : core.Expression) (inside : Scope) → inside.outside ≡ length g.locals → AreBeside g.flow head.flow → ((p : ℕ) → p < length g.locals → declared_at inside.flow p ≡ declared_at g.flow p) → length g.locals ≤ vars → IsWalk vars g
+    → IsBetween vars head.flow → IsWalk vars inside → (p : ℕ) → p < length g.locals → declared_at (behind_loop g head c inside).flow p ≡ declared_at g.flow p
+loop_same vars g head c inside at beside same few w h i p low =
+    let no = told g.locals c false head.flow in
+    let no_between = between_told g.locals vars c false head.flow few h in
+    let told_same = told_beside g.locals vars c false head.flow few h in
+    let no_out = outside_beside (length g.locals) g.flow head.flow no told_same (outside_beside (length g.locals) g.flow g.flow head.flow beside (outside_here (length g.locals) g.flow w.beyond)) in
+    let breaks = between_same vars (length g.locals) inside.flow g.flow inside.breaks (λ p low. sym (same p low)) (subst (λ n. AreBetween vars n inside.flow inside.breaks) at i.breaks) in
+    (between_others vars (length g.locals) g.flow no inside.breaks no_between no_out breaks).1.within p low
 
 -- ---- how a statement ends, behind a block
 
@@ -128,9 +348,15 @@ module _ (structs : List Structure) (vars : ℕ) (g inside : Scope) (w : IsWalk 
   so_block Continued s h = h
   so_block (Returned v) s h = h
 
+-- the way out of a loop is so of a state
+pub known_out : (structs : List Structure) (vars : ℕ) (g : Scope) → IsWalk vars g → (s : State) → IsKnown structs g s → FitsAlike structs (length g.locals) (way_out g) s
+known_out structs vars g w s h =
+    let few = w.few in let at = w.outside in
+    fits_left structs vars (length g.locals) s g.outside (length g.locals - g.outside) g.flow w.between (omega (arith, few, at)) h
+
 -- where another way meets the one behind it
-pub so_meeting : (structs : List Structure) (vars : ℕ) (f : Knowledge) (g : Scope) → IsBetween vars f → IsWalk vars g → (flow : Flow) (s : State) → IsSo structs g flow s → IsSo structs (meeting f g) flow s
-so_meeting structs vars f g a w Next s h = fits_second structs vars (length g.locals) s f g.flow a w.between h
-so_meeting structs vars f g a w Broke s h = h
-so_meeting structs vars f g a w Continued s h = h
-so_meeting structs vars f g a w (Returned v) s h = h
+pub so_meeting : (structs : List Structure) (vars : ℕ) (f : Knowledge) (g : Scope) → IsBetween vars f → AreBeside f g.flow → IsWalk vars g → (flow : Flow) (s : State) → IsSo structs g flow s → IsSo structs (meeting f g) flow s
+so_meeting structs vars f g a beside w Next s h = fits_second structs vars (length g.locals) s f g.flow a w.between beside h
+so_meeting structs vars f g a beside w Broke s h = h
+so_meeting structs vars f g a beside w Continued s h = h
+so_meeting structs vars f g a beside w (Returned v) s h = h

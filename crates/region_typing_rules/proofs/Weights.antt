@@ -2,7 +2,7 @@
 use Rattle.std.proofs.Common.{◌≡◌, ℕ, ◌+◌, ◌*◌, ◌<◌, ◌≤◌, ◌^◌, Bool, true, false, List, [], ◌∷◌, length, Option, Some, None, refl, arith}
 use Rattle.std.specs.Prelude.{◌==◌, nat_lt, ◌&&◌}
 use Rattle.ckc_text.specs.declared.place.Span.{Span}
-use Rattle.ckc_text.specs.declared.code.Code.TheVariants.{E04, E13, E14}
+use Rattle.ckc_text.specs.declared.code.Code.TheVariants.{E04, E13, E14, E26}
 use Rattle.ckc_tree.specs.declared.expr.UnaryOperator.{UnaryOperator}
 use Rattle.ckc_tree.specs.declared.expr.UnaryOperator.TheVariants as unary
 use Rattle.ckc_tree.specs.declared.expr.BinaryOperator.{BinaryOperator}
@@ -10,6 +10,7 @@ use Rattle.ckc_tree.specs.declared.expr.BinaryOperator.TheVariants as binary
 use Rattle.ckc_tree.specs.Expressions as e
 use Rattle.ckc_tree.specs.Expressions.{Expression, Expressions}
 use Rattle.ckc_tree.specs.Weights as tree
+use Rattle.bounds_flow.specs.Flows.{Knowledge}
 use Rattle.pointer_modes.specs.declared.ctype.Kind.TheVariants as kinds
 use Rattle.pointer_modes.specs.Types.{CType, Int, Char, Struct, Pointer, Structure, members_of}
 use Rattle.pointer_modes.specs.Layout.{cells_of}
@@ -30,7 +31,7 @@ use Rattle.ckc_names_rules.specs.declared.given.Given.{Given}
 use Rattle.region_typing_rules.specs.Verdicts.{Verdict, Passes, passing}
 use Rattle.region_typing_rules.specs.Scopes.{Scope, Signature, Named, Local, Object, Array, Nothing, named, function_named, members_named}
 use Rattle.region_typing_rules.specs.Types.{type_named, is_number, is_pointer, are_comparable, converts}
-use Rattle.region_typing_rules.specs.Expressions.{Places, OfLocal, OfCell, Standing, ForNothing, ForArray, For, Typed, Value, AStruct, Called, Gives, GivesNothing, site_at, bounds_at, noted, noted_if, with_bounds, sum_node, bounded, plain, number, at_place, local_typed, name_typed, member_place, member_from, offset_among, member_at, dotted, first_element, pointed_by, arrowed, pointed_at, dereferenced, pointer_to, address, number_of, scalar_of, unary_typed, two_numbers, two_scalars, operator_along, summed, sum_typed, as_pointer, equated_values, equated, ordered_values, ordered, arithmetic, binary_typed, element_at, indexed, in_type, converted, arguments_as, is_import, call_of, declared_callee, first_of, writes, predefined_call, called, with_result, typed, all_typed, call_typed}
+use Rattle.region_typing_rules.specs.Expressions.{Places, OfLocal, OfCell, Standing, ForNothing, ForArray, For, Typed, Value, AStruct, Called, Gives, GivesNothing, site_at, bounds_at, noted, noted_if, with_bounds, sum_node, bounded, plain, number, at_place, local_typed, name_typed, member_place, member_from, offset_among, member_at, dotted, first_element, pointed_by, arrowed, pointed_at, dereferenced, pointer_to, address, number_of, scalar_of, unary_typed, two_numbers, two_scalars, operator_along, summed, sum_typed, as_pointer, equated_values, equated, are_related, ordered_values, ordered, arithmetic, binary_typed, element_at, indexed, in_type, converted, arguments_as, is_import, call_of, declared_callee, first_of, writes, predefined_call, called, with_result, typed, all_typed, call_typed}
 use Rattle.region_typing_rules.proofs.Knowledge.{crossing_promises}
 use Rattle.region_typing_rules.proofs.Verdicts.{Promises, passing_promises, needs_promises, anything_promised, promised_so, elements_promise, apart_promises, all_met_promise}
 
@@ -105,17 +106,17 @@ at_place_light n Char p h = (omega arith, omega arith)
 at_place_light n (Struct number) p h = omega arith
 at_place_light n (Pointer m k t) p h = (omega arith, omega arith)
 
-local_light : (n k : ℕ) (t : CType) → 1 < n → Light n (local_typed k t)
-local_light n k Int h = (h, tt)
-local_light n k Char h = (h, tt)
-local_light n k (Struct number) h = tt
-local_light n k (Pointer m d t) h = (h, tt)
+local_light : (n : ℕ) (structs : List Structure) (f : Knowledge) (k : ℕ) (t : CType) (site : Site) → 1 < n → Light n (local_typed structs f k t site)
+local_light n structs f k Int site h = (h, tt)
+local_light n structs f k Char site h = (h, tt)
+local_light n structs f k (Struct number) site h = tt
+local_light n structs f k (Pointer m d t) site h = (h, tt)
 
-name_light : (n : ℕ) (structs : List Structure) (x : Named) (site : Site) → 2 < n → Light n (name_typed structs x site)
-name_light n structs (Local k t) site h = local_light n k t (omega arith)
-name_light n structs (Object k t) site h = at_place_light n t (core.Direct k 0) (omega arith)
-name_light n structs (Array k t length) site h = (omega arith, tt)
-name_light n structs Nothing site h = (omega arith, tt)
+name_light : (n : ℕ) (s : Scope) (x : Named) (site : Site) → 2 < n → Light n (name_typed s x site)
+name_light n s (Local k t) site h = local_light n s.structs s.flow k t site (omega arith)
+name_light n s (Object k t) site h = at_place_light n t (core.Direct k 0) (omega arith)
+name_light n s (Array k t length) site h = (omega arith, tt)
+name_light n s Nothing site h = (omega arith, tt)
 
 member_weight : (p : core.Place) (offset : ℕ) (site : Site) → place_weight (member_place p offset site) ≡ place_weight p
 member_weight (core.Direct object first) offset site = refl
@@ -233,18 +234,18 @@ equated_light n m (Value t z v p) (Value u y w q) span one one' ha hb = equated_
 equated_light n m (Value t z v p) (AStruct k q) span one one' ha hb = tt
 equated_light n m (AStruct k p) b span one one' ha hb = tt
 
-ordered_values_light : (n m : ℕ) (comparison : Comparison) (t : CType) (v : core.Expression) (u : CType) (w : core.Expression) (span : Span) → IsLight n v → IsLight m w → Promises (Light (n + m + 2)) (ordered_values comparison t v u w span)
-ordered_values_light n m comparison t v u w span hv hw = by (is_number t && is_number u) (are_comparable t u) refl refl
+ordered_values_light : (n m : ℕ) (comparison : Comparison) (t : CType) (v : core.Expression) (u : CType) (w : core.Expression) (site : Site) (span : Span) → IsLight n v → IsLight m w → Promises (Light (n + m + 2)) (ordered_values comparison t v u w site span)
+ordered_values_light n m comparison t v u w site span hv hw = by (is_number t && is_number u) (are_comparable t u) refl refl
   where
-    by : (numbers same : Bool) → (is_number t && is_number u) ≡ numbers → are_comparable t u ≡ same → Promises (Light (n + m + 2)) (ordered_values comparison t v u w span)
+    by : (numbers same : Bool) → (is_number t && is_number u) ≡ numbers → are_comparable t u ≡ same → Promises (Light (n + m + 2)) (ordered_values comparison t v u w site span)
     by true same h0 h1 = rw h0 (omega arith, tt)
-    by false true h0 h1 = rw (h0, h1) tt
+    by false true h0 h1 = rw (h0, h1) (needs_promises (Light (n + m + 2)) (are_related t v u w) E26 span (number (core.Order comparison v w site)) (λ yes. (omega arith, tt)))
     by false false h0 h1 = rw (h0, h1) tt
 
-ordered_light : (n m : ℕ) (comparison : Comparison) (a b : Typed) (span : Span) → Light n a → Light m b → Promises (Light (n + m + 2)) (ordered comparison a b span)
-ordered_light n m comparison (Value t z v p) (Value u y w q) span ha hb = ordered_values_light n m comparison t v u w span ha.0 hb.0
-ordered_light n m comparison (Value t z v p) (AStruct k q) span ha hb = tt
-ordered_light n m comparison (AStruct k p) b span ha hb = tt
+ordered_light : (n m : ℕ) (comparison : Comparison) (a b : Typed) (site : Site) (span : Span) → Light n a → Light m b → Promises (Light (n + m + 2)) (ordered comparison a b site span)
+ordered_light n m comparison (Value t z v p) (Value u y w q) site span ha hb = ordered_values_light n m comparison t v u w site span ha.0 hb.0
+ordered_light n m comparison (Value t z v p) (AStruct k q) site span ha hb = tt
+ordered_light n m comparison (AStruct k p) b site span ha hb = tt
 
 binary_light : (n m : ℕ) (s : Scope) (operator : BinaryOperator) (a b : Typed) (site : Site) (span : Span) → 2 ≤ n → 2 ≤ m → Light n a → Light m b → Promises (Light (n + m + 2)) (binary_typed s operator a b site span)
 binary_light n m s binary.Or a b site span two two' ha hb = truths_light n m a b span ha hb core.OrElse (λ v w. refl)
@@ -254,10 +255,10 @@ binary_light n m s binary.BitXor a b site span two two' ha hb = arithmetic_light
 binary_light n m s binary.BitAnd a b site span two two' ha hb = arithmetic_light n m a b span ha hb (operators.Bitwise bits.And) site
 binary_light n m s binary.Equal a b site span two two' ha hb = passing_promises (IsLight (n + m + 1)) (Light (n + m + 2)) (equated a b span) number (equated_light n m a b span two two' ha hb) (λ v light. (omega arith, tt))
 binary_light n m s binary.NotEqual a b site span two two' ha hb = passing_promises (IsLight (n + m + 1)) (Light (n + m + 2)) (equated a b span) (λ v. number (core.Not v)) (equated_light n m a b span two two' ha hb) (λ v light. (omega arith, tt))
-binary_light n m s binary.Less a b site span two two' ha hb = ordered_light n m comparisons.Less a b span ha hb
-binary_light n m s binary.LessEqual a b site span two two' ha hb = ordered_light n m comparisons.LessEqual a b span ha hb
-binary_light n m s binary.Greater a b site span two two' ha hb = ordered_light n m comparisons.Greater a b span ha hb
-binary_light n m s binary.GreaterEqual a b site span two two' ha hb = ordered_light n m comparisons.GreaterEqual a b span ha hb
+binary_light n m s binary.Less a b site span two two' ha hb = ordered_light n m comparisons.Less a b site span ha hb
+binary_light n m s binary.LessEqual a b site span two two' ha hb = ordered_light n m comparisons.LessEqual a b site span ha hb
+binary_light n m s binary.Greater a b site span two two' ha hb = ordered_light n m comparisons.Greater a b site span ha hb
+binary_light n m s binary.GreaterEqual a b site span two two' ha hb = ordered_light n m comparisons.GreaterEqual a b site span ha hb
 binary_light n m s binary.ShiftLeft a b site span two two' ha hb = arithmetic_light n m a b span ha hb (operators.Arithmetic arithmetics.ShiftLeft) site
 binary_light n m s binary.ShiftRight a b site span two two' ha hb = arithmetic_light n m a b span ha hb (operators.Arithmetic arithmetics.ShiftRight) site
 binary_light n m s binary.Add a b site span two two' ha hb = sum_light n m s directions.Forward a b site span ha hb
@@ -377,7 +378,7 @@ mutual
   typed_light at s (e.Number value span) = needs_promises (Light 5) (nat_lt value (2 ^ 31)) E04 span _ (λ low. (omega arith, tt))
   typed_light at s (e.Character value span) = needs_promises (Light 5) (nat_lt value (2 ^ 31)) E04 span _ (λ low. (omega arith, tt))
   typed_light at s (e.Text bytes span) = tt
-  typed_light at s (e.Name name) = bounded_light 5 s (site_at at name.span) (passing (named s name.number) (λ x. Passes (name_typed s.structs x (site_at at name.span)))) (passing_promises (λ (x : Named). Unit {0}) (Light 5) (named s name.number) _ (anything_promised (named s name.number)) (λ x _. name_light 5 s.structs x (site_at at name.span) (omega arith)))
+  typed_light at s (e.Name name) = bounded_light 5 s (site_at at name.span) (passing (named s name.number) (λ x. Passes (name_typed s x (site_at at name.span)))) (passing_promises (λ (x : Named). Unit {0}) (Light 5) (named s name.number) _ (anything_promised (named s name.number)) (λ x _. name_light 5 s x (site_at at name.span) (omega arith)))
   typed_light at s (e.Call callee arguments span) =
       let n = 5 * tree.expressions_weight arguments in
       let all = 5 * tree.expression_weight (e.Call callee arguments span) in

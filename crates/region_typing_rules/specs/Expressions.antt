@@ -12,7 +12,7 @@ use Rattle.ckc_tree.specs.declared.item.FunctionKind.{FunctionKind}
 use Rattle.ckc_tree.specs.declared.item.FunctionKind.TheVariants as function_kinds
 use Rattle.ckc_tree.specs.Expressions as e
 use Rattle.ckc_tree.specs.Expressions.{Expression, Expressions, expression_span}
-use Rattle.bounds_exprs.specs.Normal.{constant as constant_term}
+use Rattle.bounds_exprs.specs.Normal.{constant as constant_term, is_same}
 use Rattle.pointer_modes.specs.declared.ctype.Mode.{Mode}
 use Rattle.pointer_modes.specs.declared.ctype.Mode.TheVariants as modes
 use Rattle.pointer_modes.specs.declared.ctype.Kind.{Kind}
@@ -35,7 +35,7 @@ use Rattle.ckc_core.specs.Core as core
 use Rattle.ckc_core.specs.Meaning.{bounds_of}
 use Rattle.bounds_exprs.specs.declared.term.Bounds.{Bounds}
 use Rattle.ckc_names_rules.specs.declared.given.Given.{Given}
-use Rattle.bounds_flow.specs.Flows.{Knowledge}
+use Rattle.bounds_flow.specs.Flows.{Knowledge, held_at}
 use Rattle.bounds_flow.specs.Settling.{Finding, Meets, WasLost, Falls, bounds_find}
 use Rattle.region_typing_rules.specs.Verdicts.{Verdict, Passes, Unnamed, passing, needs, breaks, picked}
 use Rattle.region_typing_rules.specs.Scopes.{Scope, Signature, Named, Local, Object, Array, Nothing, named, function_named, members_named}
@@ -164,11 +164,19 @@ at_place Char place = Value Char false (core.Load Char place None) (For (OfCell 
 at_place (Pointer mode kind target) place = Value (Pointer mode kind target) false (core.Load (Pointer mode kind target) place None) (For (OfCell place))
 at_place (Struct number) place = AStruct number (OfCell place)
 
-abbrev pub local_typed : ℕ → CType → Typed
-local_typed local Int = Value Int false (core.Local local None) (For (OfLocal local))
-local_typed local Char = Value Char false (core.Local local None) (For (OfLocal local))
-local_typed local (Pointer mode kind target) = Value (Pointer mode kind target) false (core.Local local None) (For (OfLocal local))
-local_typed local (Struct number) = AStruct number (OfLocal local)
+-- the bounds in force of a local pointer, at its node
+abbrev pub in_force : List Structure → Kind → CType → Option Bounds → Site → Option PointerBounds
+in_force structs kinds.Array target (Some b) site = Some (record { bounds = b; size = size_of structs target; site = site })
+in_force structs kinds.Array target None site = None
+in_force structs kinds.One target bounds site = None
+in_force structs kinds.Nt target bounds site = None
+
+abbrev pub local_typed : List Structure → Knowledge → ℕ → CType → Site → Typed
+local_typed structs f local Int site = Value Int false (core.Local local None) (For (OfLocal local))
+local_typed structs f local Char site = Value Char false (core.Local local None) (For (OfLocal local))
+local_typed structs f local (Pointer mode kind target) site =
+    Value (Pointer mode kind target) false (core.Local local (in_force structs kind target (held_at f.held local).bounds site)) (For (OfLocal local))
+local_typed structs f local (Struct number) site = AStruct number (OfLocal local)
 
 -- the name of an array is a pointer to its first element, with all of them
 abbrev pub array_typed : List Structure → ℕ → CType → ℕ → Site → Typed
@@ -176,11 +184,11 @@ array_typed structs object type length site =
     Value (Pointer modes.Checked kinds.Array type) false
     (core.AddressOf (core.Direct object 0) (Some (record { bounds = row_of length; size = size_of structs type; site = site }))) ForArray
 
-abbrev pub name_typed : List Structure → Named → Site → Typed
-name_typed structs (Local local type) site = local_typed local type
-name_typed structs (Object object type) site = at_place type (core.Direct object 0)
-name_typed structs (Array object type length) site = array_typed structs object type length site
-name_typed structs Nothing site = Value Int true (core.Number (pos 0)) ForNothing
+abbrev pub name_typed : Scope → Named → Site → Typed
+name_typed s (Local local type) site = local_typed s.structs s.flow local type site
+name_typed s (Object object type) site = at_place type (core.Direct object 0)
+name_typed s (Array object type length) site = array_typed s.structs object type length site
+name_typed s Nothing site = Value Int true (core.Number (pos 0)) ForNothing
 
 -- so many bytes behind a place, where checks name another expression
 abbrev pub member_place : core.Place → ℕ → Site → core.Place
@@ -326,10 +334,6 @@ two_numbers a b span next = number_of a span (λ v. number_of b span (λ w. next
 abbrev pub two_scalars : {A : Type 0} → Typed → Typed → Span → (core.Expression → core.Expression → Verdict A) → Verdict A
 two_scalars a b span next = scalar_of a span (λ v. scalar_of b span (λ w. next v w))
 
--- the two numbers of a sum or a difference
-abbrev pub summands : {A : Type 0} → Typed → Typed → Span → (core.Expression → core.Expression → Verdict A) → Verdict A
-summands a b span next = without_ptr a b span (two_numbers a b span next)
-
 abbrev pub operator_along : Direction → Operator
 operator_along directions.Forward = operators.Arithmetic arithmetics.Add
 operator_along directions.Backward = operators.Arithmetic arithmetics.Subtract
@@ -363,19 +367,28 @@ abbrev pub equated : Typed → Typed → Span → Verdict core.Expression
 equated (Value t z v p) (Value u y w q) span = equated_values t z v u y w span
 equated _ _ span = breaks E13 span
 
-abbrev pub ordered_values : Comparison → CType → core.Expression → CType → core.Expression → Span → Verdict Typed
-ordered_values comparison t v u w span = by_kind (is_number t && is_number u) (are_comparable t u)
+-- both bounds count from one base
+abbrev pub have_one_base : Option Bounds → Option Bounds → Bool
+have_one_base None other = false
+have_one_base (Some b) None = false
+have_one_base (Some b) (Some d) = is_same b.base d.base
+
+-- two pointers with bounds that count from one base, where a local pointer counts itself; a `ptr` has none
+abbrev pub are_related : CType → core.Expression → CType → core.Expression → Bool
+are_related t v u w = is_row t && (is_row u && have_one_base (based_bounds v) (based_bounds w))
+
+abbrev pub ordered_values : Comparison → CType → core.Expression → CType → core.Expression → Site → Span → Verdict Typed
+ordered_values comparison t v u w site span = by_kind (is_number t && is_number u) (are_comparable t u)
   where
     by_kind : Bool → Bool → Verdict Typed
     by_kind true same = number (core.Compare comparison v w)
-    by_kind false true = breaks E26 span
+    by_kind false true = needs (are_related t v u w) E26 span (number (core.Order comparison v w site))
     by_kind false false = breaks E13 span
 
--- order-of-like: numbers, or pointers of one mode and element (E13). order-of-related: those have a common base, which a `ptr`
--- hasn't (E26)
-abbrev pub ordered : Comparison → Typed → Typed → Span → Verdict Typed
-ordered comparison (Value t z v p) (Value u y w q) span = ordered_values comparison t v u w span
-ordered comparison _ _ span = breaks E13 span
+-- order-of-like: numbers, or pointers of one mode and element (E13). order-of-related: those have a common base (E26)
+abbrev pub ordered : Comparison → Typed → Typed → Site → Span → Verdict Typed
+ordered comparison (Value t z v p) (Value u y w q) site span = ordered_values comparison t v u w site span
+ordered comparison _ _ site span = breaks E13 span
 
 abbrev pub arithmetic : Operator → Site → core.Expression → core.Expression → Verdict Typed
 arithmetic operator site v w = number (core.Arithmetic operator v w site)
@@ -388,10 +401,10 @@ binary_typed s binary.BitXor a b site span = two_numbers a b span (arithmetic (o
 binary_typed s binary.BitAnd a b site span = two_numbers a b span (arithmetic (operators.Bitwise bits.And) site)
 binary_typed s binary.Equal a b site span = passing (equated a b span) number
 binary_typed s binary.NotEqual a b site span = passing (equated a b span) (λ v. number (core.Not v))
-binary_typed s binary.Less a b site span = ordered comparisons.Less a b span
-binary_typed s binary.LessEqual a b site span = ordered comparisons.LessEqual a b span
-binary_typed s binary.Greater a b site span = ordered comparisons.Greater a b span
-binary_typed s binary.GreaterEqual a b site span = ordered comparisons.GreaterEqual a b span
+binary_typed s binary.Less a b site span = ordered comparisons.Less a b site span
+binary_typed s binary.LessEqual a b site span = ordered comparisons.LessEqual a b site span
+binary_typed s binary.Greater a b site span = ordered comparisons.Greater a b site span
+binary_typed s binary.GreaterEqual a b site span = ordered comparisons.GreaterEqual a b site span
 binary_typed s binary.ShiftLeft a b site span = two_numbers a b span (arithmetic (operators.Arithmetic arithmetics.ShiftLeft) site)
 binary_typed s binary.ShiftRight a b site span = two_numbers a b span (arithmetic (operators.Arithmetic arithmetics.ShiftRight) site)
 binary_typed s binary.Add a b site span = sum_typed s directions.Forward a b site span
@@ -565,7 +578,7 @@ abbrev mutual
   typed at s (e.Number value span) = constant_typed value (value == 0) span
   typed at s (e.Character value span) = constant_typed value false span
   typed at s (e.Text bytes span) = breaks E13 span
-  typed at s (e.Name name) = bounded s (site_at at name.span) (passing (named s name.number) (λ n. Passes (name_typed s.structs n (site_at at name.span))))
+  typed at s (e.Name name) = bounded s (site_at at name.span) (passing (named s name.number) (λ n. Passes (name_typed s n (site_at at name.span))))
   typed at s (e.Call callee arguments span) = passing (all_typed at s arguments)
       (λ ts. passing (called s (function_named s.functions callee.number) callee.number ts (site_at at span) span) (λ c. with_result c span))
   typed at s (e.SizeOf type span) = passing (type_named s type) (λ t. number (core.Number (pos (size_of s.structs t))))

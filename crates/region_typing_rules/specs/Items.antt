@@ -2,6 +2,7 @@
 use Rattle.std.specs.Prelude.{ℕ, zero, suc, ◌+◌, ◌-◌, Bool, true, false, not, ◌&&◌, ◌||◌, ◌==◌, nat_lt, nat_le, List, [], ◌∷◌, ◌++◌, length, map}
 use Rattle.std.specs.Prelude.{◌*◌, ◌^◌, Option, Some, None, is_some, option_map, pos, negsuc}
 use Rattle.std.proofs.Common.{ℤ}
+use Rattle.std.specs.List.{list_all}
 use Rattle.ckc_text.specs.declared.place.Span.{Span}
 use Rattle.ckc_text.specs.declared.code.Code.TheVariants.{E04, E08, E10, E13, E15, E27}
 use Rattle.ckc_tree.specs.declared.expr.UnaryOperator.TheVariants as unary
@@ -203,14 +204,27 @@ abbrev pub cells_or_break : Option (List Initial) → Span → Verdict (List Ini
 cells_or_break None span = breaks E13 span
 cells_or_break (Some cells) span = Passes cells
 
+-- the constant 0, which `'\0'` and `-0` aren't
+abbrev pub is_zero_number : Constant → Bool
+is_zero_number (constants.Number value) = value == 0
+is_zero_number (constants.Character value) = false
+
+abbrev pub is_zero_constant : SignedConstant → Bool
+is_zero_constant c = not c.negative && is_zero_number c.constant
+
+-- each of a list is, so that it is null for a pointer
+abbrev pub are_zeros : List SignedConstant → Bool
+are_zeros cs = list_all is_zero_constant cs
+
 abbrev pub listed_cells : List Structure → CType → ℕ → List SignedConstant → Span → Verdict (List Initial)
 listed_cells structs Int length cs span = cells_or_break (cells_listed structs Int (λ z. z) length cs) span
 listed_cells structs Char length cs span = cells_or_break (cells_listed structs Char low_byte length cs) span
 listed_cells structs (Struct number) length cs span = breaks E13 span
-listed_cells structs (Pointer mode kind target) length cs span = breaks E13 span
+listed_cells structs (Pointer mode kind target) length cs span =
+    needs (are_zeros cs) E13 span (cells_or_break (cells_listed structs (Pointer mode kind target) (λ z. pos 0) length cs) span)
 
 -- constant-initialiser: a signed number for a number, 0 or `NULL` for a pointer, and nothing for a struct; for an array of numbers a
--- list of them, no longer than it is, and for another one nothing (E13, at the item)
+-- list of them, for one of pointers a list of zeros, neither longer than it is, and for one of structs nothing (E13, at the item)
 abbrev pub object_cells : Given → List Structure → CType → Option ℕ → Walked → Span → Verdict (List Initial)
 object_cells given structs type None Missing span = Passes (cells_with structs type (pos 0))
 object_cells given structs type None (Written value t) span = written_cells given structs type value t span
@@ -343,7 +357,7 @@ with_function (Some before) f g = g
 -- the parameters as the first locals
 abbrev pub with_parameters : List Variable → Scope → Scope
 with_parameters [] g = g
-with_parameters (p ∷ ps) g = with_parameters ps (with_local p.name p.type g)
+with_parameters (p ∷ ps) g = with_parameters ps (with_local p.name p.type None g)
 
 -- the number, or a limit that it passes
 abbrev pub limited : (limit n : ℕ) → ℕ
@@ -360,6 +374,7 @@ inside f parameters body g =
       visible = [];
       result = f.result;
       in_loop = false;
+      outside = 0;
       flow = at_entry (variables_in (length parameters) body);
       breaks = None;
       continues = None;
@@ -438,6 +453,7 @@ nothing_known given = record {
   visible = [];
   result = None;
   in_loop = false;
+  outside = 0;
   is_off = false;
   flow = at_entry 0;
   breaks = None;

@@ -1,5 +1,5 @@
 -- What is known where a walk stands, and what assignments, conditions, loops and the ends of blocks make of it.
-use Rattle.std.specs.Prelude.{ℕ, zero, suc, ◌+◌, ◌-◌, ◌==◌, ℤ, Bool, true, false, cond, List, [], ◌∷◌, length, Option, None, Some}
+use Rattle.std.specs.Prelude.{ℕ, zero, suc, ◌+◌, ◌-◌, ◌==◌, nat_lt, ◌&&◌, ℤ, Bool, true, false, cond, List, [], ◌∷◌, length, Option, None, Some}
 use Rattle.std.specs.Prelude.{replicate, slice_get, slice_set}
 use Rattle.ckc_text.specs.declared.place.Span.{Span}
 use Rattle.ckc_text.specs.declared.code.Code.TheVariants.{E17, E20}
@@ -11,13 +11,17 @@ use Rattle.subsumption.specs.ClosedTables.{ClosedTable}
 use Rattle.bounds_flow.specs.declared.held.Held.{Held}
 use Rattle.bounds_flow.specs.declared.steps.Source.{Source}
 use Rattle.bounds_flow.specs.declared.steps.Source.TheVariants as sources
-use Rattle.bounds_flow.specs.Flows.{Knowledge, left, number_assigned, pointer_assigned, at_head, cut_off, met, settled}
+use Rattle.bounds_flow.specs.Flows.{Knowledge, held_at, left, number_assigned, pointer_assigned, at_head, cut_off, met, settled}
 use Rattle.bounds_flow.specs.Settling.{Finding, Meets, WasLost, Falls, finding}
+use Rattle.bounds_exprs.specs.declared.term.Bounds.{Bounds}
+use Rattle.bounds_exprs.specs.Normal.{is_same}
+use Rattle.pointer_modes.specs.declared.ctype.Kind.{Kind}
+use Rattle.pointer_modes.specs.declared.ctype.Kind.TheVariants as kinds
 use Rattle.pointer_modes.specs.Types.{CType, Int, Char, Struct, Pointer}
 use Rattle.ckc_core.specs.Core as core
-use Rattle.region_typing_rules.specs.Verdicts.{Verdict, Passes, breaks}
+use Rattle.region_typing_rules.specs.Verdicts.{Verdict, Passes, breaks, picked}
 use Rattle.region_typing_rules.specs.Scopes.{Scope, Visible}
-use Rattle.region_typing_rules.specs.Readings.{Behind, term, behind_local, is_not_null, told}
+use Rattle.region_typing_rules.specs.Readings.{Behind, term, own_bounds, based_bounds, behind_local, is_null, is_not_null, told}
 
 -- ---- how many locals there are
 
@@ -133,10 +137,33 @@ assigned_in g body step =
 
 -- ---- assignments
 
--- what a local pointer is assigned: null, or a pointer without bounds
-abbrev pub source : core.Expression → Source
-source core.Null = sources.Null
-source _ = sources.Lost
+-- the bounds that a local pointer is given with a value: those from its declared base, where the value has them, and else those at its node
+abbrev pub given_from : (base : Option ℕ) → (based own : Option Bounds) → Option Bounds
+given_from base None own = own
+given_from base (Some b) own = picked (is_same base b.base) (Some b) own
+
+abbrev pub given_bounds : (declared : Option Bounds) → core.Expression → Option Bounds
+given_bounds None value = own_bounds value
+given_bounds (Some d) value = given_from d.base (based_bounds value) (own_bounds value)
+
+-- both ends speak of variables below this number, or of none
+abbrev pub is_below : ℕ → Option ℕ → Bool
+is_below vars None = true
+is_below vars (Some x) = nat_lt x vars
+
+abbrev pub are_below : ℕ → Bounds → Bool
+are_below vars b = is_below vars b.lo.var && is_below vars b.hi.var
+
+-- bounds of the flow's variables; those at the nodes that the walk makes speak of no others
+abbrev pub known_source : (vars : ℕ) → Option Bounds → Source
+known_source vars None = sources.Lost
+known_source vars (Some b) = picked (are_below vars b) (sources.Known b) sources.Lost
+
+-- what a local pointer is assigned: null, or a pointer with bounds or without; one to one element has none that a flow holds
+abbrev pub source : (vars : ℕ) → Kind → (declared : Option Bounds) → core.Expression → Source
+source vars kinds.Array declared value = picked (is_null value) sources.Null (known_source vars (given_bounds declared value))
+source vars kinds.One declared value = picked (is_null value) sources.Null sources.Lost
+source vars kinds.Nt declared value = picked (is_null value) sources.Null sources.Lost
 
 -- the constant, where a pointer is assigned itself plus a constant
 abbrev pub moved_from : ℕ → Option Behind → Option ℤ
@@ -147,7 +174,7 @@ moved_from local (Some b) = cond (b.local == local) (Some b.elements) None
 abbrev pub value_assigned : Option CType → List CType → ℕ → core.Expression → Knowledge → Knowledge
 value_assigned (Some Int) types local value f = number_assigned local (term types value) f
 value_assigned (Some (Pointer mode kind target)) types local value f =
-    pointer_assigned local (source value) (moved_from local (behind_local types value)) (is_not_null types f value) f
+    pointer_assigned local (source f.vars kind (held_at f.held local).declared value) (moved_from local (behind_local types value)) (is_not_null types f value) f
 value_assigned (Some Char) types local value f = f
 value_assigned (Some (Struct number)) types local value f = f
 value_assigned None types local value f = f
@@ -203,25 +230,27 @@ abbrev pub with_way : Knowledge → Option Knowledge → Knowledge
 with_way f None = f
 with_way f (Some before) = met before f
 
--- behind a `break`, and behind a `continue`
-abbrev pub broken : Scope → Scope
-broken g = record (cut g) { breaks = Some (with_way g.flow g.breaks) }
-
-abbrev pub continued : Scope → Scope
-continued g = record (cut g) { continues = Some (with_way g.flow g.continues) }
-
 -- what is known of a way once the locals from one on have left their scopes
 abbrev pub outside_of : (local : ℕ) → Scope → Knowledge → Knowledge
 outside_of local g f = without_locals local (length g.locals - local) f
 
--- a way with others that meet it, whose locals from one on leave their scopes
-abbrev pub meeting_others : (local count : ℕ) → Option Knowledge → Knowledge → Knowledge
-meeting_others local count None f = f
-meeting_others local count (Some others) f = met f (without_locals local count others)
+-- what is known on a way out of the innermost loop, or on to its next turn: the locals inside of the loop have left their scopes
+abbrev pub way_out : Scope → Knowledge
+way_out g = outside_of g.outside g g.flow
 
-abbrev pub with_others : (local : ℕ) → Scope → Option Knowledge → Knowledge → Knowledge
-with_others local g others f = meeting_others local (length g.locals - local) others f
+-- behind a `break`, and behind a `continue`
+abbrev pub broken : Scope → Scope
+broken g = record (cut g) { breaks = Some (with_way (way_out g) g.breaks) }
+
+abbrev pub continued : Scope → Scope
+continued g = record (cut g) { continues = Some (with_way (way_out g) g.continues) }
+
+-- a way that others meet, if there are some
+abbrev pub with_others : Option Knowledge → Knowledge → Knowledge
+with_others None f = f
+with_others (Some others) f = met f others
 
 -- the head of a loop, in which no way leads out or on yet
 abbrev pub at_loop : Statement → Option Assignment → Scope → Scope
-at_loop body step g = record g { flow = at_head (assigned_in g body step) g.flow; breaks = None; continues = None }
+at_loop body step g =
+    record g { outside = length g.locals; flow = at_head (assigned_in g body step) g.flow; breaks = None; continues = None }

@@ -1,10 +1,17 @@
 -- What the walk knows is so in each run: what is known behind a statement holds of the state in which it ends.
 use Rattle.std.specs.Prelude.{ℕ, ◌<◌, ◌≤◌, ◌≡◌, Bool, List, length, Option, None, Some, slice_get, false, replicate, slice_index_or, true}
-use Rattle.pointer_modes.specs.Types.{CType, Char, Structure}
+use Rattle.pointer_modes.specs.declared.ctype.Mode.{Mode}
+use Rattle.pointer_modes.specs.declared.ctype.Kind.{Kind}
+use Rattle.pointer_modes.specs.declared.ctype.Kind.TheVariants as kinds
+use Rattle.pointer_modes.specs.Types.{CType, Char, Pointer, Structure}
+use Rattle.pointer_modes.specs.Layout.{size_of}
 use Rattle.ckc_tree.specs.Statements.{Statement}
+use Rattle.bounds_exprs.specs.declared.term.Bounds.{Bounds}
+use Rattle.bounds_exprs.specs.Terms.{is_within, term_limit}
+use Rattle.bounds_flow.specs.declared.held.Held.{Held}
 use Rattle.bounds_flow.specs.Conditions.{IsFlow}
 use Rattle.bounds_flow.specs.Flows.{Knowledge, held_at}
-use Rattle.bounds_flow_meaning.specs.Holding.{Fits, HaveTypes, Holds, IsSettled, types_of}
+use Rattle.bounds_flow_meaning.specs.Holding.{AreInts, Fits, HaveTypes, Holds, IsSettled, types_of}
 use Rattle.ckc_core.specs.Outcome.{Gives, Ends, Stuck, Unsound, Short}
 use Rattle.ckc_core.specs.States.{State, Grows, shapes}
 use Rattle.ckc_core.specs.Steps.{Result, Flow, Next, Broke, Continued, Returned, truth}
@@ -61,27 +68,65 @@ IsSo structs g Broke s = IsOnWay structs (length g.locals) g.breaks s
 IsSo structs g Continued s = IsOnWay structs (length g.locals) g.continues s
 IsSo structs g (Returned v) s = Unit {0}
 
+-- ---- bounds of terms
+
+-- the constants of both ends are those of terms
+pub record AreLimited (b : Bounds) : Type 0 where
+  pub low : is_within term_limit b.lo.plus ≡ true
+  pub high : is_within term_limit b.hi.plus ≡ true
+
+abbrev pub AreLimitedIf : Option Bounds → Type 0
+AreLimitedIf None = Unit {0}
+AreLimitedIf (Some b) = AreLimited b
+
+-- the bounds that are declared for a pointer are limited, and so are those in force; where none are declared, none are in force
+pub record IsLimited (h : Held) : Type 0 where
+  pub declared : AreLimitedIf h.declared
+  pub bounds : AreLimitedIf h.bounds
+  pub bare : h.declared ≡ None → h.bounds ≡ None
+
 -- ---- scopes of a walk
 
--- a flow between statements, of so many variables, in which no bounds are declared
+-- a flow between statements, of so many variables
 pub record IsBetween (vars : ℕ) (f : Knowledge) : Type 0 where
   pub flow : IsFlow f
   pub size : f.vars ≡ vars
   pub settled : IsSettled f
-  pub declared : (p : ℕ) → (held_at f.held p).declared ≡ None
+  pub limited : (p : ℕ) → IsLimited (held_at f.held p)
 
--- the same of what is known of some ways
-abbrev pub AreBetween : ℕ → Option Knowledge → Type 0
-AreBetween vars None = Unit {0}
-AreBetween vars (Some f) = IsBetween vars f
+abbrev pub declared_at : Knowledge → ℕ → Option Bounds
+declared_at f p = (held_at f.held p).declared
+
+-- the same bounds are declared in the one flow as in the other for so many locals, and none for others
+pub record IsOutside (n : ℕ) (f h : Knowledge) : Type 0 where
+  pub within : (p : ℕ) → p < n → declared_at h p ≡ declared_at f p
+  pub beyond : (p : ℕ) → n ≤ p → declared_at h p ≡ None
+
+-- the bounds that are declared for a local pointer, whose elements have bytes: their ends name `int` locals, and their base is a pointer
+-- of its mode and element
+pub record IsDeclared (structs : List Structure) (types : List CType) (p : ℕ) (b : Bounds) : Type 0 where
+  pub mode : Mode
+  pub element : CType
+  pub own : slice_get types p ≡ Some (Pointer mode kinds.Array element)
+  pub some : 0 < size_of structs element
+  pub ints : AreInts types b
+  pub base : (q : ℕ) → b.base ≡ Some q → (k : Kind) × (slice_get types q ≡ Some (Pointer mode k element))
+
+-- what is known of some ways out of a loop, or on to its next turn, outside of which there are so many locals
+abbrev pub AreBetween : (vars outside : ℕ) → Knowledge → Option Knowledge → Type 0
+AreBetween vars outside f None = Unit {0}
+AreBetween vars outside f (Some h) = IsBetween vars h × IsOutside outside f h
 
 -- what a walk inside a function knows, whose flows have so many variables: a flow with a variable for each local, and others beside
 -- it at the ways out of the innermost loop and to its next turn
 pub record IsWalk (vars : ℕ) (g : Scope) : Type 0 where
   pub between : IsBetween vars g.flow
   pub few : length g.locals ≤ vars
-  pub breaks : AreBetween vars g.breaks
-  pub continues : AreBetween vars g.continues
+  pub beyond : (p : ℕ) → length g.locals ≤ p → declared_at g.flow p ≡ None
+  pub declared : (p : ℕ) (b : Bounds) → declared_at g.flow p ≡ Some b → IsDeclared g.structs g.locals p b
+  pub outside : g.outside ≤ length g.locals
+  pub breaks : AreBetween vars g.outside g.flow g.breaks
+  pub continues : AreBetween vars g.outside g.flow g.continues
 
 -- the locals of a state have the types of those that are known, and maybe there are more
 abbrev pub HasLocals : List CType → State → Type 0

@@ -2,6 +2,8 @@ pub mod Verdicts
 pub mod Scopes
 pub mod Types
 pub mod Expressions
+pub mod DeclaredBounds
+pub mod DeclaredFormed
 pub mod Statements
 pub mod Items
 pub mod Cores

@@ -91,7 +91,7 @@ abbrev pub sum_bounds : Direction → Option ℤ → Option Bounds → Option Bo
 sum_bounds direction c None = None
 sum_bounds direction c (Some b) = picked (is_some b.base) (Some b) (moved_ends direction c b)
 
-abbrev from_base : ℕ → Bounds → Bounds
+abbrev pub from_base : ℕ → Bounds → Bounds
 from_base p b = picked (is_some b.base) b (record b { base = Some p })
 
 -- the bounds of a pointer without a base, as its node has them

@@ -44,9 +44,10 @@ pub record Scope : Type 0 where
   -- the types of all locals of the function so far, and those that are visible, the innermost first
   pub locals : List CType
   pub visible : List Visible
-  -- what the function returns, whether a loop is around, and whether the region is unchecked
+  -- what the function returns, whether a loop is around and how many locals there are outside of it, and whether the region is unchecked
   pub result : Option CType
   pub in_loop : Bool
+  pub outside : ℕ
   pub is_off : Bool
   -- what is known where the walk stands, and at the `break`s and the `continue`s of the innermost loop so far
   pub flow : Knowledge

@@ -1,7 +1,7 @@
 -- The rules of statements, in the order in which they are asked of a node behind its children.
 use Rattle.std.specs.Prelude.{ℕ, Bool, true, false, not, ◌||◌, nat_lt, List, [], ◌∷◌, ◌++◌, length, Option, Some, None, pos}
 use Rattle.ckc_text.specs.declared.place.Span.{Span}
-use Rattle.ckc_text.specs.declared.code.Code.TheVariants.{E08, E12, E13, E15, E30}
+use Rattle.ckc_text.specs.declared.code.Code.TheVariants.{E08, E12, E13, E15, E18, E30}
 use Rattle.ckc_tree.specs.declared.stmt.Mark.{Mark}
 use Rattle.ckc_tree.specs.declared.stmt.Mark.TheVariants as marks
 use Rattle.ckc_tree.specs.declared.stmt.StoreOperator.{StoreOperator}
@@ -16,8 +16,9 @@ use Rattle.bounds_flow.specs.Flows.{Knowledge, entered, met}
 use Rattle.pointer_modes.specs.Types.{CType, Int, Char, Struct, Pointer}
 use Rattle.ckc_core.specs.declared.program.Site.{Site}
 use Rattle.act_words.specs.declared.operator.Operator.{Operator}
-use Rattle.act_words.specs.declared.operator.ArithmeticOperator.TheVariants as arithmetics
-use Rattle.act_words.specs.declared.operator.Operator.TheVariants as operators
+use Rattle.bounds_exprs.specs.declared.term.Bounds.{Bounds}
+use Rattle.ckc_core.specs.declared.program.Direction.{Direction}
+use Rattle.ckc_core.specs.declared.program.Direction.TheVariants as directions
 use Rattle.ckc_core.specs.Core as core
 use Rattle.ckc_core.specs.Steps.{is_char}
 use Rattle.region_typing_rules.specs.Verdicts.{Verdict, Passes, passing, needs, breaks}
@@ -25,7 +26,8 @@ use Rattle.region_typing_rules.specs.Scopes.{Scope}
 use Rattle.region_typing_rules.specs.Types.{is_scalar, without_stars, base_type}
 use Rattle.region_typing_rules.specs.Expressions.{Places, Typed, Value, AStruct, ForNothing, ForArray, For, Called, Gives, GivesNothing}
 use Rattle.region_typing_rules.specs.Expressions.{Lvalue, OfLocal, OfCell, site_at}
-use Rattle.region_typing_rules.specs.Expressions.{typed, call_typed, scalar_of, converted, bounds_met, summands}
+use Rattle.region_typing_rules.specs.Expressions.{typed, call_typed, scalar_of, converted, bounds_met, number_of, two_numbers, without_ptr, operator_along, sum_node}
+use Rattle.region_typing_rules.specs.DeclaredBounds.{declared_bounds}
 use Rattle.region_typing_rules.specs.Readings.{told}
 use Rattle.region_typing_rules.specs.Knowing.{assigned_by, settling, outside_of, knowing, when, cut, broken, continued, with_others, at_loop}
 
@@ -64,26 +66,37 @@ abbrev pub set_to : Knowledge → Typed → Typed → Span → Verdict core.Stat
 set_to f target right span =
     assigned target span (λ type place. converted right type span (λ value. bounds_met f right type span (Passes (store place type value))))
 
--- updates-as-sum: the rules of the sum or the difference of both (E19, E13)
-abbrev pub updated : Places → Operator → Typed → Typed → Span → Verdict core.Statement
-updated at operator target right span =
-    assigned target span (λ type place. summands target right span (λ old value. Passes (update place type operator value (site_at at span))))
+-- a local pointer becomes a sum of it; a pointer in a cell has no bounds, so it has no sums
+abbrev pub moved : Lvalue → core.Expression → Span → Verdict core.Statement
+moved (OfLocal local) sum span = Passes (core.SetLocal local sum)
+moved (OfCell place) sum span = breaks E18 span
 
-abbrev pub stored : Places → Knowledge → StoreOperator → Typed → Typed → Span → Verdict core.Statement
-stored at f stores.Set target right span = set_to f target right span
-stored at f stores.Add target right span = updated at (operators.Arithmetic arithmetics.Add) target right span
-stored at f stores.Subtract target right span = updated at (operators.Arithmetic arithmetics.Subtract) target right span
+abbrev pub updated_as : Scope → Direction → CType → Lvalue → Typed → Typed → Site → Span → Verdict core.Statement
+updated_as g direction (Pointer mode kind target) place (Value type zero pointer old) right site span =
+    number_of right span (λ value. moved place (core.Sum pointer direction value site (sum_node g.locals direction pointer value site)) span)
+updated_as g direction type place target right site span =
+    two_numbers target right span (λ old value. Passes (update place type (operator_along direction) value site))
 
-abbrev pub step_of : StepOperator → Operator
-step_of steps.Increment = operators.Arithmetic arithmetics.Add
-step_of steps.Decrement = operators.Arithmetic arithmetics.Subtract
+-- updates-as-sum: the rules of the sum or the difference of both (E19, E18, E13)
+abbrev pub updated : Places → Scope → Direction → Typed → Typed → Span → Verdict core.Statement
+updated at g direction target right span =
+    assigned target span (λ type place. without_ptr target right span (updated_as g direction type place target right (site_at at span) span))
+
+abbrev pub stored : Places → Scope → StoreOperator → Typed → Typed → Span → Verdict core.Statement
+stored at g stores.Set target right span = set_to g.flow target right span
+stored at g stores.Add target right span = updated at g directions.Forward target right span
+stored at g stores.Subtract target right span = updated at g directions.Backward target right span
+
+abbrev pub step_of : StepOperator → Direction
+step_of steps.Increment = directions.Forward
+step_of steps.Decrement = directions.Backward
 
 abbrev pub one : Typed
 one = Value Int false (core.Number (pos 1)) ForNothing
 
 abbrev pub assignment : Places → Scope → Assignment → Verdict core.Statement
-assignment at g (s.Store operator target value span) = passing (typed at g target) (λ a. passing (typed at g value) (λ b. stored at g.flow operator a b span))
-assignment at g (s.Step operator side target span) = passing (typed at g target) (λ a. updated at (step_of operator) a one span)
+assignment at g (s.Store operator target value span) = passing (typed at g target) (λ a. passing (typed at g value) (λ b. stored at g operator a b span))
+assignment at g (s.Step operator side target span) = passing (typed at g target) (λ a. updated at g (step_of operator) a one span)
 
 -- an assignment, and what is known behind it
 abbrev pub assigning : Places → Scope → Assignment → Verdict Walked
@@ -99,12 +112,12 @@ zero_value Char = core.Number (pos 0)
 zero_value (Struct number) = core.Null
 zero_value (Pointer mode kind target) = core.Null
 
--- a local more, which is visible from now on
-abbrev pub with_local : ℕ → CType → Scope → Scope
-with_local name type g = record g {
+-- a local more, which is visible from now on, with the bounds that are declared for it
+abbrev pub with_local : ℕ → CType → Option Bounds → Scope → Scope
+with_local name type declared g = record g {
   locals = g.locals ++ type ∷ [];
   visible = record { name = name; local = length g.locals } ∷ g.visible;
-  flow = entered (length g.locals) None g.flow;
+  flow = entered (length g.locals) declared g.flow;
 }
 
 -- no-list-for-local: E13. bounds-are-met: E17
@@ -130,13 +143,19 @@ declared g written t local span initial =
     passing (settling (assigned_by g.locals (first_value written initial local t) g.flow) span)
     (λ f. Passes (both (core.SetLocal local (zero_value t)) initial, knowing f g))
 
--- no-struct-local: E13. At each entry of its declaration a local is zero or null before its initial value is evaluated
+-- a local of a type and with bounds: its initial value is read where it has them. no-struct-local: E13. At each entry of its declaration a
+-- local is zero or null before its initial value is evaluated
+abbrev pub bounded_local : Places → Scope → Declarator → CType → Span → Option Bounds → Verdict Walked
+bounded_local at g d t span bounds =
+    passing (initialised at (with_local d.name.number t bounds g) d.initializer t (length g.locals) span) (λ initial.
+    needs (is_scalar t) E13 span (declared (with_local d.name.number t bounds g) d.initializer t (length g.locals) span initial))
+
+-- the names in its bounds are looked up where the local is visible
 abbrev pub declarator : Places → Scope → TypeTree → CType → Span → Declarator → Verdict Walked
 declarator at g base type span d =
     few_locals g span
     (passing (without_stars base d.stars type) (λ t.
-    passing (initialised at (with_local d.name.number t g) d.initializer t (length g.locals) span) (λ initial.
-    needs (is_scalar t) E13 span (declared (with_local d.name.number t g) d.initializer t (length g.locals) span initial))))
+    passing (declared_bounds (with_local d.name.number t None g) t (length g.locals) d.bounds) (bounded_local at g d t span)))
 
 abbrev pub declarators : Places → Scope → TypeTree → CType → Span → List Declarator → Verdict Walked
 declarators at g base type span [] = Passes (core.Nothing, g)
@@ -151,8 +170,8 @@ declaration at g d = few_locals g d.span (passing (base_type g d.base) (λ type.
 
 -- behind a block its names are gone, and its locals keep their numbers
 abbrev pub behind_block : Scope → Scope → Scope
-behind_block outside inside =
-    record inside { visible = outside.visible; in_loop = outside.in_loop; flow = outside_of (length outside.locals) inside inside.flow }
+behind_block before inside =
+    record inside { visible = before.visible; in_loop = before.in_loop; flow = outside_of (length before.locals) inside inside.flow }
 
 -- behind a branch, where another way meets it
 abbrev pub meeting : Knowledge → Scope → Scope
@@ -172,14 +191,15 @@ behind_both g first second = meeting (behind_block g first).flow (behind_block (
 -- behind a loop: its condition came out false, or a `break` led out of it
 abbrev pub behind_loop : Scope → Scope → core.Expression → Scope → Scope
 behind_loop g head condition inside = record (behind_block g inside) {
-  flow = with_others (length g.locals) inside inside.breaks (told g.locals condition false head.flow);
+  outside = g.outside;
+  flow = with_others inside.breaks (told g.locals condition false head.flow);
   breaks = g.breaks;
   continues = g.continues;
 }
 
 -- before the step of a loop: its body ended, or a `continue` led here
 abbrev pub before_step : Scope → Scope → Scope
-before_step g inside = knowing (with_others (length g.locals) inside inside.continues (behind_block g inside).flow) (behind_block g inside)
+before_step g inside = knowing (with_others inside.continues (behind_block g inside).flow) (behind_block g inside)
 
 abbrev pub in_loop : Scope → Scope
 in_loop g = record g { in_loop = true }

@@ -12,8 +12,7 @@ use Rattle.pointer_modes.specs.Types.{CType, Int, Char, Struct, Pointer, Structu
 use Rattle.pointer_modes.specs.Layout.{size_of}
 use Rattle.bounds_exprs.specs.declared.term.Bounds.{Bounds}
 use Rattle.bounds_exprs.specs.Changes.{moved_by}
-use Rattle.bounds_exprs.specs.Terms.{is_within, term_limit}
-use Rattle.bounds_flow_meaning.specs.Holding.{IsValid}
+use Rattle.bounds_flow_meaning.specs.Holding.{IsValid, HasSize, target_size, types_of}
 use Rattle.bounds_flow_meaning.specs.Rows.{slots, HasRow, IsPlace}
 use Rattle.ckc_core.specs.declared.program.Site.{Site}
 use Rattle.act_words.specs.declared.operator.Operator.{Operator}
@@ -30,9 +29,9 @@ use Rattle.ckc_core.specs.Meaning.{bounds_of}
 use Rattle.ckc_core.specs.Steps.{is_char}
 use Rattle.region_typing_rules.specs.Types.{is_number, is_scalar}
 use Rattle.region_typing_rules.specs.Scopes.{Scope}
-use Rattle.region_typing_rules.specs.Readings.{constant, against}
+use Rattle.region_typing_rules.specs.Readings.{constant, against, based_bounds}
 use Rattle.region_typing_rules.specs.Expressions.{bounds_at, row_of, one_element}
-use Rattle.region_typing_rules.specs.KnownIsSo.{IsKnown}
+use Rattle.region_typing_rules.specs.KnownIsSo.{IsKnown, AreLimited}
 
 -- what the parts of a program are typed in: its two sides, and its structs
 pub record Frame : Type 0 where
@@ -76,14 +75,13 @@ pub data IsCallee (g : Frame) : Callee → List CType → Option CType → Type 
 
 -- ---- bounds
 
--- the constants of both ends are those of terms
-pub record AreLimited (b : Bounds) : Type 0 where
-  pub low : is_within term_limit b.lo.plus ≡ true
-  pub high : is_within term_limit b.hi.plus ≡ true
+-- the pointer is valid with the bounds, and their base leads to elements of the size of its own
+abbrev pub IsBoundedBy : List Structure → Bounds → Local → State → Type 0
+IsBoundedBy structs b l s = IsValid structs (Some b) l s × HasSize structs (types_of s.locals) (target_size structs l.type) (Some b)
 
 -- whenever what is known in a scope is so, a local pointer is valid with these bounds
 abbrev pub IsInForce : List Structure → Scope → (local : ℕ) → Bounds → Type 0
-IsInForce structs here k b = (s : State) → IsKnown structs here s → (l : Local) → slice_get s.locals k ≡ Some l → IsValid structs (Some b) l s
+IsInForce structs here k b = (s : State) → IsKnown structs here s → (l : Local) → slice_get s.locals k ≡ Some l → IsBoundedBy structs b l s
 
 -- whenever what is known in a scope is so, a pointer that is valid with these bounds leads to an element
 abbrev pub LeadsToOne : List Structure → Scope → Bounds → Type 0
@@ -93,16 +91,22 @@ LeadsToOne structs here b = (s : State) → IsKnown structs here s → (l : Loca
 abbrev pub AreRows : List Structure → Shape → CType → ℕ → Type 0
 AreRows structs s type n = (k : ℕ) → k < n → HasRow structs s (k * size_of structs type) type
 
--- The bounds of a sum of a pointer of the type and a number, by those of the pointer: they are unknown; or they count from its base as before,
--- or from the local pointer that it is; or a constant moved the ends.
-pub data AreSumBounds (types : List CType) (type : CType) (e : Expression) (direction : Direction) (i : Expression) (p : PointerBounds)
+-- The bounds of a sum of a pointer and a number, by those of the pointer: they are unknown; or they count from its base as before, or those
+-- that it has beside its own do; or a constant moved the ends.
+pub data AreSumBounds (types : List CType) (e : Expression) (direction : Direction) (i : Expression) (p : PointerBounds)
     : Option PointerBounds → Type 0 where
-  unknown : AreSumBounds types type e direction i p None
-  based : {base : ℕ} {site : Site} → p.bounds.base ≡ Some base → AreSumBounds types type e direction i p (Some (record p { site = site }))
-  own : {k : ℕ} {b : Option PointerBounds} {site : Site} → e ≡ core.Local k b → slice_get types k ≡ Some type → p.bounds.base ≡ None
-      → AreSumBounds types type e direction i p (Some (record { bounds = record p.bounds { base = Some k }; size = p.size; site = site }))
+  unknown : AreSumBounds types e direction i p None
+  based : {base : ℕ} {site : Site} → p.bounds.base ≡ Some base → AreSumBounds types e direction i p (Some (record p { site = site }))
+  beside : {d : Bounds} {site : Site} → based_bounds e ≡ Some d
+      → AreSumBounds types e direction i p (Some (record { bounds = d; size = p.size; site = site }))
   moved : {c : ℤ} {q : Bounds} {site : Site} → p.bounds.base ≡ None → constant types i ≡ Some c → moved_by (against direction c) p.bounds ≡ Some q
-      → AreSumBounds types type e direction i p (Some (record { bounds = q; size = p.size; site = site }))
+      → AreSumBounds types e direction i p (Some (record { bounds = q; size = p.size; site = site }))
+
+-- an expression has bounds that count from this local pointer
+pub record CountsFrom (e : Expression) (k : ℕ) : Type 0 where
+  pub bounds : Bounds
+  pub based : based_bounds e ≡ Some bounds
+  pub base : bounds.base ≡ Some k
 
 -- a pointer has these bounds at its node, of elements of the type
 pub record HasElements (structs : List Structure) (e : Expression) (type : CType) (p : PointerBounds) : Type 0 where
@@ -118,9 +122,9 @@ mutual
     word : {z : ℤ} → is_word_number z ≡ true → HasType g locals here (core.Number z) Int
     byte : {z : ℤ} → has_type Char (Number z) ≡ true → HasType g locals here (core.Number z) Char
     null : {mode : Mode} {kind : Kind} {t : CType} → HasType g locals here core.Null (Pointer mode kind t)
-    local : {k : ℕ} {t : CType} {b : Option PointerBounds} → slice_get locals k ≡ Some t → HasBounds g.structs t b → HasType g locals here (core.Local k b) t
+    local : {k : ℕ} {t : CType} {b : Option PointerBounds} → slice_get here.locals k ≡ Some t → HasBounds g.structs t b → HasType g locals here (core.Local k b) t
     -- a pointer with the bounds that are in force
-    bounded : {k : ℕ} {mode : Mode} {t : CType} {p : PointerBounds} → slice_get locals k ≡ Some (Pointer mode kinds.Array t) → p.size ≡ size_of g.structs t
+    bounded : {k : ℕ} {mode : Mode} {t : CType} {p : PointerBounds} → slice_get here.locals k ≡ Some (Pointer mode kinds.Array t) → p.size ≡ size_of g.structs t
         → AreLimited p.bounds → IsInForce g.structs here k p.bounds → HasType g locals here (core.Local k (Some p)) (Pointer mode kinds.Array t)
     -- each char is an int
     widened : {e : Expression} → HasType g locals here e Char → HasType g locals here e Int
@@ -142,7 +146,7 @@ mutual
         → HasType g locals here (core.AddressOf (core.Direct object 0) (Some p)) (Pointer modes.Checked kinds.Array t)
     sum : {e i : Expression} {mode : Mode} {t : CType} {direction : Direction} {site : Site} {p : PointerBounds} {b : Option PointerBounds}
         → HasType g locals here e (Pointer mode kinds.Array t) → HasElements g.structs e t p → HasType g locals here i Int
-        → AreSumBounds here.locals (Pointer mode kinds.Array t) e direction i p b
+        → AreSumBounds here.locals e direction i p b
         → HasType g locals here (core.Sum e direction i site b) (Pointer mode kinds.Array t)
     negate : {e : Expression} {site : Site} → HasType g locals here e Int → HasType g locals here (core.Negate e site) Int
     complement : {e : Expression} → HasType g locals here e Int → HasType g locals here (core.Complement e) Int
@@ -153,6 +157,10 @@ mutual
         → HasType g locals here (core.Compare comparison a b) Int
     same : {mode mode' : Mode} {kind kind' : Kind} {t t' : CType} {a b : Expression} → HasType g locals here a (Pointer mode kind t)
         → HasType g locals here b (Pointer mode' kind' t') → HasType g locals here (core.Same a b) Int
+    -- two pointers that count from one local pointer
+    order : {comparison : Comparison} {a b : Expression} {mode mode' : Mode} {t t' : CType} {k : ℕ} {site : Site}
+        → HasType g locals here a (Pointer mode kinds.Array t) → CountsFrom a k → HasType g locals here b (Pointer mode' kinds.Array t') → CountsFrom b k
+        → HasType g locals here (core.Order comparison a b site) Int
     both : {a b : Expression} {t t' : CType} → HasType g locals here a t → HasType g locals here b t' → HasType g locals here (core.AndAlso a b) Int
     either : {a b : Expression} {t t' : CType} → HasType g locals here a t → HasType g locals here b t' → HasType g locals here (core.OrElse a b) Int
     low_byte : {e : Expression} → HasType g locals here e Int → HasType g locals here (core.LowByte e) Char

@@ -16,6 +16,7 @@ ghost use Rattle.region_typing_rules.specs.NeverStuck.{HasCore, NeverStuck, Neve
 ghost use Rattle.region_typing_rules.specs.KnownIsSo.{ConditionsAreSo, MarkedAlone};
 ghost use Rattle.region_typing_rules.specs.Typed.{IsTyped};
 ghost use Rattle.region_typing_rules.specs.Lowerable.{HasFewFunctions, IsSmallCore};
+ghost use Rattle.region_typing_rules.specs.DeclaredFormed.{DeclaredFormed};
 ghost use Rattle.region_typing_rules.specs.Examples as examples;
 ghost use Rattle.region_typing_rules.specs.ReadingExamples as readings;
 ghost use Rattle.region_typing_rules.specs.KnowingExamples as knowing;
@@ -43,6 +44,12 @@ pub fn knowing()
     ensures heads { knowing.heads }
     ensures shadows { knowing.shadows }
     ensures counts { knowing.counts }
+{}
+
+/// Bounds that are declared for a local are formed: they are of a pointer to elements that have bytes, their ends speak of `int` locals, their
+/// base is a pointer of its mode and element, and their constants are limited.
+pub fn declared_bounds()
+    ensures { DeclaredFormed }
 {}
 
 /// What the walk knows behind a condition that came out so is so in each run, and a statement changes only the variables that the walk

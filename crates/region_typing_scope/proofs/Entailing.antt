@@ -1,14 +1,13 @@
 -- What a flow entails of variables that it hasn't, and values of types that they convert to.
-use Rattle.std.proofs.Common.{◌≡◌, ℕ, zero, suc, ◌+◌, ◌<◌, ◌≤◌, pos, Bool, true, false, ◌||◌, Option, Some, None, List, [], get_or, ◌⊎◌, inl, inr, refl, ap, sym, ◌∙◌, arith}
+use Rattle.std.proofs.Common.{◌≡◌, ℕ, zero, suc, ◌+◌, ◌<◌, ◌≤◌, pos, Bool, true, false, ◌||◌, Option, Some, None, [], get_or, ◌⊎◌, inl, inr, refl, ap, sym, ◌∙◌, arith}
 use Rattle.std.specs.Prelude.{nat_lt}
-use Rattle.std.proofs.lemmas.Int.{ints}
 use Rattle.std.proofs.lemmas.Bool.Decides.{nat_tests}
 use Rattle.ckc_text.specs.declared.place.Span.{Span}
 use Rattle.ckc_text.specs.declared.code.Code.{Code}
 use Rattle.ckc_text.specs.declared.code.Code.TheVariants.{E13, E17}
 use Rattle.bounds_exprs.specs.declared.term.Term.{Term}
-use Rattle.subsumption.specs.ClosedTables.{Pairs, Rows, ClosedTable, Contradiction, Least, values_below, rows_of, entry, is_at_most, entails_terms}
-use Rattle.subsumption.specs.TableLaws.{IsTable, AreClosed}
+use Rattle.subsumption.specs.ClosedTables.{Pairs, Rows, ClosedTable, Contradiction, Least, values_below, rows_of, entry, entails_terms}
+use Rattle.subsumption.specs.TableLaws.{IsTable}
 use Rattle.subsumption.specs.Graphs.{node_of}
 use Rattle.bounds_flow.specs.Flows.{Knowledge}
 use Rattle.pointer_modes.specs.Types.{CType}
@@ -16,7 +15,8 @@ use Rattle.ckc_core.specs.Core as core
 use Rattle.region_typing_rules.specs.Verdicts.{Verdict, Passes, passing, needs}
 use Rattle.region_typing_rules.specs.Types.{converts}
 use Rattle.region_typing_rules.specs.Expressions.{Typed, Value, AStruct, converted, bounds_met, meets, asked_of}
-use Rattle.region_typing_scope.specs.Entailing.{is_below, is_met_as, fitted}
+use Rattle.region_typing_rules.specs.Knowing.{is_below}
+use Rattle.region_typing_scope.specs.Entailing.{is_met_as, fitted}
 
 -- ---- variables that a table hasn't
 

@@ -6,3 +6,4 @@ pub mod Steps
 pub mod Innermost
 pub mod Settled
 pub mod Entailing
+pub mod Declaring

@@ -1,5 +1,5 @@
 -- Inside: the bounds that an expression is asked for as a value of a type, and whether they are met.
-use Rattle.std.specs.Prelude.{ℕ, nat_lt, Bool, true, ◌||◌, Option, Some, None}
+use Rattle.std.specs.Prelude.{Bool, true, ◌||◌, Option, Some, None}
 use Rattle.ckc_text.specs.declared.place.Span.{Span}
 use Rattle.bounds_exprs.specs.declared.term.Bounds.{Bounds}
 use Rattle.bounds_flow.specs.Flows.{Knowledge}
@@ -9,11 +9,6 @@ use Rattle.ckc_core.specs.Core as core
 use Rattle.region_typing_rules.specs.Verdicts.{Verdict, Passes, picked}
 use Rattle.region_typing_rules.specs.Readings.{own_bounds, based_bounds, is_null}
 use Rattle.region_typing_rules.specs.Expressions.{Typed, Value, AStruct, is_met, meets, asked_of, bounds_met, converted}
-
--- the variable, if it is one, is below this number
-abbrev pub is_below : ℕ → Option ℕ → Bool
-is_below vars None = true
-is_below vars (Some x) = nat_lt x vars
 
 -- the bounds of an expression meet those that it is asked for as a value of a type
 abbrev pub is_met_as : Knowledge → Typed → CType → Bool

@@ -14,3 +14,4 @@ pub mod Operands
 pub mod Tracked
 pub mod Settlings
 pub mod Entailing
+pub mod Declaring

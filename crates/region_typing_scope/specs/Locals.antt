@@ -1,5 +1,5 @@
 -- Inside: locals that become visible.
-use Rattle.std.specs.Prelude.{◌≡◌, ◌≤◌, Bool, List, ◌++◌, length, Option}
+use Rattle.std.specs.Prelude.{◌≡◌, ◌≤◌, ℕ, Bool, List, ◌++◌, length, Option}
 use Rattle.bounds_flow.specs.Flows.{Knowledge}
 use Rattle.pointer_modes.specs.Types.{CType}
 use Rattle.region_typing_rules.specs.Scopes.{Visible}
@@ -14,9 +14,11 @@ pub record Grows (old new : code.Scope.Scope) : Type 0 where
   pub types : List CType
   pub names : List Visible
   pub loop : Bool
+  pub outside : ℕ
   pub flow : Knowledge
   pub breaks : Option Knowledge
   pub continues : Option Knowledge
-  pub file : scope new ≡ record (scope old) { locals = types; visible = names; in_loop = loop; flow = flow; breaks = breaks; continues = continues }
+  pub file : scope new
+      ≡ record (scope old) { locals = types; visible = names; in_loop = loop; outside = outside; flow = flow; breaks = breaks; continues = continues }
   pub count : length (scope old).locals ≤ length types
   pub size : flow.vars ≡ old.flow.vars

@@ -23,6 +23,7 @@ scope s = record {
   visible = reverse (map visible s.visible.items);
   result = option_map ctype s.result;
   in_loop = s.in_loop;
+  outside = s.outside;
   is_off = s.is_off;
   flow = s.flow;
   breaks = s.breaks;

@@ -4,7 +4,8 @@ ghost use Rattle.std.specs.Prelude.{◌≡◌, ℕ, IfOk, map};
 ghost use Rattle.pointer_modes.specs.Types.{CType as TypeTree, ctype as ctype_of};
 ghost use Rattle.ckc_core.specs.Core.{AddressOf, Local, Load, Place, expression};
 ghost use Rattle.region_typing_rules.specs.Verdicts.{Passes};
-ghost use Rattle.region_typing_rules.specs.Expressions.{bounds_by as bounds_by_kind, bounds_at as bounds_of_type, noted as noted_with, noted_if as noted_where, with_bounds as noted_typed, row_of as row_of_length, array_typed, sum_node as sum_node_of, site_at};
+ghost use Rattle.bounds_flow.specs.Flows.{held_at};
+ghost use Rattle.region_typing_rules.specs.Expressions.{in_force as in_force_of, bounds_by as bounds_by_kind, bounds_at as bounds_of_type, noted as noted_with, noted_if as noted_where, with_bounds as noted_typed, row_of as row_of_length, array_typed, sum_node as sum_node_of, site_at};
 ghost use Rattle.ckc_text.specs.Places.{place_at};
 ghost use Rattle.region_typing_scope.specs.Answering.{Answers};
 ghost use Rattle.region_typing_scope.specs.Views.{scope as scope_of};
@@ -17,6 +18,7 @@ use crate::scope::Scope;
 use crate::typed::Typed;
 use bounds_exprs::expression::constant as constant_term;
 use bounds_exprs::term::Bounds;
+use bounds_flow::flow::Flow;
 use ckc_core::program::{Direction, Expr, PointerBounds, Site};
 use ckc_text::fault::NoMemory;
 use ckc_text::place::Span;
@@ -62,6 +64,41 @@ pub fn bounds_at(structs: &Structs, t: &CType, site: Site) -> Option<PointerBoun
             bounds_by(*mode, *kind, bounds)
         }
         CType::Int | CType::Char | CType::Struct(_) => None,
+    }
+}
+
+/// The bounds in force of a local; beyond the flow's variables there are none.
+pub fn bounds_in_force(flow: &Flow, local: u32) -> Option<Bounds>
+    ensures { result ≡ (held_at flow.now.held local).bounds }
+{
+    flow.is_flow();
+    if local < flow.vars() {
+        flow.bounds(local)
+    } else {
+        None
+    }
+}
+
+/// The bounds in force of a local pointer to such elements, at its node.
+pub fn in_force(
+    structs: &Structs,
+    kind: Kind,
+    target: &CType,
+    bounds: Option<Bounds>,
+    site: Site,
+) -> Option<PointerBounds>
+    ensures { result ≡ in_force_of structs.now kind (ctype_of target.now) bounds site }
+{
+    match kind {
+        Kind::Array => match bounds {
+            None => None,
+            Some(bounds) => Some(PointerBounds {
+                bounds,
+                size: structs.size_of(target),
+                site,
+            }),
+        },
+        Kind::One | Kind::Nt => None,
     }
 }
 

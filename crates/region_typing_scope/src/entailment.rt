@@ -6,7 +6,7 @@ ghost use Rattle.subsumption.specs.ClosedTables.{entails_terms};
 ghost use Rattle.subsumption.specs.ShownTables.{is_yes as says_yes};
 ghost use Rattle.bounds_flow.specs.Settling.{ends_find, bounds_find};
 ghost use Rattle.region_typing_rules.specs.Expressions.{is_met as is_met_by, asked_as as asked_of_kinds, asked_of as asked_of_types};
-ghost use Rattle.region_typing_scope.specs.Entailing.{asked_for as asked_for_in, is_below, is_met_as, own_of, based_of};
+ghost use Rattle.region_typing_scope.specs.Entailing.{asked_for as asked_for_in, is_met_as, own_of, based_of};
 ghost use Rattle.region_typing_scope.specs.Typed.{typed};
 
 use crate::bounds::row_of;
@@ -18,17 +18,8 @@ use ckc_text::fault::NoMemory;
 use pointer_modes::ctype::{CType, Kind};
 use region_typing_flow::conditions::is_null;
 use region_typing_flow::readings::{based_bounds, local_bounds, own_bounds};
+use region_typing_flow::sources::is_below;
 use subsumption::fact::Answer;
-
-// Whether a term is of one of so many variables, or of none.
-fn is_among(vars: u32, t: &Term) -> bool
-    ensures { result ≡ is_below vars t.now.var }
-{
-    match t.var {
-        None => true,
-        Some(var) => var < vars,
-    }
-}
 
 // Whether an answer is yes.
 fn is_yes(answer: &Answer) -> bool
@@ -113,7 +104,7 @@ impl Scope {
         ensures { IfOk result (λ yes. yes ≡ entails_terms a.now b.now self.now.flow.facts) }
     {
         self.flow.is_flow();
-        if is_among(self.most_locals, a) && is_among(self.most_locals, b) {
+        if is_below(self.most_locals, a.var) && is_below(self.most_locals, b.var) {
             let answer = self.flow.entails(a, b)?;
             return Ok(is_yes(&answer));
         }

@@ -53,6 +53,7 @@ impl Scope {
             visible: Vec::new(alloc),
             result: None,
             in_loop: false,
+            outside: 0,
             is_off: false,
             flow: Flow::new(alloc, 0)?,
             breaks: None,
@@ -139,13 +140,14 @@ impl Scope {
         variables: u32,
     ) -> Result<(), NoMemory>
         requires { variables ≤ 256 }
-        ensures { OnOk result (scope_of self.new ≡ record (scope_of self.old) { locals = []; visible = []; result = option_map ctype_of returned; in_loop = false; flow = at_entry variables; breaks = None; continues = None }) }
+        ensures { OnOk result (scope_of self.new ≡ record (scope_of self.old) { locals = []; visible = []; result = option_map ctype_of returned; in_loop = false; outside = 0; flow = at_entry variables; breaks = None; continues = None }) }
     {
         let flow = Flow::new(context.alloc(), variables)?;
         self.locals = Vec::new(context.alloc());
         self.visible = Vec::new(context.alloc());
         self.result = returned;
         self.in_loop = false;
+        self.outside = 0;
         self.flow = flow;
         self.breaks = None;
         self.continues = None;
@@ -155,9 +157,10 @@ impl Scope {
 
     /// Leaves a function, and gives the types of its locals.
     pub fn exit(&mut self, context: &Context) -> Result<Vec<CType>, NoMemory>
-        ensures known { OnOk result (scope_of self.new ≡ record (scope_of self.old) { locals = []; visible = []; result = None; in_loop = false; flow = at_entry 0; breaks = None; continues = None }) }
+        ensures known { OnOk result (scope_of self.new ≡ record (scope_of self.old) { locals = []; visible = []; result = None; in_loop = false; outside = 0; flow = at_entry 0; breaks = None; continues = None }) }
         ensures locals { IfOk result (λ locals. map ctype_of locals.items ≡ (scope_of self.old).locals) }
     {
+        self.outside = 0;
         let locals = mem::replace(&mut self.locals, Vec::new(context.alloc()));
         self.enter(context, None, 0)?;
         Ok(locals)

@@ -5,7 +5,7 @@ ghost use Rattle.std.specs.List.{All};
 ghost use Rattle.ckc_core.specs.Core.{expression as expression_of, statement as statement_of};
 ghost use Rattle.bounds_flow.specs.Flows.{at_head};
 ghost use Rattle.region_typing_rules.specs.Readings.{told as told_of};
-ghost use Rattle.region_typing_rules.specs.Knowing.{with_way as with_way_of, knowing, when, cut as cut_of, broken, continued, with_others};
+ghost use Rattle.region_typing_rules.specs.Knowing.{with_way as with_way_of, knowing, when, cut as cut_of, way_out as way_out_of, broken, continued, with_others};
 ghost use Rattle.region_typing_rules.specs.Statements.{meeting};
 ghost use Rattle.region_typing_scope.specs.Answering.{Answers};
 ghost use Rattle.region_typing_scope.specs.Settlings.{answered, settled_scope};
@@ -111,13 +111,24 @@ impl Scope {
         self.flow.cut()
     }
 
+    // What is known on a way out of the innermost loop, or on to its next turn.
+    fn way_out(&self) -> Result<Flow, NoMemory>
+        ensures known { IfOk result (λ flow. flow ≡ way_out_of (scope_of self.now)) }
+        ensures size { IfOk result (λ flow. flow.vars ≡ self.now.flow.vars) }
+    {
+        let count = self.locals.len() as u32 - self.outside;
+        let mut way = self.flow.copy()?;
+        steps::leave(self.outside, count, &mut way)?;
+        Ok(way)
+    }
+
     /// This way leads out of the innermost loop.
     pub fn break_off(&mut self) -> Result<(), NoMemory>
         ensures known { OnOk result (scope_of self.new ≡ broken (scope_of self.old)) }
         ensures seen { OnOk result (self.new.visible.items ≡ self.old.visible.items) }
         ensures size { OnOk result (self.new.flow.vars ≡ self.old.flow.vars) }
     {
-        let way = self.flow.copy()?;
+        let way = self.way_out()?;
         let before = mem::replace(&mut self.breaks, None);
         self.breaks = Some(with_way(way, before)?);
         self.flow.cut()
@@ -129,17 +140,18 @@ impl Scope {
         ensures seen { OnOk result (self.new.visible.items ≡ self.old.visible.items) }
         ensures size { OnOk result (self.new.flow.vars ≡ self.old.flow.vars) }
     {
-        let way = self.flow.copy()?;
+        let way = self.way_out()?;
         let before = mem::replace(&mut self.continues, None);
         self.continues = Some(with_way(way, before)?);
         self.flow.cut()
     }
 
-    /// Enters a loop that assigns these locals, and gives the ways of the loop around.
+    /// Enters a loop that assigns these locals, and gives what is known of the loop around.
     pub fn enter_loop(&mut self, assigned: &[u32]) -> Result<Ways, NoMemory>
         requires { All (λ x. x < self.old.flow.vars) assigned.now }
-        ensures known { OnOk result (scope_of self.new ≡ record (scope_of self.old) { flow = at_head assigned.now (scope_of self.old).flow; breaks = None; continues = None }) }
-        ensures around { IfOk result (λ ways. ways ≡ record { breaks = self.old.breaks; continues = self.old.continues }) }
+        ensures known { OnOk result (scope_of self.new ≡ record (scope_of self.old) { outside = length (scope_of self.old).locals; flow = at_head assigned.now (scope_of self.old).flow; breaks = None; continues = None }) }
+        ensures around { IfOk result (λ ways. ways ≡ record { outside = self.old.outside; breaks = self.old.breaks; continues = self.old.continues }) }
+        ensures few { IfOk result (λ ways. ways.outside ≤ length self.old.locals.items) }
         ensures seen { OnOk result (self.new.visible.items ≡ self.old.visible.items) }
         ensures locals { OnOk result (self.new.locals.items ≡ self.old.locals.items) }
         ensures size { OnOk result (self.new.flow.vars ≡ self.old.flow.vars) }
@@ -147,44 +159,47 @@ impl Scope {
         self.flow.enter_loop(assigned)?;
         let breaks = mem::replace(&mut self.breaks, None);
         let continues = mem::replace(&mut self.continues, None);
-        Ok(Ways { breaks, continues })
+        let outside = mem::replace(&mut self.outside, self.locals.len() as u32);
+        Ok(Ways {
+            outside,
+            breaks,
+            continues,
+        })
     }
 
-    /// The end of a loop's body meets its `continue`s, once the locals from this number on have left their scopes there.
-    pub fn end_turn(&mut self, local: u32) -> Result<(), NoMemory>
-        requires { local ≤ length self.old.locals.items }
-        ensures known { OnOk result (scope_of self.new ≡ knowing (with_others local (scope_of self.old) (scope_of self.old).continues (scope_of self.old).flow) (scope_of self.old)) }
+    /// The end of a loop's body meets its `continue`s.
+    pub fn end_turn(&mut self) -> Result<(), NoMemory>
+        ensures known { OnOk result (scope_of self.new ≡ knowing (with_others (scope_of self.old).continues (scope_of self.old).flow) (scope_of self.old)) }
         ensures seen { OnOk result (self.new.visible.items ≡ self.old.visible.items) }
         ensures locals { OnOk result (self.new.locals.items ≡ self.old.locals.items) }
         ensures size { OnOk result (self.new.flow.vars ≡ self.old.flow.vars) }
     {
-        let count = self.locals.len() as u32 - local;
         if let Some(others) = &self.continues {
-            let mut others = others.copy()?;
-            steps::leave(local, count, &mut others)?;
-            self.flow.join(&others)?;
+            self.flow.join(others)?;
         }
         Ok(())
     }
 
-    /// Leaves a loop: what is known where its condition came out false meets its `break`s, once the locals from this number
-    /// on have left their scopes there.
-    pub fn leave_loop(&mut self, local: u32, over: Flow, around: Ways) -> Result<(), NoMemory>
-        requires locals { local ≤ length self.old.locals.items }
+    /// Leaves a loop: what is known where its condition came out false meets its `break`s.
+    pub fn leave_loop(&mut self, over: Flow, around: Ways) -> Result<(), NoMemory>
+        requires outside { around.outside ≤ length self.old.locals.items }
         requires size { over.vars ≡ self.old.flow.vars }
         requires breaks { HasVars self.old.flow.vars around.breaks }
         requires continues { HasVars self.old.flow.vars around.continues }
-        ensures known { OnOk result (scope_of self.new ≡ record (scope_of self.old) { flow = with_others local (scope_of self.old) (scope_of self.old).breaks over; breaks = around.breaks; continues = around.continues }) }
+        ensures known { OnOk result (scope_of self.new ≡ record (scope_of self.old) { outside = around.outside; flow = with_others (scope_of self.old).breaks over; breaks = around.breaks; continues = around.continues }) }
         ensures seen { OnOk result (self.new.visible.items ≡ self.old.visible.items) }
         ensures size { OnOk result (self.new.flow.vars ≡ self.old.flow.vars) }
     {
-        let Ways { breaks, continues } = around;
-        let count = self.locals.len() as u32 - local;
+        let Ways {
+            outside,
+            breaks,
+            continues,
+        } = around;
         let mut behind = over;
-        if let Some(others) = &mut self.breaks {
-            steps::leave(local, count, others)?;
+        if let Some(others) = &self.breaks {
             behind.join(others)?;
         }
+        self.outside = outside;
         self.flow = behind;
         self.breaks = breaks;
         self.continues = continues;

@@ -1,13 +1,17 @@
 // The locals of the function that is walked.
 
-ghost use Rattle.std.specs.Prelude.{◌≡◌, ◌<◌, ◌≤◌, ◌++◌, ◌∷◌, [], map, reverse, take, length, nat_lt, OnOk};
-ghost use Rattle.pointer_modes.specs.Types.{ctype as ctype_of};
+ghost use Rattle.std.specs.Prelude.{◌≡◌, ◌<◌, ◌≤◌, ℕ, ◌++◌, ◌∷◌, [], None, map, reverse, take, length, nat_lt, OnOk};
+ghost use Rattle.bounds_flow.specs.Conditions.{AreBoundsBelow};
+ghost use Rattle.pointer_modes.specs.Types.{CType as TypeTree, ctype as ctype_of};
+ghost use Rattle.region_typing_rules.specs.Scopes.{Scope as ScopeTree};
 ghost use Rattle.region_typing_rules.specs.Knowing.{outside_of};
 ghost use Rattle.region_typing_rules.specs.Statements.{with_local};
+ghost use Rattle.region_typing_scope.specs.Declaring.{last_declared};
 ghost use Rattle.region_typing_scope.specs.Views.{scope as scope_of, visible as visible_of};
 
 use crate::scope::{BlockStart, Scope};
 use crate::visible::Visible;
+use bounds_exprs::term::Bounds;
 use ckc_text::fault::NoMemory;
 use pointer_modes::ctype::CType;
 use region_typing_flow::steps;
@@ -23,7 +27,8 @@ impl Scope {
     /// A local more, which is visible from now on.
     pub fn add_local(&mut self, name: usize, ctype: CType) -> Result<(), NoMemory>
         requires { length self.old.locals.items < self.old.flow.vars }
-        ensures known { OnOk result (scope_of self.new ≡ with_local name (ctype_of ctype) (scope_of self.old)) }
+        ensures known { OnOk result (scope_of self.new ≡ with_local name (ctype_of ctype) None (scope_of self.old)) }
+        ensures locals { OnOk result (self.new.locals.items ≡ self.old.locals.items ++ ctype ∷ []) }
         ensures seen { OnOk result ((v : _) × (self.new.visible.items ≡ self.old.visible.items ++ v ∷ [])) }
         ensures size { OnOk result (self.new.flow.vars ≡ self.old.flow.vars) }
     {
@@ -33,6 +38,20 @@ impl Scope {
         self.flow.enter(local, None)?;
         self.locals.push_reserved(ctype);
         Ok(())
+    }
+
+    /// The local that was added last has these bounds at its declaration, or none.
+    pub fn declare(&mut self, bounds: Option<Bounds>) -> Result<(), NoMemory>
+        requires below { AreBoundsBelow self.old.flow.vars bounds }
+        requires last { 0 < length self.old.locals.items }
+        ensures known { OnOk result (scope_of self.new ≡ last_declared bounds (scope_of self.old)) }
+        ensures added { OnOk result ((g : ScopeTree) (name : ℕ) (t : TypeTree) → scope_of self.old ≡ with_local name t None g → scope_of self.new ≡ with_local name t bounds g) }
+        ensures seen { OnOk result (self.new.visible.items ≡ self.old.visible.items) }
+        ensures locals { OnOk result (self.new.locals.items ≡ self.old.locals.items) }
+        ensures size { OnOk result (self.new.flow.vars ≡ self.old.flow.vars) }
+    {
+        let last = self.locals.len() as u32 - 1;
+        self.flow.enter(last, bounds)
     }
 
     /// Where a block begins that begins here.

@@ -32,9 +32,10 @@ pub struct BlockStart {
     pub in_loop: bool,
 }
 
-/// What is known at the `break`s and at the `continue`s of a loop so far.
+/// How many locals there are outside of a loop, and what is known at its `break`s and at its `continue`s so far.
 #[derive(Drop)]
 pub struct Ways {
+    pub outside: u32,
     pub breaks: Option<Flow>,
     pub continues: Option<Flow>,
 }
@@ -55,6 +56,8 @@ pub struct Scope {
     pub visible: Vec<Visible>,
     pub result: Option<CType>,
     pub in_loop: bool,
+    /// How many locals there are outside of the innermost loop.
+    pub outside: u32,
     pub is_off: bool,
     /// What is known of the locals where the walk stands.
     pub flow: Flow,
@@ -75,6 +78,7 @@ pub struct Scope {
     ghost distinct: { are_distinct (map signature functions.items) ≡ true },
     ghost few_variables: { length variables.items ≤ 4096 },
     ghost few_locals: { length locals.items ≤ flow.vars },
+    ghost few_outside: { outside ≤ length locals.items },
     ghost tracked: { flow.vars ≡ most_locals },
     ghost few_tracked: { most_locals ≤ 256 },
     ghost breaks_alike: { HasVars flow.vars breaks },

@@ -8,10 +8,13 @@ ghost use Rattle.region_typing_rules.specs.Items.{is_zero as zero_typed};
 ghost use Rattle.region_typing_scope.specs.Typed.{typed, base_place};
 ghost use Rattle.region_typing_scope.specs.OnHeap.{typed as typed_on_heap};
 
+use crate::bounds::{bounds_in_force, in_force};
 use crate::context::Context;
+use bounds_flow::flow::Flow;
 use ckc_core::program::{CellPlace, Expr, Index, PointerBounds, Site};
 use ckc_text::fault::NoMemory;
 use pointer_modes::ctype::CType;
+use pointer_modes::structs::Structs;
 
 /// The first cell of a value in memory: of a file-level variable, of what a pointer points to, or of an element.
 #[derive(Drop)]
@@ -136,15 +139,23 @@ pub fn first_cell(base: Base) -> CellPlace
     }
 }
 
-/// What a local holds.
-pub fn at_local(ctype: CType, local: u32) -> Typed
-    ensures { typed result ≡ local_typed local (ctype_of ctype) }
+/// What a local holds, with the bounds in force of a pointer to an array at its node.
+pub fn at_local(structs: &Structs, flow: &Flow, ctype: CType, local: u32, site: Site) -> Typed
+    ensures { typed result ≡ local_typed structs.now flow.now local (ctype_of ctype) site }
 {
     match ctype {
         CType::Struct(number) => Typed::Struct {
             number,
             place: StructPlace::Local(local),
         },
+        CType::Pointer(mode, kind, target) => {
+            let bounds = in_force(structs, kind, &target, bounds_in_force(flow, local), site);
+            Typed::Local {
+                ctype: CType::Pointer(mode, kind, target),
+                local,
+                bounds,
+            }
+        }
         ctype => Typed::Local {
             ctype,
             local,

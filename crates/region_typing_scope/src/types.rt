@@ -23,7 +23,8 @@ pub fn copied(context: &Context, t: &CType) -> Result<CType, NoMemory>
     t.copy(context.alloc())
 }
 
-fn same_mode(a: Mode, b: Mode) -> bool
+/// Whether two modes are the same.
+pub fn same_mode(a: Mode, b: Mode) -> bool
     ensures { result ≡ same_mode_of a b }
 {
     match (a, b) {

@@ -3,20 +3,24 @@ use Rattle.std.proofs.Common.{◌≡◌, ℕ, ◌<◌, map, drop, get_or, true, 
 use Rattle.std.proofs.lemmas.List.{length-map}
 use Rattle.ckc_text.specs.declared.place.Span.{Span}
 use Rattle.region_typing_scope.specs.declared.refusals.CheckError.{CheckError}
+use Rattle.bounds_exprs.specs.declared.term.Bounds.{Bounds}
 use Rattle.ckc_tree.specs.Types.{TypeTree}
+use Rattle.ckc_tree.specs.Expressions as written
 use Rattle.ckc_tree.specs.declared.stmt.Declarator as code_declarator
 use Rattle.ckc_tree.specs.Statements.{Initializer, Declarator, declarator as declarator_tree}
 use Rattle.pointer_modes.specs.Types.{CType, ctype}
 use Rattle.ckc_core.specs.declared.program.Stmt.{Stmt}
 use Rattle.ckc_core.specs.Core as core
 use Rattle.region_typing_scope.specs.OnHeap.{statement}
-use Rattle.region_typing_rules.specs.Verdicts.{Passes, passing}
+use Rattle.region_typing_rules.specs.Verdicts.{Verdict, Passes, passing}
 use Rattle.region_typing_rules.specs.Scopes.{Scope}
 use Rattle.region_typing_rules.specs.Types.{without_stars}
 use Rattle.region_typing_rules.specs.Expressions.{Places}
-use Rattle.region_typing_rules.specs.Statements.{both, zero_value, with_local, first_value, declarator, declarators}
+use Rattle.region_typing_rules.specs.DeclaredBounds.{declared_bounds}
+use Rattle.region_typing_rules.specs.Statements.{both, zero_value, with_local, first_value, bounded_local, declarator, declarators}
 use Rattle.region_typing_scope.specs.declared.scope as code
 use Rattle.region_typing_scope.specs.Views.{scope}
+use Rattle.region_typing_scope.specs.Answering.{Answers}
 use Rattle.region_typing_scope.specs.Locals.{Grows}
 use Rattle.region_typing_statements.specs.Walks.{Walks, chosen, from_zero, declared_local}
 use Rattle.region_typing_scope.proofs.Steps.{parts_at}
@@ -26,15 +30,30 @@ use Rattle.region_typing_statements.proofs.Walking.{from_more}
 pub declarator_parts : (at : Places) (g : Scope) (base : TypeTree) (t : CType) (span : Span) (d : Declarator) → nat_lt (length g.locals) g.flow.vars ≡ true → declarator at g base t span d ≡ passing (without_stars base d.stars t) (λ u. declared_local at g d u span)
 declarator_parts at g base t span d few = rw few refl
 
--- a local that became visible
-pub local_declared : (at : Places) (d : Declarator) (t u : CType) (local : ℕ) (span : Span) (old mid new : code.Scope.Scope) (r : Result (Box Stmt Global) CheckError) → scope mid ≡ with_local d.name.number u (scope old) → u ≡ t → local ≡ length old.locals.items → Grows old mid
-    → Walks statement (from_zero at (scope mid) d.initializer t local span) mid r new → Walks statement (declared_local at (scope old) d t span) old r new
-local_declared at d t u local span old mid new r known same number more walk =
-    let here : scope mid ≡ with_local d.name.number t (scope old) = known ∙ ap (λ (v : CType). with_local d.name.number v (scope old)) same in
+answered_as : {A C : Type 0} (view : C → A) (v w : Verdict A) (r : Result C CheckError) → v ≡ w → Answers view w r → Answers view v r
+answered_as view v w r is answer = rw is answer
+
+-- a local that became visible, without bounds
+pub local_added : (name : ℕ) (t u : CType) (old mid : code.Scope.Scope) → scope mid ≡ with_local name u None (scope old) → u ≡ t → scope mid ≡ with_local name t None (scope old)
+local_added name t u old mid known same = known ∙ ap (λ (v : CType). with_local name v None (scope old)) same
+
+-- the bounds that are declared for it
+pub bounds_declared : (name : ℕ) (t : CType) (local : ℕ) (text : Option written.Bounds) (old mid : code.Scope.Scope) (r : Result (Option Bounds) CheckError) → scope mid ≡ with_local name t None (scope old) → local ≡ length old.locals.items
+    → Answers (λ (b : Option Bounds). b) (declared_bounds (scope mid) t local text) r → Answers (λ (b : Option Bounds). b) (declared_bounds (with_local name t None (scope old)) t (length (scope old).locals) text) r
+bounds_declared name t local text old mid r here number answer =
     let last : local ≡ length (scope old).locals = number ∙ sym (length-map old.locals.items ctype) in
-    let by_number = λ (n : ℕ). from_zero at (with_local d.name.number t (scope old)) d.initializer t n span in
+    let by_number = λ (n : ℕ). declared_bounds (with_local name t None (scope old)) t n text in
+    let by_scope = λ (g : Scope). declared_bounds g t local text in
+    answered_as (λ (b : Option Bounds). b) (by_number (length (scope old).locals)) (by_scope (scope mid)) r (ap by_number (sym last) ∙ ap by_scope (sym here)) answer
+
+-- what it is at first, where it has them
+pub local_declared : (at : Places) (d : Declarator) (t : CType) (bounds : Option Bounds) (local : ℕ) (span : Span) (old mid new : code.Scope.Scope) (r : Result (Box Stmt Global) CheckError) → scope mid ≡ with_local d.name.number t bounds (scope old) → local ≡ length old.locals.items → Grows old mid
+    → Walks statement (from_zero at (scope mid) d.initializer t local span) mid r new → Walks statement (bounded_local at (scope old) d t span bounds) old r new
+local_declared at d t bounds local span old mid new r here number more walk =
+    let last : local ≡ length (scope old).locals = number ∙ sym (length-map old.locals.items ctype) in
+    let by_number = λ (n : ℕ). from_zero at (with_local d.name.number t bounds (scope old)) d.initializer t n span in
     let by_scope = λ (g : Scope). from_zero at g d.initializer t local span in
-    from_more statement (declared_local at (scope old) d t span) (by_scope (scope mid)) old mid new r (ap by_number (sym last) ∙ ap by_scope (sym here)) more walk
+    from_more statement (bounded_local at (scope old) d t span bounds) (by_scope (scope mid)) old mid new r (ap by_number (sym last) ∙ ap by_scope (sym here)) more walk
 
 -- few locals, as the code counts them
 pub few_counted : (g : code.Scope.Scope) → nat_lt (length g.locals.items) g.flow.vars ≡ nat_lt (length (scope g).locals) (scope g).flow.vars

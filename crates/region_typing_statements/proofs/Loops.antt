@@ -54,7 +54,7 @@ turned at g outside first test step body =
     let last : core.Statement × Scope → Verdict (core.Statement × Scope) = λ t. Passes (both first t.0, behind_block outside t.1) in
     in_parts (optional_condition at head test) _ last
     ∙ same_behind (optional_condition at head test) _ _ (λ c. in_parts (nested at (when c true head) true body) _ last
-    ∙ nested_on at (when c true head) (in_loop (when c true head)) body (λ x. passing {B = core.Statement × Scope} (passing {B = core.Statement × Scope} (optional_step at (after_turn (length g.locals) x.1) step) (λ y. Passes (core.Loop c x.0 y.0, behind g head c y.1))) last)
+    ∙ nested_on at (when c true head) (in_loop (when c true head)) body (λ x. passing {B = core.Statement × Scope} (passing {B = core.Statement × Scope} (optional_step at (after_turn x.1) step) (λ y. Passes (core.Loop c x.0 y.0, behind g head c y.1))) last)
     ∙ same_behind (statement at (in_loop (when c true head)) body) _ _ (λ x. in_parts (optional_step at (before_step g x.1) step) (λ y. Passes (core.Loop c x.0 y.0, behind g head c y.1)) last
     ∙ same_behind (optional_step at (before_step g x.1) step) _ _ (λ y. ended first outside g body step c x.0 y)))
   where

@@ -5,6 +5,7 @@ use Rattle.std.proofs.lemmas.List.{append-nil, take_at, length-map, length-appen
 use Rattle.std.proofs.lemmas.Result.{err_from_is_err_and}
 use Rattle.region_typing_scope.specs.declared.refusals.CheckError.{CheckError}
 use Rattle.region_typing_scope.specs.declared.refusals.CheckError.TheVariants.{Source, Unnamed, NoMemory}
+use Rattle.bounds_exprs.specs.declared.term.Bounds.{Bounds}
 use Rattle.pointer_modes.specs.Types.{CType, ctype}
 use Rattle.region_typing_rules.specs.Verdicts.{Stop, Broken, Nameless, Verdict, Passes, Stops, passing}
 use Rattle.region_typing_rules.specs.Scopes.{Scope}
@@ -21,7 +22,7 @@ use Rattle.region_typing_statements.specs.Walks.{Walks, walks_so}
 -- ---- locals that become visible
 
 pub none_more : (a : code.Scope.Scope) → Grows a a
-none_more a = record { more = []; seen = sym (append-nil a.visible.items); types = (scope a).locals; names = (scope a).visible; loop = a.in_loop; flow = a.flow; breaks = a.breaks; continues = a.continues; file = refl; count = omega arith; size = refl }
+none_more a = record { more = []; seen = sym (append-nil a.visible.items); types = (scope a).locals; names = (scope a).visible; loop = a.in_loop; outside = a.outside; flow = a.flow; breaks = a.breaks; continues = a.continues; file = refl; count = omega arith; size = refl }
 
 pub grown : {a b c : code.Scope.Scope} → Grows a b → Grows b c → Grows a c
 grown {a} {b} {c} first rest = record {
@@ -30,10 +31,11 @@ grown {a} {b} {c} first rest = record {
   types = rest.types;
   names = rest.names;
   loop = rest.loop;
+  outside = rest.outside;
   flow = rest.flow;
   breaks = rest.breaks;
   continues = rest.continues;
-  file = rest.file ∙ ap (λ (g : Scope). record g { locals = rest.types; visible = rest.names; in_loop = rest.loop; flow = rest.flow; breaks = rest.breaks; continues = rest.continues }) first.file;
+  file = rest.file ∙ ap (λ (g : Scope). record g { locals = rest.types; visible = rest.names; in_loop = rest.loop; outside = rest.outside; flow = rest.flow; breaks = rest.breaks; continues = rest.continues }) first.file;
   count = (let middle = rest.count in let held = ap (λ (g : Scope). length g.locals) first.file in omega (arith, first.count, middle, held));
   size = rest.size ∙ ap (λ (g : Scope). g.flow.vars) first.file ∙ first.size;
 }
@@ -42,14 +44,15 @@ grown {a} {b} {c} first rest = record {
 pub size_kept : {a b : code.Scope.Scope} → Grows a b → b.flow.vars ≡ a.flow.vars
 size_kept more = ap (λ (g : Scope). g.flow.vars) more.file ∙ more.size
 
--- a scope in which something else is known of numbers and pointers
-pub other_flow : (f : Knowledge) (bs cs : Option Knowledge) (a b : code.Scope.Scope) → scope b ≡ record (scope a) { flow = f; breaks = bs; continues = cs } → b.visible.items ≡ a.visible.items → b.flow.vars ≡ a.flow.vars → Grows a b
-other_flow f bs cs a b known seen size = record {
+-- a scope around which another loop is innermost
+pub other_turns : (outside : ℕ) (f : Knowledge) (bs cs : Option Knowledge) (a b : code.Scope.Scope) → scope b ≡ record (scope a) { outside = outside; flow = f; breaks = bs; continues = cs } → b.visible.items ≡ a.visible.items → b.flow.vars ≡ a.flow.vars → Grows a b
+other_turns outside f bs cs a b known seen size = record {
   more = [];
   seen = seen ∙ sym (append-nil a.visible.items);
   types = (scope a).locals;
   names = (scope a).visible;
   loop = a.in_loop;
+  outside = outside;
   flow = f;
   breaks = bs;
   continues = cs;
@@ -58,22 +61,35 @@ other_flow f bs cs a b known seen size = record {
   size = sym (ap (λ (g : Scope). g.flow.vars) known) ∙ size;
 }
 
+-- a scope in which something else is known of numbers and pointers
+pub other_flow : (f : Knowledge) (bs cs : Option Knowledge) (a b : code.Scope.Scope) → scope b ≡ record (scope a) { flow = f; breaks = bs; continues = cs } → b.visible.items ≡ a.visible.items → b.flow.vars ≡ a.flow.vars → Grows a b
+other_flow f bs cs a b known seen size = other_turns a.outside f bs cs a b known seen size
+
+-- no local goes away
+pub none_gone : {a b : code.Scope.Scope} → Grows a b → length a.locals.items ≤ length b.locals.items
+none_gone {a} {b} more =
+    let before = length-map a.locals.items ctype in
+    let held = ap (λ (g : Scope). length g.locals) more.file in
+    let behind = length-map b.locals.items ctype in
+    omega (arith, before, held, behind, more.count)
+
+pub still_outside : {a b : code.Scope.Scope} {outside : ℕ} → Grows a b → outside ≤ length a.locals.items → outside ≤ length b.locals.items
+still_outside more few = let kept = none_gone more in omega (arith, few, kept)
+
 -- the locals that a block began with are still there
 pub still_there : (a b : code.Scope.Scope) (start : code.BlockStart.BlockStart) → start ≡ record { visible = length a.visible.items; locals = length a.locals.items; in_loop = a.in_loop } → Grows a b → start.locals ≤ length b.locals.items
 still_there a b start begins more =
     let first = ap (λ (x : code.BlockStart.BlockStart). x.locals) begins in
-    let before = length-map a.locals.items ctype in
-    let held = ap (λ (g : Scope). length g.locals) more.file in
-    let behind = length-map b.locals.items ctype in
-    omega (arith, first, before, held, behind, more.count)
+    let kept = none_gone more in
+    omega (arith, first, kept)
 
 -- a scope in which a local became visible
-pub one_more : (name : ℕ) (t : CType) (a b : code.Scope.Scope) → scope b ≡ with_local name t (scope a) → ((v : visible_code.Visible.Visible) × (b.visible.items ≡ a.visible.items ++ v ∷ [])) → Grows a b
-one_more name t a b known seen = record { more = seen.0 ∷ []; seen = seen.1; types = (scope a).locals ++ t ∷ []; names = _; loop = _; flow = _; breaks = _; continues = _; file = known; count = omega (arith, length-append (scope a).locals (t ∷ [])); size = refl }
+pub one_more : (name : ℕ) (t : CType) (bounds : Option Bounds) (a b : code.Scope.Scope) → scope b ≡ with_local name t bounds (scope a) → ((v : visible_code.Visible.Visible) × (b.visible.items ≡ a.visible.items ++ v ∷ [])) → Grows a b
+one_more name t bounds a b known seen = record { more = seen.0 ∷ []; seen = seen.1; types = (scope a).locals ++ t ∷ []; names = _; loop = _; outside = _; flow = _; breaks = _; continues = _; file = known; count = omega (arith, length-append (scope a).locals (t ∷ [])); size = refl }
 
 -- a scope whose loop is another
 pub other_loop : (loop : Bool) (a b : code.Scope.Scope) → scope b ≡ record (scope a) { in_loop = loop } → b.visible.items ≡ a.visible.items → Grows a b
-other_loop loop a b known seen = record { more = []; seen = seen ∙ sym (append-nil a.visible.items); types = (scope a).locals; names = (scope a).visible; loop = loop; flow = a.flow; breaks = a.breaks; continues = a.continues; file = known; count = omega arith; size = refl }
+other_loop loop a b known seen = record { more = []; seen = seen ∙ sym (append-nil a.visible.items); types = (scope a).locals; names = (scope a).visible; loop = loop; outside = a.outside; flow = a.flow; breaks = a.breaks; continues = a.continues; file = known; count = omega arith; size = refl }
 
 -- those that were visible before
 seen_before : {a b : code.Scope.Scope} → Grows a b → take (length a.visible.items) b.visible.items ≡ a.visible.items
@@ -100,6 +116,7 @@ left start outside inside new begins more known seen size =
         types = more.types;
         names = (scope outside).visible;
         loop = outside.in_loop;
+        outside = more.outside;
         flow = (behind_block (scope outside) (scope inside)).flow;
         breaks = more.breaks;
         continues = more.continues;

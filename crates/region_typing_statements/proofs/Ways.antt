@@ -1,9 +1,7 @@
 -- Ways that part and meet between other steps of a walk.
-use Rattle.std.proofs.Common.{◌≡◌, ℕ, Bool, true, false, Option, length, Result, Box, Global, ap, sym, ◌∙◌}
-use Rattle.std.proofs.lemmas.List.{length-map}
+use Rattle.std.proofs.Common.{◌≡◌, ℕ, Bool, true, false, Option, Result, Box, Global, ap, sym, ◌∙◌}
 use Rattle.ckc_tree.specs.Statements.{Statement}
 use Rattle.bounds_flow.specs.Flows.{Knowledge}
-use Rattle.pointer_modes.specs.Types.{ctype}
 use Rattle.ckc_core.specs.declared.program.Expr.{Expr}
 use Rattle.ckc_core.specs.Core as core
 use Rattle.region_typing_scope.specs.declared.refusals.CheckError.{CheckError}
@@ -17,14 +15,20 @@ use Rattle.region_typing_scope.specs.Views.{scope}
 use Rattle.region_typing_scope.specs.OnHeap.{expression}
 use Rattle.region_typing_statements.specs.Walks.{Walks}
 use Rattle.region_typing_statements.specs.Parts.{nested, over}
-use Rattle.region_typing_statements.proofs.Walking.{from_more, other_flow}
+use Rattle.region_typing_statements.proofs.Walking.{from_more, other_turns, other_flow}
+
+-- from the head of a loop
+pub headed : {B D : Type 0} (view : D → B) (of : Scope → Verdict (B × Scope)) (outside : ℕ) (f : Knowledge) (bs cs : Option Knowledge) (a b new : code.Scope.Scope) (r : Result D CheckError)
+    → scope b ≡ record (scope a) { outside = outside; flow = f; breaks = bs; continues = cs } → b.visible.items ≡ a.visible.items → b.flow.vars ≡ a.flow.vars
+    → Walks view (of (scope b)) b r new → Walks view (of (record (scope a) { outside = outside; flow = f; breaks = bs; continues = cs })) a r new
+headed view of outside f bs cs a b new r known seen size walk =
+    from_more view (of (record (scope a) { outside = outside; flow = f; breaks = bs; continues = cs })) (of (scope b)) a b new r (ap of (sym known)) (other_turns outside f bs cs a b known seen size) walk
 
 -- behind a step that speaks of numbers and pointers alone
 pub stepped : {B D : Type 0} (view : D → B) (of : Scope → Verdict (B × Scope)) (f : Knowledge) (bs cs : Option Knowledge) (a b new : code.Scope.Scope) (r : Result D CheckError)
     → scope b ≡ record (scope a) { flow = f; breaks = bs; continues = cs } → b.visible.items ≡ a.visible.items → b.flow.vars ≡ a.flow.vars
     → Walks view (of (scope b)) b r new → Walks view (of (record (scope a) { flow = f; breaks = bs; continues = cs })) a r new
-stepped view of f bs cs a b new r known seen size walk =
-    from_more view (of (record (scope a) { flow = f; breaks = bs; continues = cs })) (of (scope b)) a b new r (ap of (sym known)) (other_flow f bs cs a b known seen size) walk
+stepped view of f bs cs a b new r known seen size walk = headed view of a.outside f bs cs a b new r known seen size walk
 
 -- a nested statement on the way on which a condition came out true
 pub parted : {B D : Type 0} (at : Places) (s : Statement) (loop : Bool) (view : D → B) (next : core.Statement × Scope → Knowledge → Verdict (B × Scope)) (c : Box Expr Global) (o : Knowledge) (a b new : code.Scope.Scope) (r : Result D CheckError)
@@ -44,13 +48,7 @@ pub turned : {B D : Type 0} (at : Places) (s : Statement) (view : D → B) (f : 
 turned at s view f next a b new r known seen size walk =
     stepped view (λ g. passing (nested at g (scope a).in_loop s) next) f (scope a).breaks (scope a).continues a b new r known seen size walk
 
--- where locals begin, as the code counts them
-pub counted : (a : code.Scope.Scope) (start : code.BlockStart.BlockStart) → start ≡ record { visible = length a.visible.items; locals = length a.locals.items; in_loop = a.in_loop } → start.locals ≡ length (scope a).locals
-counted a start is = ap (λ (b : code.BlockStart.BlockStart). b.locals) is ∙ sym (length-map a.locals.items ctype)
-
 -- behind a loop
-pub left_loop : (a n l : code.Scope.Scope) (local : ℕ) (o : Knowledge) (around : code.Ways.Ways) → scope l ≡ record (scope n) { flow = with_others local (scope n) (scope n).breaks o; breaks = around.breaks; continues = around.continues } → local ≡ length (scope a).locals
-    → around ≡ record { breaks = a.breaks; continues = a.continues } → scope l ≡ over (length (scope a).locals) o (scope a).breaks (scope a).continues (scope n)
-left_loop a n l local o around known count ways =
-    known ∙ ap (λ (k : ℕ). over k o around.breaks around.continues (scope n)) count
-    ∙ ap (λ (w : code.Ways.Ways). over (length (scope a).locals) o w.breaks w.continues (scope n)) ways
+pub left_loop : (a n l : code.Scope.Scope) (o : Knowledge) (around : code.Ways.Ways) → scope l ≡ record (scope n) { outside = around.outside; flow = with_others (scope n).breaks o; breaks = around.breaks; continues = around.continues }
+    → around ≡ record { outside = a.outside; breaks = a.breaks; continues = a.continues } → scope l ≡ over a.outside o (scope a).breaks (scope a).continues (scope n)
+left_loop a n l o around known ways = known ∙ ap (λ (w : code.Ways.Ways). over w.outside o w.breaks w.continues (scope n)) ways

@@ -1,5 +1,5 @@
 -- Inside: the rules of statements by their parts.
-use Rattle.std.specs.Prelude.{ℕ, Bool, true, false, List, [], ◌∷◌, length, Option, None}
+use Rattle.std.specs.Prelude.{ℕ, Bool, true, false, List, [], ◌∷◌, Option, None}
 use Rattle.bounds_flow.specs.Flows.{Knowledge}
 use Rattle.ckc_text.specs.declared.place.Span.{Span}
 use Rattle.ckc_text.specs.declared.code.Code.TheVariants.{E13}
@@ -53,23 +53,24 @@ otherwise at b alternative =
     passing (nested at (knowing b.0.2 b.1) b.1.in_loop alternative) (λ y. Passes (core.If b.0.0 b.0.1 y.0, meeting b.1.flow y.1))
 
 -- the end of a loop's body, where its `continue`s meet it
-abbrev pub after_turn : (local : ℕ) → Scope → Scope
-after_turn local g = knowing (with_others local g g.continues g.flow) g
+abbrev pub after_turn : Scope → Scope
+after_turn g = knowing (with_others g.continues g.flow) g
 
--- behind a loop with locals from this number on, in which this is known where its condition came out false
-abbrev pub over : (local : ℕ) → Knowledge → Option Knowledge → Option Knowledge → Scope → Scope
-over local otherwise breaks continues g = record g { flow = with_others local g g.breaks otherwise; breaks = breaks; continues = continues }
+-- behind a loop in which this is known where its condition came out false, with what is known of the loop around
+abbrev pub over : (outside : ℕ) → Knowledge → Option Knowledge → Option Knowledge → Scope → Scope
+over outside otherwise breaks continues g =
+    record g { outside = outside; flow = with_others g.breaks otherwise; breaks = breaks; continues = continues }
 
 abbrev pub behind : Scope → Scope → core.Expression → Scope → Scope
-behind g head c inside = over (length g.locals) (told head.locals c false head.flow) g.breaks g.continues inside
+behind g head c inside = over g.outside (told head.locals c false head.flow) g.breaks g.continues inside
 
 -- the step of a loop behind its body, from what is known before it
 abbrev pub step_ended : Places → Scope → core.Expression → Option Assignment → core.Statement → Knowledge → Scope → Verdict (core.Statement × Scope)
 step_ended at g c step body otherwise before =
-    passing (optional_step at before step) (λ y. Passes (core.Loop c body y.0, over (length g.locals) otherwise g.breaks g.continues y.1))
+    passing (optional_step at before step) (λ y. Passes (core.Loop c body y.0, over g.outside otherwise g.breaks g.continues y.1))
 
 abbrev pub turn_ended : Places → Scope → core.Expression → Option Assignment → core.Statement × Scope → Knowledge → Verdict (core.Statement × Scope)
-turn_ended at g c step x otherwise = step_ended at g c step x.0 otherwise (after_turn (length g.locals) x.1)
+turn_ended at g c step x otherwise = step_ended at g c step x.0 otherwise (after_turn x.1)
 
 -- the turns of a loop, from its head
 abbrev pub turns_from : Places → Scope → Scope → Statement → Option Expression → Option Assignment → Verdict (core.Statement × Scope)

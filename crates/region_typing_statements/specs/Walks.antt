@@ -11,7 +11,8 @@ use Rattle.ckc_tree.specs.Statements.{Initializer, Declarator}
 use Rattle.region_typing_rules.specs.Verdicts.{Verdict, Passes, Breaks, Unnamed, passing, needs}
 use Rattle.region_typing_rules.specs.Expressions.{Places, typed, converted, bounds_met}
 use Rattle.region_typing_rules.specs.Types.{is_scalar}
-use Rattle.region_typing_rules.specs.Statements.{initialised, with_local, declared}
+use Rattle.region_typing_rules.specs.DeclaredBounds.{declared_bounds}
+use Rattle.region_typing_rules.specs.Statements.{initialised, with_local, declared, bounded_local}
 use Rattle.region_typing_rules.specs.Scopes.{Scope}
 use Rattle.region_typing_scope.specs.declared.scope as code
 use Rattle.region_typing_scope.specs.Views.{scope}
@@ -43,6 +44,7 @@ abbrev pub from_zero : Places → Scope → Option Initializer → CType → ℕ
 from_zero at g written t local span =
     passing (initialised at g written t local span) (λ initial. needs (is_scalar t) E13 span (declared g written t local span initial))
 
--- a local more, which is given what it is at first
+-- a local more, with the bounds that are declared for it, which is given what it is at first
 abbrev pub declared_local : Places → Scope → Declarator → CType → Span → Verdict (core.Statement × Scope)
-declared_local at g d t span = from_zero at (with_local d.name.number t g) d.initializer t (length g.locals) span
+declared_local at g d t span =
+    passing (declared_bounds (with_local d.name.number t None g) t (length g.locals) d.bounds) (bounded_local at g d t span)

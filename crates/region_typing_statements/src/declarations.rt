@@ -20,6 +20,7 @@ use ckc_text::place::Span;
 use ckc_tree::stmt::{Declaration, Declarator};
 use ckc_tree::type_form::TypeForm;
 use pointer_modes::ctype::CType;
+use region_typing_bounds::declared::declared_bounds;
 use region_typing_scope::context::Context;
 use region_typing_scope::refusals::{CheckError, needs};
 use region_typing_scope::scope::Scope;
@@ -34,7 +35,7 @@ fn few_locals(scope: &Scope, span: Span) -> Result<(), CheckError>
     Ok(())
 }
 
-// A local more, which is given what it is at first.
+// A local more, with the bounds that are declared for it, which is given what it is at first.
 fn declared(
     context: &Context,
     scope: &mut Scope,
@@ -48,6 +49,8 @@ fn declared(
     let local = scope.locals.len() as u32;
     let kept = copied(context, t)?;
     scope.add_local(d.name.number, kept)?;
+    let bounds = declared_bounds(context, scope, t, local, &d.bounds)?;
+    scope.declare(bounds)?;
     from_zero(context, scope, &d.initializer, t, local, span)
 }
 

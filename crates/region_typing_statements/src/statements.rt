@@ -208,13 +208,12 @@ fn while_loop(
 ) -> Result<Box<Stmt>, CheckError>
     ensures { Walks statement_of (while_in (place_at context.now) (scope_of scope.old) (expression_tree test.now) (statement_tree body.now)) scope.old result scope.new }
 {
-    let local = scope.block_start().locals;
     let assigned = assigned_in(context, scope, body, &None)?;
     let around = scope.enter_loop(assigned.as_slice())?;
     let test = condition(context, scope, test)?;
     let over = scope.part(&test)?;
     let body = nested(context, scope, true, body)?;
-    scope.leave_loop(local, over, around)?;
+    scope.leave_loop(over, around)?;
     let nothing = context.boxed(Stmt::Nothing)?;
     Ok(repeated(context, test, body, nothing)?)
 }
@@ -249,15 +248,14 @@ fn turns(
 ) -> Result<Box<Stmt>, CheckError>
     ensures { Walks statement_of (turns_in (place_at context.now) (scope_of scope.old) (statement_tree body.now) (option_map on_heap test.now) (option_map assignment_tree step.now)) scope.old result scope.new }
 {
-    let local = scope.block_start().locals;
     let assigned = assigned_in(context, scope, body, step)?;
     let around = scope.enter_loop(assigned.as_slice())?;
     let test = optional_condition(context, scope, test)?;
     let over = scope.part(&test)?;
     let body = nested(context, scope, true, body)?;
-    scope.end_turn(local)?;
+    scope.end_turn()?;
     let step = optional_step(context, scope, step)?;
-    scope.leave_loop(local, over, around)?;
+    scope.leave_loop(over, around)?;
     Ok(repeated(context, test, body, step)?)
 }
 

@@ -1,4 +1,4 @@
-use Rattle.std.proofs.Common.{◌≡◌, ap, sym, ◌∙◌}
+use Rattle.std.proofs.Common.{ap, sym, ◌∙◌}
 use Rattle.pointer_modes.specs.Types.{ctype}
 use Rattle.ckc_core.specs.Core.{expression}
 use Rattle.region_typing_rules.specs.Verdicts.{Passes}

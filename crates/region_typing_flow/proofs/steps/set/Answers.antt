@@ -17,5 +17,5 @@ pub assign_pointer-requires-clause-below : goal.assign_pointer-requires-clause-b
 assign_pointer-requires-clause-below c =
     let types = map ctype c.args.locals.now in
     let few : length types ≤ c.args.flow.now.vars = rw length-map c.requires in
-    let below : c.args.local < length types = bounds_below types c.args.local (slice_get types c.args.local) refl c.in-Bounds.ensures in
+    let below : c.args.local < length types = bounds_below types c.args.local (slice_get types c.args.local) c.in-Bounds.kind refl c.in-Bounds.ensures in
     omega arith

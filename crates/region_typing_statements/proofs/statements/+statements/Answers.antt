@@ -13,11 +13,11 @@ use Rattle.region_typing_scope.specs.Views.{scope}
 use Rattle.region_typing_rules.specs.Verdicts.{Passes}
 use Rattle.region_typing_scope.specs.OnHeap.{statement, expression}
 use Rattle.region_typing_statements.specs.Parts.{branched, over, turn_ended, step_ended, turns_from, while_from}
-use Rattle.region_typing_statements.proofs.Walking.{goes_on, refused, walks_on, refused_walk, refused_by, done, done_in, left, left_walk, grown, size_kept, still_there, other_flow, other_loop, none_more, kept_as}
+use Rattle.region_typing_statements.proofs.Walking.{goes_on, refused, walks_on, refused_walk, refused_by, done, done_in, left, left_walk, grown, size_kept, still_there, still_outside, other_turns, other_flow, other_loop, none_more, kept_as}
 use Rattle.region_typing_statements.proofs.Testing.{walk_fails, tested}
 use Rattle.region_typing_statements.proofs.Rows.{block_tree}
 use Rattle.region_typing_statements.proofs.Loops.{call_parts, if_walk, if_else_walk, while_walk, for_walk, nested_walk, nested_broken}
-use Rattle.region_typing_statements.proofs.Ways.{stepped, parted, turned, counted, left_loop}
+use Rattle.region_typing_statements.proofs.Ways.{headed, stepped, parted, turned, left_loop}
 use Rattle.region_typing_statements.proofs.Sequences.{behind_empty, statement_more, statement_breaks, statements_done}
 use Rattle.region_typing_statements.proofs.statements.+statements.Goals as goal
 
@@ -75,21 +75,21 @@ otherwise-returns t c =
 pub while_loop-returns-in_err-test : goal.while_loop-returns-in_err-test
 while_loop-returns-in_err-test t c =
     let entered = c.in_ok-around.ensures in
-    let headed = rw (c.as_slice.ensures.value, c.in_ok-assigned.ensures.known) at entered.known in
-    stepped statement (λ h. while_from (place_at c.args.context.now) (scope c.args.scope.now) h (trees.expression c.args.test.now) (s.statement c.args.body.now)) _ _ _ c.args.scope.now c.enter_loop.new.self c.enter_loop.new.self c.from_residual-in_err-test.result headed entered.seen entered.size
+    let at_head = rw (c.as_slice.ensures.value, c.in_ok-assigned.ensures.known) at entered.known in
+    headed statement (λ h. while_from (place_at c.args.context.now) (scope c.args.scope.now) h (trees.expression c.args.test.now) (s.statement c.args.body.now)) _ _ _ _ c.args.scope.now c.enter_loop.new.self c.enter_loop.new.self c.from_residual-in_err-test.result at_head entered.seen entered.size
     (refused _ c.from_residual-in_err-test.result c.from_residual-in_err-test.ensures.1 c.in_err-test.ensures)
 
 pub while_loop-returns-in_err-body : goal.while_loop-returns-in_err-body
 while_loop-returns-in_err-body t c =
     let g = scope c.args.scope.now in
     let entered = c.in_ok-around.ensures in
-    let headed = rw (c.as_slice.ensures.value, c.in_ok-assigned.ensures.known) at entered.known in
+    let at_head = rw (c.as_slice.ensures.value, c.in_ok-assigned.ensures.known) at entered.known in
     let parts = c.in_ok-over.ensures in
     let known = rw c.deref.ensures at parts.known in
     let other = rw c.deref.ensures at parts.other in
-    stepped statement (λ h. while_from (place_at c.args.context.now) g h (trees.expression c.args.test.now) (s.statement c.args.body.now)) _ _ _ c.args.scope.now c.enter_loop.new.self c.nested.new.scope c.from_residual-in_err-body.result headed entered.seen entered.size
+    headed statement (λ h. while_from (place_at c.args.context.now) g h (trees.expression c.args.test.now) (s.statement c.args.body.now)) _ _ _ _ c.args.scope.now c.enter_loop.new.self c.nested.new.scope c.from_residual-in_err-body.result at_head entered.seen entered.size
     (goes_on _ c.in_ok-test.ensures
-    (parted (place_at c.args.context.now) (s.statement c.args.body.now) true statement (λ x o. Passes (core.Loop (expression c.in_ok-test.test) x.0 core.Nothing, over (length g.locals) o g.breaks g.continues x.1)) c.in_ok-test.test c.in_ok-over.over c.enter_loop.new.self c.part.new.self c.nested.new.scope c.from_residual-in_err-body.result known other parts.seen parts.size
+    (parted (place_at c.args.context.now) (s.statement c.args.body.now) true statement (λ x o. Passes (core.Loop (expression c.in_ok-test.test) x.0 core.Nothing, over g.outside o g.breaks g.continues x.1)) c.in_ok-test.test c.in_ok-over.over c.enter_loop.new.self c.part.new.self c.nested.new.scope c.from_residual-in_err-body.result known other parts.seen parts.size
     (refused_walk _ c.from_residual-in_err-body.result c.from_residual-in_err-body.ensures.1 c.in_err-body.ensures)))
 
 pub while_loop-returns : goal.while_loop-returns
@@ -97,22 +97,22 @@ while_loop-returns t c =
     let g = scope c.args.scope.now in
     let built = rw c.in_ok-nothing.ensures at c.in_ok-repeated.ensures in
     let entered = c.in_ok-around.ensures in
-    let headed = rw (c.as_slice.ensures.value, c.in_ok-assigned.ensures.known) at entered.known in
+    let at_head = rw (c.as_slice.ensures.value, c.in_ok-assigned.ensures.known) at entered.known in
     let parts = c.in_ok-over.ensures in
     let known = rw c.deref.ensures at parts.known in
     let other = rw c.deref.ensures at parts.other in
     let gone = c.in_ok-leave_loop.ensures in
-    let left = left_loop c.args.scope.now c.nested.new.scope c.leave_loop.new.self c.block_start-local.result.locals c.in_ok-over.over c.in_ok-around.around gone.known (counted c.args.scope.now c.block_start-local.result c.block_start-local.ensures) entered.around in
-    stepped statement (λ h. while_from (place_at c.args.context.now) g h (trees.expression c.args.test.now) (s.statement c.args.body.now)) _ _ _ c.args.scope.now c.enter_loop.new.self c.leave_loop.new.self (Ok _) headed entered.seen entered.size
+    let left = left_loop c.args.scope.now c.nested.new.scope c.leave_loop.new.self c.in_ok-over.over c.in_ok-around.around gone.known entered.around in
+    headed statement (λ h. while_from (place_at c.args.context.now) g h (trees.expression c.args.test.now) (s.statement c.args.body.now)) _ _ _ _ c.args.scope.now c.enter_loop.new.self c.leave_loop.new.self (Ok _) at_head entered.seen entered.size
     (goes_on _ c.in_ok-test.ensures
-    (parted (place_at c.args.context.now) (s.statement c.args.body.now) true statement (λ x o. Passes (core.Loop (expression c.in_ok-test.test) x.0 core.Nothing, over (length g.locals) o g.breaks g.continues x.1)) c.in_ok-test.test c.in_ok-over.over c.enter_loop.new.self c.part.new.self c.leave_loop.new.self (Ok _) known other parts.seen parts.size
-    (walks_on _ c.in_ok-body.ensures (done_in statement c.in_ok-repeated.field-0 _ c.nested.new.scope c.leave_loop.new.self _ built left (other_flow _ _ _ c.nested.new.scope c.leave_loop.new.self left gone.seen gone.size)))))
+    (parted (place_at c.args.context.now) (s.statement c.args.body.now) true statement (λ x o. Passes (core.Loop (expression c.in_ok-test.test) x.0 core.Nothing, over g.outside o g.breaks g.continues x.1)) c.in_ok-test.test c.in_ok-over.over c.enter_loop.new.self c.part.new.self c.leave_loop.new.self (Ok _) known other parts.seen parts.size
+    (walks_on _ c.in_ok-body.ensures (done_in statement c.in_ok-repeated.field-0 _ c.nested.new.scope c.leave_loop.new.self _ built left (other_turns _ _ _ _ c.nested.new.scope c.leave_loop.new.self left gone.seen gone.size)))))
 
 pub turns-returns-in_err-test : goal.turns-returns-in_err-test
 turns-returns-in_err-test t c =
     let entered = c.in_ok-around.ensures in
-    let headed = rw (c.as_slice.ensures.value, c.in_ok-assigned.ensures.known) at entered.known in
-    stepped statement (λ h. turns_from (place_at c.args.context.now) (scope c.args.scope.now) h (s.statement c.args.body.now) (option_map s.on_heap c.args.test.now) (option_map s.assignment c.args.step.now)) _ _ _ c.args.scope.now c.enter_loop.new.self c.enter_loop.new.self c.from_residual-in_err-test.result headed entered.seen entered.size
+    let at_head = rw (c.as_slice.ensures.value, c.in_ok-assigned.ensures.known) at entered.known in
+    headed statement (λ h. turns_from (place_at c.args.context.now) (scope c.args.scope.now) h (s.statement c.args.body.now) (option_map s.on_heap c.args.test.now) (option_map s.assignment c.args.step.now)) _ _ _ _ c.args.scope.now c.enter_loop.new.self c.enter_loop.new.self c.from_residual-in_err-test.result at_head entered.seen entered.size
     (refused _ c.from_residual-in_err-test.result c.from_residual-in_err-test.ensures.1 c.in_err-test.ensures)
 
 pub turns-returns-in_err-body : goal.turns-returns-in_err-body
@@ -121,11 +121,11 @@ turns-returns-in_err-body t c =
     let at = place_at c.args.context.now in
     let step = option_map s.assignment c.args.step.now in
     let entered = c.in_ok-around.ensures in
-    let headed = rw (c.as_slice.ensures.value, c.in_ok-assigned.ensures.known) at entered.known in
+    let at_head = rw (c.as_slice.ensures.value, c.in_ok-assigned.ensures.known) at entered.known in
     let parts = c.in_ok-over.ensures in
     let known = rw c.deref.ensures at parts.known in
     let other = rw c.deref.ensures at parts.other in
-    stepped statement (λ h. turns_from at g h (s.statement c.args.body.now) (option_map s.on_heap c.args.test.now) step) _ _ _ c.args.scope.now c.enter_loop.new.self c.nested.new.scope c.from_residual-in_err-body.result headed entered.seen entered.size
+    headed statement (λ h. turns_from at g h (s.statement c.args.body.now) (option_map s.on_heap c.args.test.now) step) _ _ _ _ c.args.scope.now c.enter_loop.new.self c.nested.new.scope c.from_residual-in_err-body.result at_head entered.seen entered.size
     (goes_on _ c.in_ok-test.ensures
     (parted at (s.statement c.args.body.now) true statement (λ x o. turn_ended at g (expression c.in_ok-test.test) step x o) c.in_ok-test.test c.in_ok-over.over c.enter_loop.new.self c.part.new.self c.nested.new.scope c.from_residual-in_err-body.result known other parts.seen parts.size
     (refused_walk _ c.from_residual-in_err-body.result c.from_residual-in_err-body.ensures.1 c.in_err-body.ensures)))
@@ -136,13 +136,13 @@ turns-returns-in_err-step t c =
     let at = place_at c.args.context.now in
     let step = option_map s.assignment c.args.step.now in
     let entered = c.in_ok-around.ensures in
-    let headed = rw (c.as_slice.ensures.value, c.in_ok-assigned.ensures.known) at entered.known in
+    let at_head = rw (c.as_slice.ensures.value, c.in_ok-assigned.ensures.known) at entered.known in
     let parts = c.in_ok-over.ensures in
     let known = rw c.deref.ensures at parts.known in
     let other = rw c.deref.ensures at parts.other in
     let ended = c.in_ok-end_turn.ensures in
-    let last = rw (counted c.args.scope.now c.block_start-local.result c.block_start-local.ensures) at ended.known in
-    stepped statement (λ h. turns_from at g h (s.statement c.args.body.now) (option_map s.on_heap c.args.test.now) step) _ _ _ c.args.scope.now c.enter_loop.new.self c.optional_step.new.scope c.from_residual-in_err-step.result headed entered.seen entered.size
+    let last = ended.known in
+    headed statement (λ h. turns_from at g h (s.statement c.args.body.now) (option_map s.on_heap c.args.test.now) step) _ _ _ _ c.args.scope.now c.enter_loop.new.self c.optional_step.new.scope c.from_residual-in_err-step.result at_head entered.seen entered.size
     (goes_on _ c.in_ok-test.ensures
     (parted at (s.statement c.args.body.now) true statement (λ x o. turn_ended at g (expression c.in_ok-test.test) step x o) c.in_ok-test.test c.in_ok-over.over c.enter_loop.new.self c.part.new.self c.optional_step.new.scope c.from_residual-in_err-step.result known other parts.seen parts.size
     (walks_on _ c.in_ok-body.ensures
@@ -155,21 +155,20 @@ turns-returns t c =
     let at = place_at c.args.context.now in
     let step = option_map s.assignment c.args.step.now in
     let entered = c.in_ok-around.ensures in
-    let headed = rw (c.as_slice.ensures.value, c.in_ok-assigned.ensures.known) at entered.known in
+    let at_head = rw (c.as_slice.ensures.value, c.in_ok-assigned.ensures.known) at entered.known in
     let parts = c.in_ok-over.ensures in
     let known = rw c.deref.ensures at parts.known in
     let other = rw c.deref.ensures at parts.other in
     let ended = c.in_ok-end_turn.ensures in
-    let count = counted c.args.scope.now c.block_start-local.result c.block_start-local.ensures in
-    let last = rw count at ended.known in
+    let last = ended.known in
     let gone = c.in_ok-leave_loop.ensures in
-    let left = left_loop c.args.scope.now c.optional_step.new.scope c.leave_loop.new.self c.block_start-local.result.locals c.in_ok-over.over c.in_ok-around.around gone.known count entered.around in
-    stepped statement (λ h. turns_from at g h (s.statement c.args.body.now) (option_map s.on_heap c.args.test.now) step) _ _ _ c.args.scope.now c.enter_loop.new.self c.leave_loop.new.self (Ok _) headed entered.seen entered.size
+    let left = left_loop c.args.scope.now c.optional_step.new.scope c.leave_loop.new.self c.in_ok-over.over c.in_ok-around.around gone.known entered.around in
+    headed statement (λ h. turns_from at g h (s.statement c.args.body.now) (option_map s.on_heap c.args.test.now) step) _ _ _ _ c.args.scope.now c.enter_loop.new.self c.leave_loop.new.self (Ok _) at_head entered.seen entered.size
     (goes_on _ c.in_ok-test.ensures
     (parted at (s.statement c.args.body.now) true statement (λ x o. turn_ended at g (expression c.in_ok-test.test) step x o) c.in_ok-test.test c.in_ok-over.over c.enter_loop.new.self c.part.new.self c.leave_loop.new.self (Ok _) known other parts.seen parts.size
     (walks_on _ c.in_ok-body.ensures
     (stepped statement (λ k. step_ended at g (expression c.in_ok-test.test) step (statement c.in_ok-body.body) c.in_ok-over.over k) _ _ _ c.nested.new.scope c.end_turn.new.self c.leave_loop.new.self (Ok _) last ended.seen ended.size
-    (walks_on _ c.in_ok-step.ensures (done_in statement c.in_ok-repeated.field-0 _ c.optional_step.new.scope c.leave_loop.new.self _ c.in_ok-repeated.ensures left (other_flow _ _ _ c.optional_step.new.scope c.leave_loop.new.self left gone.seen gone.size)))))))
+    (walks_on _ c.in_ok-step.ensures (done_in statement c.in_ok-repeated.field-0 _ c.optional_step.new.scope c.leave_loop.new.self _ c.in_ok-repeated.ensures left (other_turns _ _ _ _ c.optional_step.new.scope c.leave_loop.new.self left gone.seen gone.size)))))))
 
 pub for_loop-returns-in_err-first : goal.for_loop-returns-in_err-first
 for_loop-returns-in_err-first t c = refused_walk _ c.from_residual.result c.from_residual.ensures.1 c.in_err-first.ensures
@@ -288,28 +287,18 @@ nested-leave-requires t c =
     still_there c.args.scope.now c.statement.new.scope c.block_start-start.result c.block_start-start.ensures
     (grown (other_loop c.args.in_loop c.args.scope.now c.set_in_loop.new.self c.set_in_loop.ensures.known c.set_in_loop.ensures.seen) c.in_ok-inner.ensures.so.1)
 
-pub while_loop-leave_loop-requires-clause-locals : goal.while_loop-leave_loop-requires-clause-locals
-while_loop-leave_loop-requires-clause-locals t c =
+pub while_loop-leave_loop-requires-clause-outside : goal.while_loop-leave_loop-requires-clause-outside
+while_loop-leave_loop-requires-clause-outside t c =
     let entered = c.in_ok-around.ensures in
     let parts = c.in_ok-over.ensures in
-    still_there c.args.scope.now c.nested.new.scope c.block_start-local.result c.block_start-local.ensures
-    (grown (other_flow _ _ _ c.args.scope.now c.enter_loop.new.self entered.known entered.seen entered.size)
-    (grown (other_flow _ _ _ c.enter_loop.new.self c.part.new.self parts.known parts.seen parts.size) c.in_ok-body.ensures.so.1))
+    still_outside (grown (other_turns _ _ _ _ c.args.scope.now c.enter_loop.new.self entered.known entered.seen entered.size)
+    (grown (other_flow _ _ _ c.enter_loop.new.self c.part.new.self parts.known parts.seen parts.size) c.in_ok-body.ensures.so.1)) entered.few
 
-pub turns-end_turn-requires : goal.turns-end_turn-requires
-turns-end_turn-requires t c =
-    let entered = c.in_ok-around.ensures in
-    let parts = c.in_ok-over.ensures in
-    still_there c.args.scope.now c.nested.new.scope c.block_start-local.result c.block_start-local.ensures
-    (grown (other_flow _ _ _ c.args.scope.now c.enter_loop.new.self entered.known entered.seen entered.size)
-    (grown (other_flow _ _ _ c.enter_loop.new.self c.part.new.self parts.known parts.seen parts.size) c.in_ok-body.ensures.so.1))
-
-pub turns-leave_loop-requires-clause-locals : goal.turns-leave_loop-requires-clause-locals
-turns-leave_loop-requires-clause-locals t c =
+pub turns-leave_loop-requires-clause-outside : goal.turns-leave_loop-requires-clause-outside
+turns-leave_loop-requires-clause-outside t c =
     let entered = c.in_ok-around.ensures in
     let parts = c.in_ok-over.ensures in
     let ended = c.in_ok-end_turn.ensures in
-    still_there c.args.scope.now c.optional_step.new.scope c.block_start-local.result c.block_start-local.ensures
-    (grown (other_flow _ _ _ c.args.scope.now c.enter_loop.new.self entered.known entered.seen entered.size)
+    still_outside (grown (other_turns _ _ _ _ c.args.scope.now c.enter_loop.new.self entered.known entered.seen entered.size)
     (grown (other_flow _ _ _ c.enter_loop.new.self c.part.new.self parts.known parts.seen parts.size)
-    (grown c.in_ok-body.ensures.so.1 (grown (other_flow _ _ _ c.nested.new.scope c.end_turn.new.self ended.known ended.seen ended.size) c.in_ok-step.ensures.so.1))))
+    (grown c.in_ok-body.ensures.so.1 (grown (other_flow _ _ _ c.nested.new.scope c.end_turn.new.self ended.known ended.seen ended.size) c.in_ok-step.ensures.so.1)))) entered.few
