@@ -1,1 +1,1 @@
-int main(void) { array_ptr<int> a; return 0; }
+int main(void) { nt_array_ptr<char> s; return 0; }

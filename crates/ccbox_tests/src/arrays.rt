@@ -17,7 +17,12 @@ const ITEMS: &str = "[refused E08 1:1 limit]@int a _Checked[0]; int main(void) {
 [refused E13 1:1 type]@int a _Checked[2] = {1, 2, 3}; int main(void) { return 0; }
 [refused E13 1:1 type]@int a _Checked[2] = 1; int main(void) { return 0; }
 [refused E13 1:1 type]@int a _Checked[2] = 0; int main(void) { return 0; }
-[refused E13 1:1 type]@ptr<int> a _Checked[2] = {0}; int main(void) { return 0; }
+[refused E13 1:1 type]@ptr<int> a _Checked[2] = {1}; int main(void) { return 0; }
+[refused E13 1:1 type]@ptr<int> a _Checked[2] = {0, 0, 0}; int main(void) { return 0; }
+[refused E13 1:1 type]@ptr<int> a _Checked[2] = {0, -1}; int main(void) { return 0; }
+[refused E13 1:1 type]@ptr<int> a _Checked[2] = {0, '\\0'}; int main(void) { return 0; }
+[refused E13 1:1 type]@ptr<int> a _Checked[2] = {-0}; int main(void) { return 0; }
+[refused E06 1:27 syntax]@ptr<int> a _Checked[2] = {NULL}; int main(void) { return 0; }
 [refused E13 1:1 type]@ptr<int> a _Checked[2] = NULL; int main(void) { return 0; }
 [refused E13 1:22 type]@struct s { int x; }; struct s v _Checked[2] = {1}; int main(void) { return 0; }
 [refused E13 1:20 type]@int a _Checked[1]; ptr<int> p = a; int main(void) { return 0; }
@@ -178,6 +183,8 @@ const PROGRAMS: &str = "[exit 0]@int a _Checked[8188]; int main(void) { return a
 [check C2 1:64 bounds]@int a _Checked[2]; int f(int n) { if (n == 0) return 1; return a[n] + f(n - 1); } int main(void) { return f(2); }
 [exit 7]@struct s { ptr<struct s> n; int x; }; struct s v _Checked[2]; int main(void) { v[0].n = v + 1; v[1].n = v; v[1].x = 7; return v->n->n->n->x; }
 [check C1 1:87 null]@struct s { ptr<struct s> n; int x; }; struct s v _Checked[2]; int main(void) { return v[1].n->x; }
+[check C1 1:55 null]@ptr<int> a _Checked[2] = {0}; int main(void) { return *a[1]; }
+[exit 2]@ptr<int> a _Checked[2] = {0, 0}; int main(void) { return !a[0] + !a[1]; }
 [exit 0]@ptr<ptr<int>> p; ptr<int> a _Checked[2]; int main(void) { p = a + 1; return *p != NULL; }
 [refused E17 1:59 bounds not proved]@ptr<ptr<int>> p; ptr<int> a _Checked[2]; int main(void) { p = a + 2; return 0; }
 [refused E17 1:39 bounds not proved]@int a _Checked[2]; ptr<int> f(void) { return a + 2; } int main(void) { return 0; }
@@ -189,6 +196,7 @@ const DUMPS: &str =
     "[exit 0]¶[block 65552 12 010000000200000000000000]@int a _Checked[3] = {1, 2}; int main(void) { return 0; }
 [exit 0]¶[block 65552 3 61ff00]¶[block 65584 4 00000000]@char c _Checked[3] = {'a', -1}; int g; int main(void) { return 0; }
 [exit 0]¶[block 65552 16 00000000000000000500000003000000]@struct s { int x; char c; }; struct s v _Checked[2]; int main(void) { v[1].x = 5; v[1].c = 259; return 0; }
+[exit 0]¶[block 65552 8 0000000000000000]¶[block 65584 4 07000000]@ptr<int> a _Checked[2] = {0}; int g = 7; int main(void) { return 0; }
 [exit 0]¶[block 65552 8 0000000000000000]¶[block 65584 4 14000100]@int a _Checked[2]; ptr<int> p; int main(void) { p = a + 1; return 0; }
 [check C2 1:47 bounds]¶[block 65552 8 0100000000000000]@int a _Checked[2]; int main(void) { a[0] = 1; a[2] = 3; return 0; }";
 

@@ -130,6 +130,10 @@ const BEFORE: &str =
 const BEFORE_ELEMENTS: &str =
     "int a _Checked[4] = {1, 2, 3}; char c _Checked[3] = {'a', -1, 256}; struct s { int x; char c; }; struct s v _Checked[3]; ptr<int> q; ptr<int> ps _Checked[2]; int get(ptr<int> p) { return *p; } int two(ptr<int> p, ptr<int> q) { return *p + *q; } ptr<int> at(void) { return a + 3; } _Tainted int t(int x);\nint main(void) { int i = 4;\n";
 
+// The same, with numbers of which the checker knows nothing, 5 and 3, and a 0 of which it knows.
+const BEFORE_BOUNDED: &str =
+    "int a _Checked[10] = {0, 1, 2, 3, 4, 5, 6, 7, 8, 9}; char c _Checked[4] = {'a', 'b', 'c'}; struct s { int x; char y; }; struct s v _Checked[3]; struct r { array_ptr<int> p; int n; }; struct r z; int g = 5; int h = 3; ptr<int> q; array_ptr<int> w; array_ptr<int> ws _Checked[2]; int get(ptr<int> p) { return *p; } int is_a(array_ptr<int> p) { return p == a; } array_ptr<int> at(void) { return a + 3; } _Tainted int t(int x);\nint main(void) { int n = g; int m = h; int i = 0;\n";
+
 const BEHIND: &str = "\nreturn 0; }\n";
 
 // Whether the run of a program with this between its front and its end prints this.
@@ -154,4 +158,10 @@ pub fn statements_print(alloc: Global, statements: &str, expected: &str) -> bool
 /// Whether the run of a program with arrays and these statements in its third line prints this.
 pub fn elements_print(alloc: Global, statements: &str, expected: &str) -> bool {
     pieces_print(alloc, BEFORE_ELEMENTS, statements, BEHIND, expected)
+}
+
+/// Whether the run of a program with arrays, numbers of which nothing is known, and these statements in its third line
+/// prints this.
+pub fn bounded_print(alloc: Global, statements: &str, expected: &str) -> bool {
+    pieces_print(alloc, BEFORE_BOUNDED, statements, BEHIND, expected)
 }

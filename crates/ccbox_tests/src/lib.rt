@@ -8,6 +8,8 @@ mod acts;
 #[cfg(test)]
 mod arrays;
 #[cfg(test)]
+mod bounded;
+#[cfg(test)]
 mod bounds;
 #[cfg(test)]
 mod calls;

@@ -2,7 +2,9 @@
 
 use crate::actors::gives_all;
 use crate::acts::is_act;
-use crate::calls::{call_prints, elements_print, run_prints, statements_print, value_prints};
+use crate::calls::{
+    bounded_print, call_prints, elements_print, run_prints, statements_print, value_prints,
+};
 use crate::lines::is_number;
 use crate::shapes::has_shape;
 use crate::sources::tree_of;
@@ -36,6 +38,8 @@ pub enum Question {
     Statements,
     /// What the run of a program prints that has arrays and these statements.
     Elements,
+    /// What the run of a program prints that has arrays, numbers of which nothing is known, and these statements.
+    Bounded,
     /// What a call prints; the case has the words, the acts and the source.
     Call,
 }
@@ -54,6 +58,7 @@ pub fn is_answer(alloc: Global, question: Question, case: &str, expected: &str) 
         Question::Value => value_prints(alloc, case, expected),
         Question::Statements => statements_print(alloc, case, expected),
         Question::Elements => elements_print(alloc, case, expected),
+        Question::Bounded => bounded_print(alloc, case, expected),
         Question::Call => call_prints(alloc, case, expected),
     }
 }

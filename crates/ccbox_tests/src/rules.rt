@@ -39,19 +39,19 @@ const FORMS: &str =
 [refused E09 1:1 not built yet]@struct s { array_ptr<int> p : count(1); }; int main(void) { return 0; }
 [refused E09 1:1 not built yet]@char g _Nt_checked[3]; int main(void) { return 0; }
 [refused E09 1:1 not built yet]@int g _Checked[3] : count(3); int main(void) { return 0; }
-[refused E09 1:1 not built yet]@array_ptr<int> f(void); int main(void) { return 0; }
+[refused E09 1:1 not built yet]@nt_array_ptr<char> f(void); int main(void) { return 0; }
 [refused E09 1:1 not built yet]@int f(void) : count(1) { return 0; } int main(void) { return 0; }";
 
-const FORMS_OF_STATEMENTS: &str = r#"[refused E09 1:1 not built yet]@array_ptr<int> a;
+const FORMS_OF_STATEMENTS: &str = r#"[refused E09 1:1 not built yet]@nt_array_ptr<char> a;
 [refused E09 1:1 not built yet]@_TPtr<int> p;
 [refused E09 1:1 not built yet]@nt_array_ptr<char> s = "a";
 [refused E09 1:1 not built yet]@_Bundled { }
 [refused E09 1:1 not built yet]@int a _Checked[2];
-[refused E09 1:1 not built yet]@ptr<array_ptr<int>> p;
+[refused E09 1:1 not built yet]@ptr<nt_array_ptr<int>> p;
 [refused E09 1:1 not built yet]@int n = strlen("a");
 [refused E09 1:1 not built yet]@ptr<int> p = malloc<int>(4);
 [refused E09 1:1 not built yet]@ptr<int> p = _Assume_bounds_cast<ptr<int>>(0);
-[refused E09 1:1 not built yet]@ptr<int> p : count(1) = 0;"#;
+[refused E09 1:1 not built yet]@int a _Checked[2] : count(2);"#;
 
 // Names: that no item, member or function has, that are declared twice, and a `main` that isn't there.
 const NAMES: &str =
@@ -276,9 +276,9 @@ const STATEMENTS: &str = "[refused E15 3:1 unchecked in a checked region]@int *p
 const FIRST_OF_TWO: &str = "[refused E02 1:9 no token]@int x = 08; int y = 2147483648;
 [refused E02 1:9 no token]@int x = 08; @ int y = 2147483648; int main(void) { return 0; }
 [refused E04 1:9 number too large]@int y = 2147483648; int x = 08;
-[refused E06 1:29 syntax]@int x; array_ptr<int> a; int
-[refused E09 1:1 not built yet]@int x; int x; array_ptr<int> a; int main(void) { return 0; }
-[refused E09 1:1 not built yet]@int main(void) { return x; } array_ptr<int> a;
+[refused E06 1:32 syntax]@int x; nt_array_ptr<int> a; int
+[refused E09 1:1 not built yet]@int x; int x; nt_array_ptr<int> a; int main(void) { return 0; }
+[refused E09 1:1 not built yet]@int main(void) { return x; } nt_array_ptr<int> a;
 [refused E10 1:51 unknown name]@int main(void) { return 0; } int f(void) { return x; } int main;
 [refused E11 1:12 name twice]@int x; int x; int f(void) { return y; }
 [refused E10 1:30 unknown name]@int f(void) { int *p; return y; }

@@ -2,6 +2,7 @@
 
 use crate::acts::acts;
 use crate::arrays::arrays;
+use crate::bounded::bounded;
 use crate::corners::{corners, large_inputs};
 use crate::facts::entailment;
 use crate::files::files_and_outputs;
@@ -36,6 +37,7 @@ fn programs(rt: HostRuntime) -> Result<(), Fail> {
     runs(alloc)?;
     dumps(alloc)?;
     arrays(alloc)?;
+    bounded(alloc)?;
     limits(alloc)?;
     options(alloc)
 }
