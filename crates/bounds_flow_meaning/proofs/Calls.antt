@@ -27,7 +27,7 @@ module _ (terms : List (Option Term)) (caller callee : List Local) (hold : HoldT
   filled_by None plus u h = limited_value caller None plus u h
   filled_by (Some x) plus u h = raised_value x (get_or terms x None) plus u refl h
 
-  filled_value : (t u : Term) → filled_in terms t ≡ Some u → term_value u caller ≡ term_value t callee
+  pub filled_value : (t u : Term) → filled_in terms t ≡ Some u → term_value u caller ≡ term_value t callee
   filled_value t u h = filled_by t.var t.plus u h
 
 pub calls_keep : CallsKeep

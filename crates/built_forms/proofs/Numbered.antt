@@ -10,7 +10,7 @@ use Rattle.ckc_tree.specs.Statements as s
 use Rattle.ckc_tree.specs.Statements.{Initializer, Declarator, Declaration, Assignment, ForInitial, Statement, Statements}
 use Rattle.ckc_tree.specs.Items as i
 use Rattle.ckc_tree.specs.Items.{Member, ResultForm, Parameters, Body, Function, Item, Tree}
-use Rattle.built_forms.specs.Built.{built_type, is_number_type, built_expression, built_expressions, built_bounds, optional, built_initializer, built_declarator, built_variable, built_declaration, built_assignment, built_initial, built_statement, built_statements, built_member, is_number_parameter, built_parameters, built_result, is_number_result, built_body, built_of_kind, built_item, is_built}
+use Rattle.built_forms.specs.Built.{built_type, is_number_type, built_expression, built_expressions, built_bounds, optional, built_initializer, built_declarator, built_variable, built_declaration, built_assignment, built_initial, built_statement, built_statements, built_member, built_parameter, is_number_parameter, built_parameters, built_result, is_number_result, built_body, built_of_kind, built_item, is_built}
 use Rattle.ckc_tree.specs.declared.item.FunctionKind.{FunctionKind}
 use Rattle.ckc_tree.specs.declared.item.FunctionKind.TheVariants as function_kinds
 use Rattle.ckc_tree.specs.Numbers.{Numbers, number_type, number_expression, number_expressions, number_bounds, number_initializer, number_declarator, number_declaration, number_assignment, number_initial, number_statement, number_statements, number_member, number_result, number_parameters, number_body, number_function, number_item, numbered}
@@ -115,6 +115,13 @@ module _ (of : Numbers) where
   members_same [] = refl
   members_same (m ∷ ms) = rw (member_same m, members_same ms) refl
 
+  parameter_same : (m : Member) → built_parameter (number_member of m) ≡ built_parameter m
+  parameter_same m = rw (type_same m.type.base, bounds_same m.bounds) refl
+
+  listed_same : (ms : List Member) → list_all built_parameter (map (number_member of) ms) ≡ list_all built_parameter ms
+  listed_same [] = refl
+  listed_same (m ∷ ms) = rw (parameter_same m, listed_same ms) refl
+
   number_type_same : (t : TypeTree) → is_number_type (number_type of t) ≡ is_number_type t
   number_type_same (IntType span) = refl
   number_type_same (CharType span) = refl
@@ -146,7 +153,7 @@ module _ (of : Numbers) where
   body_same (Some b) = statements_same b.statements
 
   kind_same : (kind : FunctionKind) (f : Function) → built_of_kind kind (number_function of f) ≡ built_of_kind kind f
-  kind_same function_kinds.Trusted f = rw (result_same f.result, parameters_same built_member members_same f.parameters, body_same f.body) refl
+  kind_same function_kinds.Trusted f = rw (result_same f.result, parameters_same built_parameter listed_same f.parameters, body_same f.body) refl
   kind_same function_kinds.Tainted f = rw (number_result_same f.result, parameters_same is_number_parameter number_parameters_same f.parameters, is_none_same (number_body of) f.body) refl
   kind_same function_kinds.Callback f = refl
 

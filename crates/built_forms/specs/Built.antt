@@ -140,6 +140,10 @@ built_variable d = optional built_array d.array && (is_none d.bounds && optional
 abbrev pub built_member : Member → Bool
 built_member m = built_type m.type.base && is_none m.bounds
 
+-- a parameter of a trusted function, which may have bounds
+abbrev pub built_parameter : Member → Bool
+built_parameter p = built_type p.type.base && optional built_bounds p.bounds
+
 abbrev pub is_number_parameter : Member → Bool
 is_number_parameter m = is_number_type m.type.base && (m.type.stars == 0 && is_none m.bounds)
 
@@ -161,7 +165,7 @@ built_body b = built_statements b.statements
 
 -- trusted functions, and tainted ones without a body that take and give numbers
 abbrev pub built_of_kind : FunctionKind → Function → Bool
-built_of_kind function_kinds.Trusted f = built_result f.result && (built_parameters built_member f.parameters && optional built_body f.body)
+built_of_kind function_kinds.Trusted f = built_result f.result && (built_parameters built_parameter f.parameters && optional built_body f.body)
 built_of_kind function_kinds.Tainted f = is_number_result f.result && (f.stars == 0 && (built_parameters is_number_parameter f.parameters && is_none f.body))
 built_of_kind function_kinds.Callback f = false
 

@@ -6,7 +6,7 @@ ghost use Rattle.ckc_tree.specs.Items.{member, parameter, parameters as paramete
 ghost use Rattle.built_forms.specs.Built as built;
 
 use crate::expressions::{built_type, is_number_type};
-use crate::statements::{built_block, built_variables};
+use crate::statements::{built_block, built_optional_bounds, built_variables};
 use ckc_tree::item::{
     Function, FunctionKind, Global, Item, Member, Parameter, Parameters, Program, ResultForm,
     Structure,
@@ -18,10 +18,11 @@ fn built_member(written: &Member) -> bool
     built_type(&written.type_name.base) && written.bounds.is_none()
 }
 
+// Whether a parameter of a trusted function has only forms that are built: it may have bounds.
 fn built_parameter(written: &Parameter) -> bool
-    ensures { result ≡ built.built_member (parameter written.now) }
+    ensures { result ≡ built.built_parameter (parameter written.now) }
 {
-    built_type(&written.type_name.base) && written.bounds.is_none()
+    built_type(&written.type_name.base) && built_optional_bounds(&written.bounds)
 }
 
 fn is_number_parameter(written: &Parameter) -> bool
@@ -33,7 +34,7 @@ fn is_number_parameter(written: &Parameter) -> bool
 }
 
 fn all_built(parameters: &[Parameter]) -> bool
-    ensures { result ≡ list_all (λ p. built.built_member (parameter p)) parameters.now }
+    ensures { result ≡ list_all (λ p. built.built_parameter (parameter p)) parameters.now }
 {
     parameters.iter().all(|p| built_parameter(p))
 }
@@ -57,7 +58,7 @@ fn built_items(items: &[Item]) -> bool
 }
 
 fn built_parameters(written: &Parameters) -> bool
-    ensures { result ≡ built.built_parameters built.built_member (parameters_of written.now) }
+    ensures { result ≡ built.built_parameters built.built_parameter (parameters_of written.now) }
 {
     match written {
         Parameters::Nothing | Parameters::Void => true,

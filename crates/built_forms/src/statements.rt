@@ -31,7 +31,8 @@ fn built_optional_initializer(written: &Option<Initializer>) -> bool
     }
 }
 
-fn built_optional_bounds(written: &Option<BoundsText>) -> bool
+/// Whether bounds have only forms that are built, where some are written.
+pub fn built_optional_bounds(written: &Option<BoundsText>) -> bool
     ensures { result ≡ built.optional built.built_bounds (option_map bounds written.now) }
 {
     match written {

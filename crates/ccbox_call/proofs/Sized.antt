@@ -113,7 +113,7 @@ beside_within _ d (typed.order a from_a b from_b) based = absurd (cc)
 beside_within _ d (typed.both a b) based = absurd (cc)
 beside_within _ d (typed.either a b) based = absurd (cc)
 beside_within _ d (typed.low_byte e) based = absurd (cc)
-beside_within _ d (typed.call callee arguments told) based = absurd (cc)
+beside_within _ d (typed.call callee arguments asked told) based = absurd (cc)
 beside_within _ d typed.next_input based = absurd (cc)
 
 sum_constants : (types : List CType) (e : core.Expression) (direction : Direction) (i : core.Expression) (p : PointerBounds) (b : Option PointerBounds)
@@ -150,7 +150,7 @@ constants _ (typed.order a from_a b from_b) = tt
 constants _ (typed.both a b) = tt
 constants _ (typed.either a b) = tt
 constants _ (typed.low_byte e) = tt
-constants {g = g} {t = t} (core.Call callee arguments b) (typed.call there listed told) = noted_constants g.structs t b told
+constants {g = g} {t = t} (core.Call callee arguments b) (typed.call there listed asked told) = noted_constants g.structs t b told
 constants _ typed.next_input = tt
 
 -- ---- checks
@@ -217,7 +217,7 @@ mutual
   sized_expression n _ (typed.both a b) = (sized_expression n _ a, sized_expression n _ b)
   sized_expression n _ (typed.either a b) = (sized_expression n _ a, sized_expression n _ b)
   sized_expression n _ (typed.low_byte e) = sized_expression n _ e
-  sized_expression n _ (typed.call callee arguments told) = sized_arguments n _ arguments
+  sized_expression n _ (typed.call callee arguments asked told) = sized_arguments n _ arguments
   sized_expression n _ typed.next_input = tt
 
   sized_arguments : (n : ℕ) {g : Frame} {locals : List CType} {here : Scope} {ts : List CType} (es : core.Arguments) → HaveTypes g locals here es ts → SizedArguments n (arguments_of es)
@@ -242,7 +242,7 @@ sized_simple n _ (typed.store scalar p e) = (sized_place n _ p, sized_expression
 sized_simple n _ (typed.update_local found number char e) = sized_expression n _ e
 sized_simple n _ (typed.update number p e) = (sized_place n _ p, sized_expression n _ e)
 sized_simple n _ (typed.evaluate e) = sized_expression n _ e
-sized_simple n _ (typed.call_alone callee arguments) = sized_arguments n _ arguments
+sized_simple n _ (typed.call_alone callee arguments asked) = sized_arguments n _ arguments
 sized_simple n _ (typed.print e) = sized_expression n _ e
 sized_simple n _ (typed.put_byte e) = sized_expression n _ e
 

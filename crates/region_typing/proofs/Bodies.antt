@@ -18,16 +18,16 @@ use Rattle.ckc_core.specs.declared.program.Function as code_function
 use Rattle.ckc_core.specs.declared.program.Stmt.{Stmt}
 use Rattle.ckc_core.specs.Core as core
 use Rattle.region_typing_rules.specs.Verdicts.{Stop, Broken, Nameless, Verdict, Passes, Stops, passing, needs, picked}
-use Rattle.region_typing_rules.specs.Scopes.{Scope, Signature, Variable, Visible, function_named}
+use Rattle.region_typing_rules.specs.Scopes.{Scope, Signature, Visible, function_named}
 use Rattle.region_typing_rules.specs.Expressions.{Places, is_tainted}
 use Rattle.region_typing_rules.specs.Statements.{statements, is_unchecked, with_local}
 use Rattle.bounds_flow.specs.Flows.{Knowledge, at_entry}
-use Rattle.region_typing_rules.specs.Knowing.{all_declared}
-use Rattle.region_typing_rules.specs.Items.{Walk, with_parameters, variables_in, inside, core_function, function_body, listed, parameter_types, result_type, signature_of, agrees, all_scalar, scalar_result, with_function, is_defined, function_rules, function}
+use Rattle.region_typing_rules.specs.Knowing.{all_declared, knowing}
+use Rattle.region_typing_rules.specs.Items.{Parameter, Walk, with_parameters, with_bounds, variables_in, inside, core_function, function_body, listed, parameter_types, result_type, signature_of, agrees, all_scalar, scalar_result, with_function, is_defined, function_rules, function}
 use Rattle.region_typing_scope.specs.declared.scope as code
 use Rattle.region_typing_scope.specs.declared.signature.Signature as code_signature
 use Rattle.region_typing_scope.specs.Views.{scope, signature}
-use Rattle.region_typing.specs.Parameters.{variable}
+use Rattle.region_typing.specs.Parameters.{parameter}
 use Rattle.region_typing_scope.specs.Answering.{Answers, answers_so}
 use Rattle.region_typing_scope.specs.Locals.{Grows}
 use Rattle.region_typing_statements.specs.Walks.{Walks}
@@ -53,11 +53,14 @@ pub for_parameters : (n : ℕ) (body : Statements) → n ≤ 16 → n ≤ variab
 for_parameters n body few = (limited_so 256 (n + all_declared body) (nat_lt 256 (n + all_declared body)) refl).1 n (omega arith) (omega arith)
 
 -- what is known where its body begins
-pub entered : (f : Signature) (ps : List code_prototype.TypedParameter.TypedParameter) (body : Statements) (n : ℕ) (g mid new : Scope) → n ≡ variables_in (length ps) body
-    → mid ≡ record g { locals = []; visible = []; result = f.result; in_loop = false; outside = 0; flow = at_entry n; breaks = None; continues = None } → new ≡ with_parameters (map variable ps) mid → new ≡ inside f (map variable ps) body g
-entered f ps body n g mid new count start is =
-    let all : n ≡ variables_in (length (map variable ps)) body = count ∙ ap (λ (k : ℕ). variables_in k body) (sym (length-map ps variable)) in
-    is ∙ ap (with_parameters (map variable ps)) (start ∙ ap (λ (k : ℕ). record g { locals = []; visible = []; result = f.result; in_loop = false; outside = 0; flow = at_entry k; breaks = None; continues = None }) all)
+pub entered : (f : Signature) (ps : List code_prototype.TypedParameter.TypedParameter) (body : Statements) (n : ℕ) (g mid with_locals new : Scope) → n ≡ variables_in (length ps) body
+    → mid ≡ record g { locals = []; visible = []; result = f.result; in_loop = false; outside = 0; flow = at_entry n; breaks = None; continues = None } → with_locals ≡ with_parameters (map parameter ps) mid
+    → new ≡ knowing (with_bounds 0 (map parameter ps) with_locals.flow) with_locals → new ≡ inside f (map parameter ps) body g
+entered f ps body n g mid with_locals new count start added is =
+    let all : n ≡ variables_in (length (map parameter ps)) body = count ∙ ap (λ (k : ℕ). variables_in k body) (sym (length-map ps parameter)) in
+    is
+    ∙ ap (λ (h : Scope). knowing (with_bounds 0 (map parameter ps) h.flow) h)
+    (added ∙ ap (with_parameters (map parameter ps)) (start ∙ ap (λ (k : ℕ). record g { locals = []; visible = []; result = f.result; in_loop = false; outside = 0; flow = at_entry k; breaks = None; continues = None }) all))
 
 -- ---- a function is left
 
@@ -68,7 +71,7 @@ pub record Added (g h : Scope) : Type 0 where
   pub flow : Knowledge
   pub same : h ≡ record g { locals = types; visible = names; flow = flow }
 
-parameters_added : (ps : List Variable) (g : Scope) → Added g (with_parameters ps g)
+parameters_added : (ps : List Parameter) (g : Scope) → Added g (with_parameters ps g)
 parameters_added [] g = record { types = g.locals; names = g.visible; flow = g.flow; same = refl }
 parameters_added (p ∷ ps) g = let rest = parameters_added ps (with_local p.name p.type None g) in record { types = rest.types; names = rest.names; flow = rest.flow; same = rest.same }
 
@@ -77,27 +80,27 @@ abbrev pub left_scope : Scope → Scope
 left_scope g = record g { locals = []; visible = []; result = None; in_loop = false; outside = 0; flow = at_entry 0; breaks = None; continues = None }
 
 -- what was known before a function is known behind it
-pub left_function : (f : Signature) (ps : List Variable) (body : Statements) (old entered walked new : code.Scope.Scope) → Outside (scope old) → scope entered ≡ inside f ps body (scope old) → Grows entered walked → scope new ≡ left_scope (scope walked) → scope new ≡ scope old
+pub left_function : (f : Signature) (ps : List Parameter) (body : Statements) (old entered walked new : code.Scope.Scope) → Outside (scope old) → scope entered ≡ inside f ps body (scope old) → Grows entered walked → scope new ≡ left_scope (scope walked) → scope new ≡ scope old
 left_function f ps body old entered walked new outside inside_is grows known =
     let start : Scope = record (scope old) { locals = []; visible = []; result = f.result; in_loop = false; outside = 0; flow = at_entry (variables_in (length ps) body); breaks = None; continues = None } in
     let added = parameters_added ps start in
     known
-    ∙ ap left_scope (grows.file ∙ ap (λ (g : Scope). record g { locals = grows.types; visible = grows.names; in_loop = grows.loop; outside = grows.outside; flow = grows.flow; breaks = grows.breaks; continues = grows.continues }) (inside_is ∙ added.same))
+    ∙ ap left_scope (grows.file ∙ ap (λ (g : Scope). record g { locals = grows.types; visible = grows.names; in_loop = grows.loop; outside = grows.outside; flow = grows.flow; breaks = grows.breaks; continues = grows.continues }) (inside_is ∙ ap (knowing (with_bounds 0 ps (with_parameters ps start).flow)) added.same))
     ∙ sym outside
 
 -- the core of a function whose statements break no rule
-pub body_built : (at : Places) (f : Signature) (ps : List Variable) (body : Statements) (xs : core.Statements) (b : core.Function) (old entered walked new : code.Scope.Scope) → scope entered ≡ inside f ps body (scope old) → scope new ≡ scope old
+pub body_built : (at : Places) (f : Signature) (ps : List Parameter) (body : Statements) (xs : core.Statements) (b : core.Function) (old entered walked new : code.Scope.Scope) → scope entered ≡ inside f ps body (scope old) → scope new ≡ scope old
     → statements at (scope entered) body ≡ Passes (xs, scope walked) → b ≡ core_function f ps xs (scope walked) → body_core at (scope old) f ps body ≡ Passes (b, scope new)
 body_built at f ps body xs b old entered walked new inside_is same passes b_is =
     ap (λ g. passing (statements at g body) (λ x. Passes (core_function f ps x.0 x.1, scope old))) (sym inside_is) ∙ rw (passes, same, b_is) refl
 
 -- a body behind which its function is left
-pub function_body_parts : (at : Places) (w : Walk) (f : Signature) (ps : List Variable) (b : i.Body) → function_body at w f ps (Some b) ≡ passing (body_core at w.scope f ps b.statements) (λ x. needs (not (is_unchecked b.mark || w.scope.is_off)) E15 b.span (Passes (record w { bodies = w.bodies ++ record { name = f.name; function = x.0 } ∷ [] })))
+pub function_body_parts : (at : Places) (w : Walk) (f : Signature) (ps : List Parameter) (b : i.Body) → function_body at w f ps (Some b) ≡ passing (body_core at w.scope f ps b.statements) (λ x. needs (not (is_unchecked b.mark || w.scope.is_off)) E15 b.span (Passes (record w { bodies = w.bodies ++ record { name = f.name; function = x.0 } ∷ [] })))
 function_body_parts at w f ps b = sym (in_parts (statements at (inside f ps b.statements w.scope) b.statements) (λ x. Passes (core_function f ps x.0 x.1, w.scope)) (λ x. needs (not (is_unchecked b.mark || w.scope.is_off)) E15 b.span (Passes (record w { bodies = w.bodies ++ record { name = f.name; function = x.0 } ∷ [] }))))
 
 -- ---- a declaration, its body, and its rules
 
-declared_on : {B : Type 0} (v : Verdict (Option CType)) (w : Verdict (List Variable)) (of : Option CType → List Variable → Signature) (next : Signature × List Variable → Verdict B)
+declared_on : {B : Type 0} (v : Verdict (Option CType)) (w : Verdict (List Parameter)) (of : Option CType → List Parameter → Signature) (next : Signature × List Parameter → Verdict B)
     → passing v (λ r. passing w (λ ps. next (of r ps, ps))) ≡ passing (passing v (λ r. passing w (λ ps. Passes (of r ps, ps)))) next
 declared_on (Stops stop) w of next = refl
 declared_on (Passes r) (Stops stop) of next = refl
@@ -118,65 +121,65 @@ pub function_parts : (at : Places) (all : List Item) (w : Walk) (d : i.Function)
     (λ v. passing (kept_rules all d (agrees (function_named w.scope.functions d.name.number) x.0 && (all_scalar x.0.parameters && scalar_result x.0.result)) v.scope) (λ u. Passes v))))
 function_parts at all w d =
     let known = function_named w.scope.functions d.name.number in
-    let behind = λ (x : Signature × List Variable). passing (function_body at (record w { scope = with_function known x.0 w.scope }) x.0 x.1 d.body) (λ v. function_rules all d x.0 known v) in
-    let judged = λ (x : Signature × List Variable). passing (function_body at (record w { scope = with_function known x.0 w.scope }) x.0 x.1 d.body) (λ v. passing (kept_rules all d (agrees known x.0 && (all_scalar x.0.parameters && scalar_result x.0.result)) v.scope) (λ u. Passes v)) in
+    let behind = λ (x : Signature × List Parameter). passing (function_body at (record w { scope = with_function known x.0 w.scope }) x.0 x.1 d.body) (λ v. function_rules all d x.0 known v) in
+    let judged = λ (x : Signature × List Parameter). passing (function_body at (record w { scope = with_function known x.0 w.scope }) x.0 x.1 d.body) (λ v. passing (kept_rules all d (agrees known x.0 && (all_scalar x.0.parameters && scalar_result x.0.result)) v.scope) (λ u. Passes v)) in
     ap (λ v. needs (is_some known || nat_lt (length w.scope.functions) 4096) E08 d.span v)
-    (declared_on (result_type w.scope d.result d.stars) (parameter_types w.scope (listed d.parameters) []) (λ r ps. signature_of d r ps) behind
+    (declared_on (result_type w.scope d.result d.stars) (parameter_types w.scope (listed d.parameters) (listed d.parameters) []) (λ r ps. signature_of d r ps) behind
     ∙ same_behind (declared_function w.scope d) behind judged
     (λ x. same_behind (function_body at (record w { scope = with_function known x.0 w.scope }) x.0 x.1 d.body) (λ v. function_rules all d x.0 known v) (λ v. passing (kept_rules all d (agrees known x.0 && (all_scalar x.0.parameters && scalar_result x.0.result)) v.scope) (λ u. Passes v))
     (λ v. rules_parts (agrees known x.0 && (all_scalar x.0.parameters && scalar_result x.0.result)) (picked (is_tainted d.kind) true (is_defined all d.name.number)) (not (is_unchecked d.mark)) (not v.scope.is_off) d.span v)))
 
-named_so : (v : Verdict (Option CType)) (w : Verdict (List Variable)) (of : Option CType → List Variable → Signature) (name : ℕ) (x : Signature × List Variable) → ((r : Option CType) (ps : List Variable) → (of r ps).name ≡ name) → passing v (λ r. passing w (λ ps. Passes (of r ps, ps))) ≡ Passes x → x.0.name ≡ name
+named_so : (v : Verdict (Option CType)) (w : Verdict (List Parameter)) (of : Option CType → List Parameter → Signature) (name : ℕ) (x : Signature × List Parameter) → ((r : Option CType) (ps : List Parameter) → (of r ps).name ≡ name) → passing v (λ r. passing w (λ ps. Passes (of r ps, ps))) ≡ Passes x → x.0.name ≡ name
 named_so (Stops stop) w of name x named is = absurd (cc)
 named_so (Passes r) (Stops stop) of name x named is = absurd (cc)
-named_so (Passes r) (Passes ps) of name x named is = let same : (of r ps, ps) ≡ x = cc in ap (λ (y : Signature × List Variable). y.0.name) (sym same) ∙ named r ps
+named_so (Passes r) (Passes ps) of name x named is = let same : (of r ps, ps) ≡ x = cc in ap (λ (y : Signature × List Parameter). y.0.name) (sym same) ∙ named r ps
 
 -- a declared function has the name that is written
-pub declared_name : (g : Scope) (d : i.Function) (x : Signature × List Variable) → declared_function g d ≡ Passes x → x.0.name ≡ d.name.number
-declared_name g d x is = named_so (result_type g d.result d.stars) (parameter_types g (listed d.parameters) []) (λ r ps. signature_of d r ps) d.name.number x (λ r ps. refl) is
+pub declared_name : (g : Scope) (d : i.Function) (x : Signature × List Parameter) → declared_function g d ≡ Passes x → x.0.name ≡ d.name.number
+declared_name g d x is = named_so (result_type g d.result d.stars) (parameter_types g (listed d.parameters) (listed d.parameters) []) (λ r ps. signature_of d r ps) d.name.number x (λ r ps. refl) is
 
 -- a body in which a rule is broken
-broken_body : (at : Places) (f : Signature) (ps : List Variable) (body : Statements) (g : Scope) (h : Scope) (stop : Stop) → h ≡ inside f ps body g → statements at h body ≡ Stops stop → body_core at g f ps body ≡ Stops stop
+broken_body : (at : Places) (f : Signature) (ps : List Parameter) (body : Statements) (g : Scope) (h : Scope) (stop : Stop) → h ≡ inside f ps body g → statements at h body ≡ Stops stop → body_core at g f ps body ≡ Stops stop
 broken_body at f ps body g h stop is breaks = ap (λ k. passing (statements at k body) (λ x. Passes (core_function f ps x.0 x.1, g))) (sym is) ∙ rw breaks refl
 
-body_refused_so : {C D : Type 0} (view : C → core.Statements) (view' : D → core.Function × Scope) (at : Places) (f : Signature) (ps : List Variable) (body : Statements) (old entered mid : code.Scope.Scope) (e : CheckError) → scope entered ≡ inside f ps body (scope old) → Walks view (statements at (scope entered) body) entered (Err e) mid → Answers view' (body_core at (scope old) f ps body) (Err e)
+body_refused_so : {C D : Type 0} (view : C → core.Statements) (view' : D → core.Function × Scope) (at : Places) (f : Signature) (ps : List Parameter) (body : Statements) (old entered mid : code.Scope.Scope) (e : CheckError) → scope entered ≡ inside f ps body (scope old) → Walks view (statements at (scope entered) body) entered (Err e) mid → Answers view' (body_core at (scope old) f ps body) (Err e)
 body_refused_so view view' at f ps body old entered mid (Source fault) is first = record { so = broken_body at f ps body (scope old) (scope entered) (Broken fault) is first.so }
 body_refused_so view view' at f ps body old entered mid Unnamed is first = record { so = broken_body at f ps body (scope old) (scope entered) Nameless is first.so }
 body_refused_so view view' at f ps body old entered mid NoMemory is first = record { so = tt }
 
-pub body_refused : {C D : Type 0} {view : C → core.Statements} {view' : D → core.Function × Scope} {mid : code.Scope.Scope} {e : CheckError} (at : Places) (f : Signature) (ps : List Variable) (body : Statements) (old entered : code.Scope.Scope) (r : Result D CheckError) → scope entered ≡ inside f ps body (scope old) → IsErrAnd r (λ y. y ≡ e) → Walks view (statements at (scope entered) body) entered (Err e) mid → Answers view' (body_core at (scope old) f ps body) r
+pub body_refused : {C D : Type 0} {view : C → core.Statements} {view' : D → core.Function × Scope} {mid : code.Scope.Scope} {e : CheckError} (at : Places) (f : Signature) (ps : List Parameter) (body : Statements) (old entered : code.Scope.Scope) (r : Result D CheckError) → scope entered ≡ inside f ps body (scope old) → IsErrAnd r (λ y. y ≡ e) → Walks view (statements at (scope entered) body) entered (Err e) mid → Answers view' (body_core at (scope old) f ps body) r
 body_refused {view = view} {view' = view'} {mid = mid} {e = e} at f ps body old entered r is err first =
     let p = err_from_is_err_and r err in
     rw (p.1, p.2) (body_refused_so view view' at f ps body old entered mid e is first)
 
 -- the core of a function, as it is put together
 pub core_built : (f heading : code_signature.Signature) (ps : List code_prototype.TypedParameter.TypedParameter) (n : ℕ) → n ≡ length ps → (locals : List code_type.CType) (g : Scope) → map ctype locals ≡ g.locals → (xs : List Stmt) (c : code_function.Function) → signature heading ≡ signature f → core.function c ≡ record { name = heading.text; parameters = n; locals = map ctype locals; result = option_map ctype heading.result; body = core.statements_of xs }
-    → core.function c ≡ core_function (signature f) (map variable ps) (core.statements_of xs) g
+    → core.function c ≡ core_function (signature f) (map parameter ps) (core.statements_of xs) g
 core_built f heading ps n count locals g are xs c same is =
     is
     ∙ ap (λ (s : Signature). record { name = s.text; parameters = n; locals = map ctype locals; result = s.result; body = core.statements_of xs }) same
     ∙ ap (λ ts. record { name = f.text; parameters = n; locals = ts; result = option_map ctype f.result; body = core.statements_of xs }) are
-    ∙ ap (λ k. record { name = f.text; parameters = k; locals = g.locals; result = option_map ctype f.result; body = core.statements_of xs }) (count ∙ sym (length-map ps variable))
+    ∙ ap (λ k. record { name = f.text; parameters = k; locals = g.locals; result = option_map ctype f.result; body = core.statements_of xs }) (count ∙ sym (length-map ps parameter))
 
 -- ---- parameters as locals
 
-pub parameter_added : (ps : List code_prototype.TypedParameter.TypedParameter) (k : ℕ) (p : code_prototype.TypedParameter.TypedParameter) (g h : Scope) → k < length ps → p ≡ get_or ps k p → h ≡ with_local p.name (ctype p.ctype) None g → with_parameters (map variable (drop k ps)) g ≡ with_parameters (map variable (drop (k + 1) ps)) h
-parameter_added ps k p g h less is known = ap (λ qs. with_parameters qs g) (parts_at variable ps k p less is) ∙ ap (λ j. with_parameters (map variable (drop (k + 1) ps)) j) (sym known)
+pub parameter_added : (ps : List code_prototype.TypedParameter.TypedParameter) (k : ℕ) (p : code_prototype.TypedParameter.TypedParameter) (g h : Scope) → k < length ps → p ≡ get_or ps k p → h ≡ with_local p.name (ctype p.ctype) None g → with_parameters (map parameter (drop k ps)) g ≡ with_parameters (map parameter (drop (k + 1) ps)) h
+parameter_added ps k p g h less is known = ap (λ qs. with_parameters qs g) (parts_at parameter ps k p less is) ∙ ap (λ j. with_parameters (map parameter (drop (k + 1) ps)) j) (sym known)
 
-pub parameters_all : (ps : List code_prototype.TypedParameter.TypedParameter) (k : ℕ) (g : Scope) → length ps ≤ k → with_parameters (map variable (drop k ps)) g ≡ g
-parameters_all ps k g end = ap (λ qs. with_parameters qs g) (no_parts variable ps k end)
+pub parameters_all : (ps : List code_prototype.TypedParameter.TypedParameter) (k : ℕ) (g : Scope) → length ps ≤ k → with_parameters (map parameter (drop k ps)) g ≡ g
+parameters_all ps k g end = ap (λ qs. with_parameters qs g) (no_parts parameter ps k end)
 
-pub local_counted : (p : Variable) (a b : code.Scope.Scope) (k : ℕ) → scope b ≡ with_local p.name p.type None (scope a) → length a.locals.items ≡ k → length b.locals.items ≡ k + 1
+pub local_counted : (p : Parameter) (a b : code.Scope.Scope) (k : ℕ) → scope b ≡ with_local p.name p.type None (scope a) → length a.locals.items ≡ k → length b.locals.items ≡ k + 1
 local_counted p a b k known count =
     sym (length-map b.locals.items ctype) ∙ ap (λ (g : Scope). length g.locals) known ∙ length-append (map ctype a.locals.items) (p.type ∷ []) ∙ ap (λ n. n + 1) (length-map a.locals.items ctype ∙ count)
 
 -- ---- a body more
 
-scope_of_core : (v : Verdict (core.Statements × Scope)) (f : Signature) (ps : List Variable) (g : Scope) (b : core.Function) (h : Scope) → passing {B = core.Function × Scope} v (λ x. Passes (core_function f ps x.0 x.1, g)) ≡ Passes (b, h) → h ≡ g
+scope_of_core : (v : Verdict (core.Statements × Scope)) (f : Signature) (ps : List Parameter) (g : Scope) (b : core.Function) (h : Scope) → passing {B = core.Function × Scope} v (λ x. Passes (core_function f ps x.0 x.1, g)) ≡ Passes (b, h) → h ≡ g
 scope_of_core (Passes x) f ps g b h is = let same : (core_function f ps x.0 x.1, g) ≡ (b, h) = cc in sym (ap (λ (p : core.Function × Scope). p.1) same)
 scope_of_core (Stops stop) f ps g b h is = absurd (cc)
 
-pub scope_kept : (at : Places) (g : Scope) (f : Signature) (ps : List Variable) (body : Statements) (b : core.Function) (h : Scope) → body_core at g f ps body ≡ Passes (b, h) → h ≡ g
+pub scope_kept : (at : Places) (g : Scope) (f : Signature) (ps : List Parameter) (body : Statements) (b : core.Function) (h : Scope) → body_core at g f ps body ≡ Passes (b, h) → h ≡ g
 scope_kept at g f ps body b h is = scope_of_core (statements at (inside f ps body g) body) f ps g b h is
 
 pub bodies_more : (w : Walk) (g : Scope) (bs new : List code_walk.Defined.Defined) (b : code_walk.Defined.Defined) → g ≡ w.scope → new ≡ bs ++ b ∷ [] → ◌≡◌ {A = Verdict Walk} (Passes (record w { bodies = map defined bs ++ defined b ∷ [] })) (Passes (record w { scope = g; bodies = map defined new }))
@@ -200,7 +203,7 @@ checked_once true off span = refl
 checked_once false off span = refl
 
 -- behind a declaration, by the name that is written
-pub function_walk : {new : Walk} {r : Result (Unit {0}) CheckError} (at : Places) (all : List Item) (w : Walk) (d : i.Function) (x : Signature × List Variable) → declared_function w.scope d ≡ Passes x → Answers {C = Unit {0}} (λ u. new) (behind_declaration at all w d x) r
+pub function_walk : {new : Walk} {r : Result (Unit {0}) CheckError} (at : Places) (all : List Item) (w : Walk) (d : i.Function) (x : Signature × List Parameter) → declared_function w.scope d ≡ Passes x → Answers {C = Unit {0}} (λ u. new) (behind_declaration at all w d x) r
     → Answers {C = Unit {0}} (λ u. new) (passing (declared_function w.scope d) (λ y. passing (function_body at (record w { scope = with_function (function_named w.scope.functions d.name.number) y.0 w.scope }) y.0 y.1 d.body) (λ v. passing (kept_rules all d (agrees (function_named w.scope.functions d.name.number) y.0 && (all_scalar y.0.parameters && scalar_result y.0.result)) v.scope) (λ u. Passes v)))) r
 function_walk {new = new} {r = r} at all w d x first rest =
     let named = declared_name w.scope d x first in
@@ -208,7 +211,7 @@ function_walk {new = new} {r = r} at all w d x first rest =
     (subst (λ name. Answers {C = Unit {0}} (λ u. new) (passing (function_body at (record w { scope = with_function (function_named w.scope.functions name) x.0 w.scope }) x.0 x.1 d.body) (λ v. passing (kept_rules all d (agrees (function_named w.scope.functions name) x.0 && (all_scalar x.0.parameters && scalar_result x.0.result)) v.scope) (λ u. Passes v))) r) named rest)
 
 -- the scope behind a declaration
-pub behind_scope : {new : Walk} {r : Result (Unit {0}) CheckError} (at : Places) (all : List Item) (w : Walk) (d : i.Function) (x : Signature × List Variable) (mid : Scope) → mid ≡ with_function (function_named w.scope.functions x.0.name) x.0 w.scope
+pub behind_scope : {new : Walk} {r : Result (Unit {0}) CheckError} (at : Places) (all : List Item) (w : Walk) (d : i.Function) (x : Signature × List Parameter) (mid : Scope) → mid ≡ with_function (function_named w.scope.functions x.0.name) x.0 w.scope
     → Answers {C = Unit {0}} (λ u. new) (passing (function_body at (record w { scope = mid }) x.0 x.1 d.body) (λ v. passing (kept_rules all d (agrees (function_named w.scope.functions x.0.name) x.0 && (all_scalar x.0.parameters && scalar_result x.0.result)) v.scope) (λ u. Passes v))) r
     → Answers {C = Unit {0}} (λ u. new) (behind_declaration at all w d x) r
 behind_scope {new = new} {r = r} at all w d x mid known rest =

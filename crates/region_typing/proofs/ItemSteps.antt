@@ -10,10 +10,11 @@ use Rattle.ckc_tree.specs.Statements.{Declarator}
 use Rattle.pointer_modes.specs.Types as types
 use Rattle.pointer_modes.specs.Types.{CType}
 use Rattle.region_typing_rules.specs.Verdicts.{Stop, Verdict, Passes, Stops, passing, needs}
-use Rattle.region_typing_rules.specs.Scopes.{Scope, Variable}
+use Rattle.region_typing_rules.specs.Scopes.{Scope}
 use Rattle.region_typing_rules.specs.Types.{type_named}
 use Rattle.region_typing_rules.specs.Expressions.{Places}
-use Rattle.region_typing_rules.specs.Items.{Walk, is_struct, member_types, parameter_types, scalar_members, item, items}
+use Rattle.region_typing_rules.specs.DeclaredBounds.{declared_bounds}
+use Rattle.region_typing_rules.specs.Items.{Parameter, Walk, is_struct, member_types, among_parameters, written_as, parameter_types, scalar_members, item, items}
 use Rattle.region_typing.specs.declared.globals.WalkedVariable as code
 use Rattle.region_typing.specs.Items.{one_member, one_parameter, one_variable, judged_variable, judged_variables, JudgedVariable}
 
@@ -25,8 +26,20 @@ needs_on false code span v f next = refl
 pub member_by_step : (g : Scope) (m : i.Member) (ms : List i.Member) (done : List types.Member) → member_types g (m ∷ ms) done ≡ passing (one_member g m done) (λ d. member_types g ms d)
 member_by_step g m ms done = needs_on (nat_lt (length done) 64) E08 (type_span m.type.base) (type_named g m.type) (λ t. done ++ record { name = m.name.name; ctype = t; span = m.span } ∷ []) (λ d. member_types g ms d)
 
-pub parameter_by_step : (g : Scope) (p : i.Member) (ps : List i.Member) (done : List Variable) → parameter_types g (p ∷ ps) done ≡ passing (one_parameter g p done) (λ d. parameter_types g ps d)
-parameter_by_step g p ps done = needs_on (nat_lt (length done) 16) E08 (type_span p.type.base) (type_named g p.type) (λ t. done ++ record { name = p.name.number; type = t } ∷ []) (λ d. parameter_types g ps d)
+bounded_on : {A B C D E : Type 0} (b : Bool) (code : Code) (span : Span) (v : Verdict A) (w : A → Verdict B) (h : B → C) (f : A → C → D) (next : D → Verdict E)
+    → needs b code span (passing v (λ t. passing (w t) (λ x. next (f t (h x))))) ≡ passing (needs b code span (passing v (λ t. passing (passing (w t) (λ x. Passes (h x))) (λ y. Passes (f t y))))) next
+bounded_on {B = B} true code span (Passes t) w h f next = by (w t)
+  where
+    by : (o : Verdict B) → passing o (λ x. next (f t (h x))) ≡ passing (passing (passing o (λ x. Passes (h x))) (λ y. Passes (f t y))) next
+    by (Passes x) = refl
+    by (Stops stop) = refl
+bounded_on true code span (Stops stop) w h f next = refl
+bounded_on false code span v w h f next = refl
+
+pub parameter_by_step : (g : Scope) (all : List i.Member) (p : i.Member) (ps : List i.Member) (done : List Parameter) → parameter_types g all (p ∷ ps) done ≡ passing (one_parameter g all p done) (λ d. parameter_types g all ps d)
+parameter_by_step g all p ps done =
+    bounded_on (nat_lt (length done) 16) E08 (type_span p.type.base) (type_named g p.type) (λ t. declared_bounds (among_parameters g all) t (length done) p.bounds) (λ b. written_as p.bounds b)
+    (λ t b. done ++ record { name = p.name.number; type = t; bounds = b } ∷ []) (λ d. parameter_types g all ps d)
 
 -- no member is a struct
 abbrev pub scalar_member : types.Member → Unit {0} → Verdict (Unit {0})

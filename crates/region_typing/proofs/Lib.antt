@@ -9,3 +9,4 @@ pub mod Lists
 pub mod CoreLists
 pub mod Checks
 pub mod DefinedNames
+pub mod ParameterBounds

@@ -10,11 +10,11 @@ use Rattle.pointer_modes.specs.Types as types
 use Rattle.pointer_modes.specs.Types.{CType}
 use Rattle.ckc_core.specs.Programs.{Initial}
 use Rattle.region_typing_rules.specs.Verdicts.{Verdict, Passes, picked}
-use Rattle.region_typing_rules.specs.Scopes.{Scope, Signature, Variable, function_named}
+use Rattle.region_typing_rules.specs.Scopes.{Scope, Signature, function_named}
 use Rattle.region_typing_rules.specs.Types.{base_type, without_stars}
 use Rattle.region_typing_rules.specs.Expressions.{Places, is_tainted}
 use Rattle.region_typing_rules.specs.Statements.{is_unchecked, statements}
-use Rattle.region_typing_rules.specs.Items.{Walk, WalkedVariable, is_struct, member_types, scalar_members, with_struct, member_names, structure, with_variable, length_of, room_for, room_for_first, initializer, variables, object_cells, with_objects, global, listed, parameter_types, result_type, agrees, all_scalar, scalar_result, with_function, inside, function_body, is_defined, function_rules, signature_of, function, is_off, item}
+use Rattle.region_typing_rules.specs.Items.{Parameter, Walk, WalkedVariable, is_struct, member_types, scalar_members, with_struct, member_names, structure, with_variable, length_of, room_for, room_for_first, initializer, variables, object_cells, with_objects, global, listed, parameter_types, result_type, agrees, all_scalar, scalar_result, with_function, inside, function_body, is_defined, function_rules, signature_of, function, is_off, item}
 use Rattle.region_typing_rules.proofs.Verdicts.{Promises, passing_promises, needs_promises, anything_promised}
 use Rattle.region_typing.specs.Items.{Outside}
 
@@ -64,7 +64,7 @@ known_outside (Some before) f g o = o
 pub declared_outside : (known : Option Signature) (f : Signature) (g h : Scope) → h ≡ with_function known f g → Outside g → Outside h
 declared_outside known f g h is o = rw is (known_outside known f g o)
 
-body_outside : (at : Places) (w : Walk) (f : Signature) (ps : List Variable) (body : Option i.Body) → Outside w.scope → Promises OutsideBehind (function_body at w f ps body)
+body_outside : (at : Places) (w : Walk) (f : Signature) (ps : List Parameter) (body : Option i.Body) → Outside w.scope → Promises OutsideBehind (function_body at w f ps body)
 body_outside at w f ps None o = o
 body_outside at w f ps (Some body) o =
     passing_promises (λ _. Unit {0}) OutsideBehind (statements at (inside f ps body.statements w.scope) body.statements) _ (anything_promised (statements at (inside f ps body.statements w.scope) body.statements))
@@ -81,7 +81,7 @@ function_outside at all w d o =
     let known = function_named w.scope.functions d.name.number in
     needs_promises OutsideBehind (is_some known || nat_lt (length w.scope.functions) 4096) E08 d.span _
     (λ _. passing_promises (λ (t : Option CType). Unit {0}) OutsideBehind (result_type w.scope d.result d.stars) _ (anything_promised (result_type w.scope d.result d.stars))
-    (λ t _. passing_promises (λ (ps : List Variable). Unit {0}) OutsideBehind (parameter_types w.scope (listed d.parameters) []) _ (anything_promised (parameter_types w.scope (listed d.parameters) []))
+    (λ t _. passing_promises (λ (ps : List Parameter). Unit {0}) OutsideBehind (parameter_types w.scope (listed d.parameters) (listed d.parameters) []) _ (anything_promised (parameter_types w.scope (listed d.parameters) (listed d.parameters) []))
     (λ ps _. passing_promises OutsideBehind OutsideBehind (function_body at (record w { scope = with_function known (signature_of d t ps) w.scope }) (signature_of d t ps) ps d.body) _
     (body_outside at (record w { scope = with_function known (signature_of d t ps) w.scope }) (signature_of d t ps) ps d.body (known_outside known (signature_of d t ps) w.scope o))
     (λ x h. rules_outside all d (signature_of d t ps) known x h))))

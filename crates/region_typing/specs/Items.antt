@@ -3,6 +3,7 @@ use Rattle.std.specs.Prelude.{◌≡◌, ℕ, Bool, true, false, not, ◌&&◌, 
 use Rattle.ckc_text.specs.declared.place.Span.{Span}
 use Rattle.ckc_text.specs.declared.code.Code.TheVariants.{E08, E10, E13, E15}
 use Rattle.ckc_tree.specs.Types.{TypeTree, type_span}
+use Rattle.ckc_tree.specs.Expressions.{Bounds}
 use Rattle.ckc_tree.specs.Items as i
 use Rattle.ckc_tree.specs.Statements.{Initializer, Declarator, Statements}
 use Rattle.pointer_modes.specs.Types as types
@@ -10,11 +11,12 @@ use Rattle.pointer_modes.specs.Types.{CType}
 use Rattle.ckc_core.specs.Core as core
 use Rattle.ckc_core.specs.Core.{object, function}
 use Rattle.region_typing_rules.specs.Verdicts.{Verdict, Passes, passing, needs, picked}
-use Rattle.region_typing_rules.specs.Scopes.{Scope, Signature, Variable, function_named}
+use Rattle.region_typing_rules.specs.Scopes.{Scope, Signature, WrittenBounds, function_named}
 use Rattle.region_typing_rules.specs.Types.{type_named, without_stars}
 use Rattle.region_typing_rules.specs.Expressions.{Places, is_tainted}
+use Rattle.region_typing_rules.specs.DeclaredBounds.{declared_bounds}
 use Rattle.region_typing_rules.specs.Statements.{statements, is_unchecked}
-use Rattle.region_typing_rules.specs.Items.{Defined, Walk, with_variable, room_for, length_of, initializer, inside, core_function, function_body}
+use Rattle.region_typing_rules.specs.Items.{Parameter, Defined, Walk, among_parameters, written_as, with_variable, room_for, length_of, initializer, inside, core_function, function_body}
 use Rattle.region_typing_rules.specs.Items.{with_function, agrees, all_scalar, scalar_result, is_defined, in_checked_region}
 use Rattle.region_typing_scope.specs.Views.{scope}
 use Rattle.bounds_flow.specs.Flows.{at_entry}
@@ -39,11 +41,16 @@ one_member g m done =
     needs (nat_lt (length done) 64) E08 (type_span m.type.base)
     (passing (type_named g m.type) (λ t. Passes (done ++ record { name = m.name.name; ctype = t; span = m.span } ∷ [])))
 
--- a parameter more (E08)
-abbrev pub one_parameter : Scope → i.Member → List Variable → Verdict (List Variable)
-one_parameter g p done =
+-- what is written for the bounds of a parameter of a type, by its number
+abbrev pub bounds_written : Scope → CType → ℕ → Option Bounds → Verdict WrittenBounds
+bounds_written g t local written = passing (declared_bounds g t local written) (λ b. Passes (written_as written b))
+
+-- a parameter more (E08), among all
+abbrev pub one_parameter : Scope → List i.Member → i.Member → List Parameter → Verdict (List Parameter)
+one_parameter g all p done =
     needs (nat_lt (length done) 16) E08 (type_span p.type.base)
-    (passing (type_named g p.type) (λ t. Passes (done ++ record { name = p.name.number; type = t } ∷ [])))
+    (passing (type_named g p.type) (λ t. passing (bounds_written (among_parameters g all) t (length done) p.bounds) (λ b.
+    Passes (done ++ record { name = p.name.number; type = t; bounds = b } ∷ []))))
 
 -- a variable of a type with what it is initialised with
 pub record JudgedVariable : Type 0 where
@@ -85,7 +92,7 @@ judged_objects span [] w = Passes w
 judged_objects span (v ∷ vs) w = passing (one_object span v w) (λ x. judged_objects span vs x)
 
 -- the core of a function with a body, whose locals are gone behind it
-abbrev pub body_core : Places → Scope → Signature → List Variable → Statements → Verdict (core.Function × Scope)
+abbrev pub body_core : Places → Scope → Signature → List Parameter → Statements → Verdict (core.Function × Scope)
 body_core at g f parameters body = passing (statements at (inside f parameters body g) body) (λ x. Passes (core_function f parameters x.0 x.1, g))
 
 -- what is asked of a function whose body was walked (E13, E10, E15)
@@ -96,7 +103,7 @@ kept_rules all d fits g =
     (needs (not (is_unchecked d.mark)) E15 d.span (in_checked_region g d.span tt)))
 
 -- what is asked of a function behind its declaration
-abbrev pub behind_declaration : Places → List i.Item → Walk → i.Function → Signature × List Variable → Verdict Walk
+abbrev pub behind_declaration : Places → List i.Item → Walk → i.Function → Signature × List Parameter → Verdict Walk
 behind_declaration at all w d x =
     passing (function_body at (record w { scope = with_function (function_named w.scope.functions x.0.name) x.0 w.scope }) x.0 x.1 d.body) (λ v.
     passing (kept_rules all d (agrees (function_named w.scope.functions x.0.name) x.0

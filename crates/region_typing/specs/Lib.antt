@@ -4,3 +4,4 @@ pub mod Initials
 pub mod Items
 pub mod Signatures
 pub mod CoreParts
+pub mod BoundsBelow

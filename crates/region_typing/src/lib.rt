@@ -9,6 +9,7 @@ mod functions;
 mod globals;
 mod initials;
 mod items;
+mod parameters;
 mod prototype;
 mod signatures;
 mod start;

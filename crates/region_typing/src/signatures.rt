@@ -8,18 +8,20 @@ ghost use Rattle.region_typing_rules.specs.Scopes.{function_named};
 ghost use Rattle.region_typing_rules.specs.Items.{same_types as same_types_of, same_result as same_result_of, same_kind as same_kind_of, agrees as agrees_of, all_scalar as all_scalar_of, scalar_result as scalar_result_of, with_function};
 ghost use Rattle.region_typing_scope.specs.Answering.{Answers};
 ghost use Rattle.region_typing_scope.specs.Views.{scope as scope_of, signature};
-ghost use Rattle.region_typing.specs.Parameters.{variable as variable_of};
+ghost use Rattle.region_typing.specs.Parameters.{parameter as parameter_of};
 ghost use Rattle.region_typing.specs.Signatures.{declared as declared_view, declared_function};
 
-use crate::functions::{copied_result, parameter_types, result_type};
+use crate::functions::{copied_result, result_type};
+use crate::parameters::parameter_types;
 use crate::prototype::{Prototype, TypedParameter};
+use bounds_exprs::term::Bounds;
 use ckc_text::fault::NoMemory;
 use ckc_tree::item::{Function, FunctionKind};
 use pointer_modes::ctype::CType;
 use region_typing_scope::context::Context;
 use region_typing_scope::refusals::CheckError;
 use region_typing_scope::scope::Scope;
-use region_typing_scope::signature::Signature;
+use region_typing_scope::signature::{Signature, all_same_written, copied_bounds};
 use region_typing_scope::types::{copied, is_scalar, same_type};
 
 fn same_types(a: &[CType], b: &[CType]) -> bool
@@ -66,7 +68,8 @@ pub fn agrees(scope: &Scope, f: &Signature) -> bool
         Some(known) => {
             same_kind(known.kind, f.kind)
                 && (same_types(known.parameters.as_slice(), f.parameters.as_slice())
-                    && same_result(&known.result, &f.result))
+                    && (same_result(&known.result, &f.result)
+                        && all_same_written(known.bounds.as_slice(), f.bounds.as_slice())))
         }
     }
 }
@@ -109,13 +112,27 @@ pub fn copied_types(context: &Context, types: &[CType]) -> Result<Vec<CType>, No
 
 // The types of parameters.
 fn types_of(context: &Context, parameters: &[TypedParameter]) -> Result<Vec<CType>, NoMemory>
-    ensures { IfOk result (λ v. map ctype_of v.items ≡ map (λ p. p.type) (map variable_of parameters.now)) }
+    ensures { IfOk result (λ v. map ctype_of v.items ≡ map (λ p. p.type) (map parameter_of parameters.now)) }
 {
     let mut types = Vec::new(context.alloc());
     for p in parameters {
         types.push(copied(context, &p.ctype)?)?;
     }
     Ok(types)
+}
+
+// What is written for the bounds of parameters.
+fn bounds_of(
+    context: &Context,
+    parameters: &[TypedParameter],
+) -> Result<Vec<Option<Option<Bounds>>>, NoMemory>
+    ensures { IfOk result (λ v. v.items ≡ map (λ p. p.bounds) (map parameter_of parameters.now)) }
+{
+    let mut bounds = Vec::new(context.alloc());
+    for p in parameters {
+        bounds.push(p.bounds)?;
+    }
+    Ok(bounds)
 }
 
 /// A declaration of a function.
@@ -129,6 +146,7 @@ pub fn declared(context: &Context, scope: &Scope, d: &Function) -> Result<Protot
         text: d.name.name.copy(context.alloc())?,
         kind: d.kind,
         parameters: types_of(context, parameters.as_slice())?,
+        bounds: bounds_of(context, parameters.as_slice())?,
         result,
     };
     Ok(Prototype {
@@ -146,6 +164,7 @@ pub fn copied_signature(context: &Context, f: &Signature) -> Result<Signature, N
         text: f.text.copy(context.alloc())?,
         kind: f.kind,
         parameters: copied_types(context, f.parameters.as_slice())?,
+        bounds: copied_bounds(context, f.bounds.as_slice())?,
         result: copied_result(context, &f.result)?,
     })
 }

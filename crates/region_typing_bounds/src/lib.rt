@@ -3,4 +3,5 @@
 
 pub mod declared;
 mod names;
+pub mod place;
 mod sums;

@@ -6,12 +6,11 @@ ghost use Rattle.pointer_modes.specs.Types.{Pointer, ctype as ctype_of};
 ghost use Rattle.bounds_exprs.specs.Sums.{sum};
 ghost use Rattle.region_typing_rules.specs.Knowing.{local_number};
 ghost use Rattle.region_typing_rules.specs.DeclaredBounds.{bounded_of, local_sum, name_sum};
-ghost use Rattle.region_typing_scope.specs.Views.{scope as scope_of};
-ghost use Rattle.region_typing_bounds.specs.Views.{bounded as bounded_view};
+ghost use Rattle.region_typing_bounds.specs.Views.{bounded as bounded_view, place as place_view};
 
+use crate::place::Place;
 use bounds_exprs::form::SumForm;
 use pointer_modes::ctype::{CType, Mode};
-use region_typing_scope::scope::Scope;
 use region_typing_scope::types::{same_mode, same_type};
 use region_typing_scope::visible::innermost;
 
@@ -69,23 +68,23 @@ fn local_form(p: &Bounded, local: u32, t: &CType) -> SumForm
 }
 
 // A local by its number.
-fn numbered_form(scope: &Scope, p: &Bounded, local: u32) -> SumForm
-    ensures { sum result ≡ local_sum (bounded_view p.now) local (slice_get (scope_of scope.now).locals local) }
+fn numbered_form(place: &Place, p: &Bounded, local: u32) -> SumForm
+    ensures { sum result ≡ local_sum (bounded_view p.now) local (slice_get (place_view place.now).locals local) }
 {
-    match scope.locals.get(local as usize) {
+    match place.locals.get(local as usize) {
         Some(t) => local_form(p, local, t),
         None => SumForm::Other,
     }
 }
 
 /// A name in bounds. `NULL` is the number 0.
-pub fn name_form(scope: &Scope, p: &Bounded, name: usize) -> SumForm
-    ensures { sum result ≡ name_sum (scope_of scope.now) (bounded_view p.now) name (local_number (scope_of scope.now).visible name) }
+pub fn name_form(place: &Place, p: &Bounded, name: usize) -> SumForm
+    ensures { sum result ≡ name_sum (place_view place.now) (bounded_view p.now) name (local_number (place_view place.now).visible name) }
 {
-    match innermost(scope.visible.as_slice(), name) {
-        Some(local) => numbered_form(scope, p, local),
+    match innermost(place.visible, name) {
+        Some(local) => numbered_form(place, p, local),
         None => {
-            if name == scope.given.null {
+            if name == place.scope.given.null {
                 SumForm::Number(0)
             } else {
                 SumForm::Other

@@ -9,10 +9,10 @@ ghost use Rattle.bounds_exprs.specs.Sums.{Other, sum};
 ghost use Rattle.region_typing_rules.specs.Verdicts.{Passes, passing};
 ghost use Rattle.region_typing_rules.specs.DeclaredBounds.{operation_sum, sum_written, all_written};
 ghost use Rattle.region_typing_scope.specs.Answering.{Answers};
-ghost use Rattle.region_typing_scope.specs.Views.{scope as scope_of};
-ghost use Rattle.region_typing_bounds.specs.Views.{bounded as bounded_view};
+ghost use Rattle.region_typing_bounds.specs.Views.{bounded as bounded_view, place as place_view};
 
 use crate::names::{Bounded, name_form};
+use crate::place::Place;
 use bounds_exprs::form::SumForm;
 use ckc_text::code::Code;
 use ckc_text::fault::NoMemory;
@@ -20,7 +20,6 @@ use ckc_tree::expr::{BinaryOperator, Expr};
 use ckc_tree::type_form::TypeName;
 use region_typing_scope::context::Context;
 use region_typing_scope::refusals::{CheckError, refusal};
-use region_typing_scope::scope::Scope;
 use region_typing_scope::types::{same_type, type_named};
 
 // An operator between two operands, of which only sums, differences and products count.
@@ -69,15 +68,15 @@ fn operation_form(
 // The bytes of a type.
 fn size_form(
     context: &Context,
-    scope: &Scope,
+    place: &Place,
     p: &Bounded,
     t: &TypeName,
 ) -> Result<SumForm, CheckError>
-    ensures { (span : Span) → Answers sum (sum_written (scope_of scope.now) (bounded_view p.now) (SizeOf (type_name_of t.now) span)) result }
+    ensures { (span : Span) → Answers sum (sum_written (place_view place.now) (bounded_view p.now) (SizeOf (type_name_of t.now) span)) result }
 {
-    let named = type_named(context, scope, t)?;
+    let named = type_named(context, place.scope, t)?;
     Ok(SumForm::Size {
-        bytes: scope.structs.size_of(&named),
+        bytes: place.scope.structs.size_of(&named),
         element: same_type(p.element, &named),
     })
 }
@@ -86,11 +85,11 @@ fn size_form(
 #[cycle(sums)]
 pub fn sum_form(
     context: &Context,
-    scope: &Scope,
+    place: &Place,
     p: &Bounded,
     e: &Expr,
 ) -> Result<SumForm, CheckError>
-    ensures { Answers sum (sum_written (scope_of scope.now) (bounded_view p.now) (expression_of e.now)) result }
+    ensures { Answers sum (sum_written (place_view place.now) (bounded_view p.now) (expression_of e.now)) result }
 {
     match e {
         Expr::Number { value, .. } => Ok(SumForm::Number(*value as i64)),
@@ -99,23 +98,23 @@ pub fn sum_form(
         | Expr::Cast { span, .. }
         | Expr::Malloc { span, .. }
         | Expr::Calloc { span, .. } => Err(refusal(Code::E13, *span)),
-        Expr::Name { name } => Ok(name_form(scope, p, name.number)),
-        Expr::Call { arguments, .. } => all_forms(context, scope, p, arguments.as_slice()),
-        Expr::SizeOf { type_name, .. } => size_form(context, scope, p, type_name),
+        Expr::Name { name } => Ok(name_form(place, p, name.number)),
+        Expr::Call { arguments, .. } => all_forms(context, place, p, arguments.as_slice()),
+        Expr::SizeOf { type_name, .. } => size_form(context, place, p, type_name),
         Expr::Index { base, index, .. } => {
-            let _base = sum_form(context, scope, p, base)?;
-            other_form(context, scope, p, index)
+            let _base = sum_form(context, place, p, base)?;
+            other_form(context, place, p, index)
         }
-        Expr::Dot { base, .. } | Expr::Arrow { base, .. } => other_form(context, scope, p, base),
-        Expr::Unary { operand, .. } => other_form(context, scope, p, operand),
+        Expr::Dot { base, .. } | Expr::Arrow { base, .. } => other_form(context, place, p, base),
+        Expr::Unary { operand, .. } => other_form(context, place, p, operand),
         Expr::Binary {
             operator,
             left,
             right,
             ..
         } => {
-            let left = sum_form(context, scope, p, left)?;
-            let right = sum_form(context, scope, p, right)?;
+            let left = sum_form(context, place, p, left)?;
+            let right = sum_form(context, place, p, right)?;
             Ok(operation_form(context, *operator, left, right)?)
         }
     }
@@ -125,13 +124,13 @@ pub fn sum_form(
 #[cycle(sums)]
 fn other_form(
     context: &Context,
-    scope: &Scope,
+    place: &Place,
     p: &Bounded,
     part: &Expr,
 ) -> Result<SumForm, CheckError>
-    ensures { Answers sum (passing (sum_written (scope_of scope.now) (bounded_view p.now) (expression_of part.now)) (λ _. Passes Other)) result }
+    ensures { Answers sum (passing (sum_written (place_view place.now) (bounded_view p.now) (expression_of part.now)) (λ _. Passes Other)) result }
 {
-    let _part = sum_form(context, scope, p, part)?;
+    let _part = sum_form(context, place, p, part)?;
     Ok(SumForm::Other)
 }
 
@@ -139,14 +138,14 @@ fn other_form(
 #[cycle(sums)]
 fn all_forms(
     context: &Context,
-    scope: &Scope,
+    place: &Place,
     p: &Bounded,
     arguments: &[Expr],
 ) -> Result<SumForm, CheckError>
-    ensures { Answers sum (all_written (scope_of scope.now) (bounded_view p.now) (expression_list arguments.now)) result }
+    ensures { Answers sum (all_written (place_view place.now) (bounded_view p.now) (expression_list arguments.now)) result }
 {
     for argument in arguments {
-        let _argument = sum_form(context, scope, p, argument)?;
+        let _argument = sum_form(context, place, p, argument)?;
     }
     Ok(SumForm::Other)
 }

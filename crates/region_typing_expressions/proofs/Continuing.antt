@@ -1,5 +1,6 @@
 -- Rules that go on with the value of an operand.
-use Rattle.std.proofs.Common.{◌≡◌, Bool, true, false, not, ◌&&◌, ◌||◌, List, [], ◌∷◌, Some, refl, ◌∙◌, arith}
+use Rattle.std.proofs.Common.{◌≡◌, ℕ, Bool, true, false, not, ◌&&◌, ◌||◌, List, [], ◌∷◌, Option, Some, None, refl, arith}
+use Rattle.bounds_exprs.specs.declared.term.Term.{Term}
 use Rattle.std.specs.Prelude.{is_none}
 use Rattle.ckc_text.specs.declared.place.Span.{Span}
 use Rattle.ckc_text.specs.declared.code.Code.TheVariants.{E13, E17, E18, E19}
@@ -10,15 +11,16 @@ use Rattle.ckc_core.specs.Core as core
 use Rattle.bounds_flow.specs.Flows.{Knowledge}
 use Rattle.ckc_core.specs.declared.program.Direction.{Direction}
 use Rattle.region_typing_rules.specs.Verdicts.{Verdict, Passes, Stops, passing, needs, picked}
-use Rattle.region_typing_rules.specs.Scopes.{Scope, Signature}
+use Rattle.region_typing_rules.specs.Scopes.{Scope, Signature, WrittenBounds, bounds_in}
 use Rattle.region_typing_rules.specs.Types.{is_number}
 use Rattle.region_typing_rules.specs.Expressions.{Places, Typed, Value, AStruct, ForNothing, ForArray, For, GivesNothing, number_of, converted, site_at, first_of, writes}
-use Rattle.region_typing_rules.specs.Expressions.{is_single, is_row, is_single_value, lacks_bounds, arguments_as, arguments_met, call_of, declared_callee}
+use Rattle.region_typing_rules.specs.Expressions.{is_single, is_row, is_single_value, lacks_bounds, argument_meets, arguments_as, arguments_met, call_of, declared_callee, pointers_for, terms_for}
 use Rattle.region_typing_rules.specs.Statements.{updated, set_to, store}
-use Rattle.region_typing_expressions.specs.Calls.{only_number, converted_call, first_unmet, unless_unmet}
+use Rattle.region_typing_expressions.specs.ArgumentBounds.{first_unmet, first_unmet_of, unless_unmet}
+use Rattle.region_typing_expressions.specs.Calls.{only_number, converted_call}
 use Rattle.region_typing_expressions.specs.Targets.{target_of, updated_target}
-use Rattle.region_typing_scope.specs.Entailing.{is_met_as, fitted}
-use Rattle.region_typing_scope.proofs.Entailing.{needs_then, converted_then, fitted_then, bounds_met_so}
+use Rattle.region_typing_scope.specs.Entailing.{fitted}
+use Rattle.region_typing_scope.proofs.Entailing.{needs_then, converted_then, fitted_then}
 
 pub number_then : {A : Type 0} (t : Typed) (span : Span) (next : core.Expression → Verdict A) → number_of t span next ≡ passing (number_of t span Passes) next
 number_then (Value type null value place) span next = needs_then (is_number type) _ span value next
@@ -64,23 +66,25 @@ set_parts f (AStruct struct place) right span = refl
 
 -- ---- arguments whose bounds are met
 
-met_then : {A : Type 0} (f : Knowledge) (arguments : List (Typed × Span)) (types : List CType) (next : Verdict A)
-    → arguments_met f arguments types next ≡ passing (unless_unmet (first_unmet f arguments types)) (λ (u : Unit {0}). next)
-met_then f [] types next = refl
-met_then f (a ∷ arguments) [] next = refl
-met_then f (a ∷ arguments) (type ∷ types) next = bounds_met_so f a.0 type a.1 (arguments_met f arguments types next) ∙ by (is_met_as f a.0 type) (met_then f arguments types next)
-  where
-    by : (b : Bool) → arguments_met f arguments types next ≡ passing (unless_unmet (first_unmet f arguments types)) (λ (u : Unit {0}). next)
-        → needs b E17 a.1 (arguments_met f arguments types next) ≡ passing (unless_unmet (picked b (first_unmet f arguments types) (Some a.1))) (λ (u : Unit {0}). next)
-    by true others = others
-    by false others = refl
+one_met : {A : Type 0} (b : Bool) (span : Span) (all : Verdict A) (unmet : Option Span) (next : Verdict A) → all ≡ passing (unless_unmet unmet) (λ (u : Unit {0}). next)
+    → needs b E17 span all ≡ passing (unless_unmet (picked b unmet (Some span))) (λ (u : Unit {0}). next)
+one_met true span all unmet next others = others
+one_met false span all unmet next others = refl
 
-values_met : {A B : Type 0} (f : Knowledge) (arguments : List (Typed × Span)) (types : List CType) (v : Verdict A) (next : A → Verdict B)
-    → passing v (λ values. arguments_met f arguments types (next values)) ≡ passing v (λ values. passing (unless_unmet (first_unmet f arguments types)) (λ (u : Unit {0}). next values))
-values_met f arguments types (Passes values) next = met_then f arguments types (next values)
-values_met f arguments types (Stops stop) next = refl
+met_then : {A : Type 0} (f : Knowledge) (terms : List (Option Term)) (pointers : List (Option ℕ)) (arguments : List (Typed × Span)) (types : List CType) (bounds : List WrittenBounds) (next : Verdict A)
+    → arguments_met f terms pointers arguments types bounds next ≡ passing (unless_unmet (first_unmet f terms pointers arguments types bounds)) (λ (u : Unit {0}). next)
+met_then f terms pointers [] types bounds next = refl
+met_then f terms pointers (a ∷ arguments) [] bounds next = refl
+met_then f terms pointers (a ∷ arguments) (type ∷ types) [] next = one_met (argument_meets f terms pointers a.0 type None) a.1 _ _ next (met_then f terms pointers arguments types [] next)
+met_then f terms pointers (a ∷ arguments) (type ∷ types) (b ∷ bounds) next = one_met (argument_meets f terms pointers a.0 type (bounds_in b)) a.1 _ _ next (met_then f terms pointers arguments types bounds next)
+
+values_met : {A B : Type 0} (f : Knowledge) (terms : List (Option Term)) (pointers : List (Option ℕ)) (arguments : List (Typed × Span)) (types : List CType) (bounds : List WrittenBounds) (v : Verdict A) (next : A → Verdict B)
+    → passing v (λ values. arguments_met f terms pointers arguments types bounds (next values)) ≡ passing v (λ values. passing (unless_unmet (first_unmet f terms pointers arguments types bounds)) (λ (u : Unit {0}). next values))
+values_met f terms pointers arguments types bounds (Passes values) next = met_then f terms pointers arguments types bounds (next values)
+values_met f terms pointers arguments types bounds (Stops stop) next = refl
 
 -- a call whose arguments convert, and whose bounds are met
 pub converted_parts : (s : Scope) (f : Signature) (arguments : List (Typed × Span)) (site : Site) → converted_call s f arguments site
-    ≡ passing (arguments_as arguments f.parameters) (λ values. passing (unless_unmet (first_unmet s.flow arguments f.parameters)) (λ (u : Unit {0}). Passes (call_of s.structs f.result (declared_callee s f site) values site)))
-converted_parts s f arguments site = values_met s.flow arguments f.parameters (arguments_as arguments f.parameters) (λ values. Passes (call_of s.structs f.result (declared_callee s f site) values site))
+    ≡ passing (arguments_as arguments f.parameters) (λ values. passing (unless_unmet (first_unmet_of s f arguments)) (λ (u : Unit {0}). Passes (call_of s.structs f.result (declared_callee s f site) values site)))
+converted_parts s f arguments site =
+    values_met s.flow (terms_for s.locals arguments f.parameters) (pointers_for s.locals arguments) arguments f.parameters f.bounds (arguments_as arguments f.parameters) (λ values. Passes (call_of s.structs f.result (declared_callee s f site) values site))

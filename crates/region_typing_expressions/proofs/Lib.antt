@@ -1,5 +1,6 @@
 mod Crossing
 mod Leading
+mod Unmet
 pub mod Arguments
 pub mod Comparing
 pub mod Continuing

@@ -1,22 +1,20 @@
 -- Inside: calls and their arguments, as the code holds them.
-use Rattle.std.specs.Prelude.{ℕ, List, [], ◌∷◌, Option, Some, None}
+use Rattle.std.specs.Prelude.{ℕ, List, [], ◌∷◌}
 use Rattle.ckc_text.specs.declared.place.Span.{Span}
-use Rattle.ckc_text.specs.declared.code.Code.TheVariants.{E14, E17}
+use Rattle.ckc_text.specs.declared.code.Code.TheVariants.{E14}
 use Rattle.ckc_core.specs.declared.program.Site.{Site}
 use Rattle.ckc_core.specs.Core as core
-use Rattle.region_typing_rules.specs.Verdicts.{Verdict, Passes, passing, breaks, picked}
+use Rattle.region_typing_rules.specs.Verdicts.{Verdict, Passes, passing, breaks}
 use Rattle.region_typing_rules.specs.Scopes.{Scope, Signature, function_named}
 use Rattle.ckc_tree.specs.Expressions.{Expressions}
-use Rattle.pointer_modes.specs.Types.{CType, Int, ctype}
-use Rattle.bounds_flow.specs.Flows.{Knowledge}
+use Rattle.pointer_modes.specs.Types.{Int, ctype}
 use Rattle.ckc_core.specs.Core.{expression, statement}
-use Rattle.region_typing_rules.specs.Expressions.{Places, Typed, Called, Gives, GivesNothing, converted, arguments_as, arguments_met}
+use Rattle.region_typing_rules.specs.Expressions.{Places, Typed, Called, Gives, GivesNothing, converted, arguments_as, arguments_met, pointers_for, terms_for}
 use Rattle.region_typing_rules.specs.Expressions.{declared_callee, call_of, all_typed, called as called_in, site_at}
 use Rattle.region_typing_expressions.specs.declared.calls.Called as code
 use Rattle.region_typing_expressions.specs.declared.calls.Called.TheVariants as calls
 use Rattle.region_typing_expressions.specs.declared.calls.Argument as code_argument
 use Rattle.region_typing_scope.specs.OnHeap.{typed}
-use Rattle.region_typing_scope.specs.Entailing.{is_met_as}
 
 abbrev pub called : code.Called → Called
 called (calls.Gives type value) = Gives (ctype type) (expression value.value)
@@ -32,21 +30,11 @@ only_number [] span = breaks E14 span
 only_number (a ∷ []) span = converted a.0 Int a.1 Passes
 only_number (a ∷ b ∷ others) span = breaks E14 span
 
--- where the first argument stands whose bounds aren't met
-abbrev pub first_unmet : Knowledge → List (Typed × Span) → List CType → Option Span
-first_unmet f [] types = None
-first_unmet f (argument ∷ arguments) [] = None
-first_unmet f (argument ∷ arguments) (type ∷ types) = picked (is_met_as f argument.0 type) (first_unmet f arguments types) (Some argument.1)
-
--- where bounds aren't met (E17)
-abbrev pub unless_unmet : Option Span → Verdict (Unit {0})
-unless_unmet None = Passes tt
-unless_unmet (Some span) = breaks E17 span
-
 -- a call of a declared function, where the arguments convert (E13) and their bounds are met (E17)
 abbrev pub converted_call : Scope → Signature → List (Typed × Span) → Site → Verdict Called
 converted_call s f arguments site =
-    passing (arguments_as arguments f.parameters) (λ values. arguments_met s.flow arguments f.parameters
+    passing (arguments_as arguments f.parameters) (λ values.
+    arguments_met s.flow (terms_for s.locals arguments f.parameters) (pointers_for s.locals arguments) arguments f.parameters f.bounds
     (Passes (call_of s.structs f.result (declared_callee s f site) values site)))
 
 -- a call of a function by its name, with what its arguments are

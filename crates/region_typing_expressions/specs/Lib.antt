@@ -1,4 +1,5 @@
 pub mod Calls
+pub mod ArgumentBounds
 pub mod Slices
 pub mod Targets
 pub mod Comparing

@@ -11,8 +11,9 @@ ghost use Rattle.region_typing_scope.specs.Answering.{Answers};
 ghost use Rattle.region_typing_rules.specs.Verdicts.{Passes};
 ghost use Rattle.region_typing_scope.specs.Typed.{typed as inline_typed};
 ghost use Rattle.region_typing_scope.specs.OnHeap.{typed};
-ghost use Rattle.region_typing_expressions.specs.Calls.{argument, called as called_as, converted_call, first_unmet as first_unmet_in, only_number, unless_unmet as unless_unmet_at};
+ghost use Rattle.region_typing_expressions.specs.Calls.{argument, called as called_as, converted_call, only_number};
 
+use crate::argument_bounds::{first_unmet, unless_unmet};
 use ckc_core::program::{Call, Callee, Expr, Site, Stmt};
 use ckc_names_rules::given::Given;
 use ckc_text::code::Code;
@@ -218,33 +219,6 @@ fn crossing(import: bool, arguments: &[Argument]) -> Result<(), CheckError>
     }
 }
 
-// Where the first argument stands whose bounds aren't met.
-fn first_unmet(
-    scope: &Scope,
-    arguments: &[Argument],
-    types: &[CType],
-) -> Result<Option<Span>, NoMemory>
-    requires { length arguments.now ≡ length types.now }
-    ensures { IfOk result (λ unmet. unmet ≡ first_unmet_in scope.now.flow (map argument arguments.now) (map ctype_of types.now)) }
-{
-    for i in 0..arguments.len() {
-        if !scope.is_met(&arguments[i].typed, &types[i])? {
-            return Ok(Some(arguments[i].span));
-        }
-    }
-    Ok(None)
-}
-
-// Refuses an argument whose bounds aren't met, where there is one.
-fn unless_unmet(unmet: Option<Span>) -> Result<(), CheckError>
-    ensures { Answers (λ x. x) (unless_unmet_at unmet) result }
-{
-    match unmet {
-        None => Ok(()),
-        Some(span) => Err(refusal(Code::E17, span)),
-    }
-}
-
 // A call of a declared function, where the arguments convert and their bounds are met.
 fn call_with(
     context: &Context,
@@ -256,8 +230,8 @@ fn call_with(
     requires { length arguments.items ≡ length f.now.parameters.items }
     ensures { Answers called_as (converted_call (scope_of scope.now) (signature f.now) (map argument arguments.items) site) result }
 {
+    let unmet = first_unmet(context, scope, f, arguments.as_slice())?;
     let types = f.parameters.as_slice();
-    let unmet = first_unmet(scope, arguments.as_slice(), types)?;
     let arguments = arguments_as(context, VecDeque::from_vec(arguments), types)?;
     unless_unmet(unmet)?;
     let callee = declared_callee(scope, f, site);

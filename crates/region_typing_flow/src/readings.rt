@@ -27,8 +27,8 @@ pub struct Behind {
     pub elements: i64,
 }
 
-// The term of a local: it has one where it is an `int`.
-pub(crate) fn local_term(locals: &[CType], local: u32) -> Option<Term>
+/// The term of a local: it has one where it is an `int`.
+pub fn local_term(locals: &[CType], local: u32) -> Option<Term>
     ensures { result ≡ term_of (map ctype_of locals.now) (Local local None) }
 {
     match locals.get(local as usize) {
@@ -174,8 +174,8 @@ pub fn sum_bounds(
     }
 }
 
-// A local, where it is a pointer.
-fn pointer(locals: &[CType], local: u32) -> Option<u32>
+/// A local, where it is a pointer.
+pub fn pointer(locals: &[CType], local: u32) -> Option<u32>
     ensures value { result ≡ pointer_local_of (map ctype_of locals.now) (Local local None) }
     ensures below { IsLocalBelow (length locals.now) result }
 {

@@ -15,10 +15,10 @@ use Rattle.ckc_tree.proofs.NumberedWeights.{same_weight}
 use Rattle.ckc_names_rules.specs.Given.{main, number_in, given_in}
 use Rattle.ckc_names_rules.specs.Naming.{named_of}
 use Rattle.region_typing_rules.specs.Verdicts.{Verdict, Passes, Stops, passing, picked}
-use Rattle.region_typing_rules.specs.Scopes.{Scope, Signature, Variable}
+use Rattle.region_typing_rules.specs.Scopes.{Scope, Signature}
 use Rattle.region_typing_rules.specs.Expressions.{Places, is_import}
 use Rattle.region_typing_rules.specs.Statements.{statements, is_unchecked, is_checked}
-use Rattle.region_typing_rules.specs.Items.{Defined, Walk, inside, core_function, function_body, item, items, start, walked}
+use Rattle.region_typing_rules.specs.Items.{Defined, Parameter, Walk, inside, core_function, function_body, item, items, start, walked}
 use Rattle.region_typing_rules.specs.Cores.{body_of, core_of}
 use Rattle.region_typing_rules.proofs.Sides.{trusted_functions, sides_of, sides_parted}
 use Rattle.region_typing_rules.specs.NeverStuck.{HasCore}
@@ -40,10 +40,10 @@ module _ (n : ℕ) where
   abbrev HasLight : Walk → Type 0
   HasLight w = AllByRecursion (HasLightBody n) w.bodies
 
-  abbrev behind_body : Walk → Signature → List Variable → i.Body → core.Statements × Scope → Verdict Walk
+  abbrev behind_body : Walk → Signature → List Parameter → i.Body → core.Statements × Scope → Verdict Walk
   behind_body w f parameters body x = is_checked w.scope body.mark body.span (Passes (record w { bodies = w.bodies ++ record { name = f.name; function = core_function f parameters x.0 x.1 } ∷ [] }))
 
-  body_light : (at : Places) (w : Walk) (f : Signature) (parameters : List Variable) (body : Option i.Body) → 5 * tree.optional_body_weight body ≤ n → HasLight w → Promises HasLight (function_body at w f parameters body)
+  body_light : (at : Places) (w : Walk) (f : Signature) (parameters : List Parameter) (body : Option i.Body) → 5 * tree.optional_body_weight body ≤ n → HasLight w → Promises HasLight (function_body at w f parameters body)
   body_light at w f parameters None le h = h
   body_light at w f parameters (Some body) le h =
       passing_promises (λ (x : core.Statements × Scope). statements_weight x.0 ≤ 5 * tree.statements_weight body.statements) HasLight (statements at (inside f parameters body.statements w.scope) body.statements) (behind_body w f parameters body)

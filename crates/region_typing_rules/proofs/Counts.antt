@@ -11,10 +11,10 @@ use Rattle.ckc_core.specs.Programs.{parted}
 use Rattle.ckc_names_rules.specs.Given.{main, number_in, given_in}
 use Rattle.ckc_names_rules.specs.Naming.{named_of}
 use Rattle.region_typing_rules.specs.Verdicts.{Verdict, Passes, Stops, passing, picked}
-use Rattle.region_typing_rules.specs.Scopes.{Scope, Signature, Variable, function_named}
+use Rattle.region_typing_rules.specs.Scopes.{Scope, Signature, function_named}
 use Rattle.region_typing_rules.specs.Expressions.{Places, is_import}
 use Rattle.region_typing_rules.specs.Statements.{statements, is_unchecked, is_checked}
-use Rattle.region_typing_rules.specs.Items.{Defined, Walk, with_function, inside, core_function, function_body, function, item, items, start, walked}
+use Rattle.region_typing_rules.specs.Items.{Defined, Parameter, Walk, with_function, inside, core_function, function_body, function, item, items, start, walked}
 use Rattle.region_typing_rules.specs.Cores.{body_of, core_of}
 use Rattle.region_typing_rules.proofs.Sides.{trusted_functions, tainted_functions, sides_parted}
 use Rattle.region_typing_rules.specs.Lowerable.{HasFewFunctions}
@@ -33,10 +33,10 @@ with_few : (w : Walk) (known : Option Signature) (f : Signature) → HasFew w �
 with_few w None f h room = let low : length w.scope.functions ≤ 4095 = grind (arith, nat_tests) in omega (arith, length-append w.scope.functions (f ∷ []))
 with_few w (Some before) f h room = h
 
-abbrev behind_body : Walk → Signature → List Variable → i.Body → core.Statements × Scope → Verdict Walk
+abbrev behind_body : Walk → Signature → List Parameter → i.Body → core.Statements × Scope → Verdict Walk
 behind_body w f parameters body x = is_checked w.scope body.mark body.span (Passes (record w { bodies = w.bodies ++ record { name = f.name; function = core_function f parameters x.0 x.1 } ∷ [] }))
 
-body_few : (at : Places) (w : Walk) (f : Signature) (parameters : List Variable) (body : Option i.Body) → HasFew w → Promises HasFew (function_body at w f parameters body)
+body_few : (at : Places) (w : Walk) (f : Signature) (parameters : List Parameter) (body : Option i.Body) → HasFew w → Promises HasFew (function_body at w f parameters body)
 body_few at w f parameters None h = h
 body_few at w f parameters (Some body) h =
     passing_any HasFew (statements at (inside f parameters body.statements w.scope) body.statements) (behind_body w f parameters body) (λ x.

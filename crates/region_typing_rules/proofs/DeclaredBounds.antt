@@ -37,7 +37,7 @@ use Rattle.region_typing_rules.specs.Knowing.{local_number}
 use Rattle.region_typing_rules.specs.KnownIsSo.{AreLimited}
 use Rattle.region_typing_rules.specs.DeclaredBounds.{Bounded, local_sum, name_sum, operation_sum, sum_written, all_written, how_written, normal_bounds, bounded_of, declared_bounds}
 use Rattle.region_typing_rules.specs.DeclaredFormed.{IsFormedIf, DeclaredFormed}
-use Rattle.region_typing_rules.proofs.Verdicts.{Promises, passing_promises, needs_promises, anything_promised, promised_so}
+use Rattle.region_typing_rules.proofs.Verdicts.{Promises, passing_promises, needs_promises, anything_promised, promised_so, promise_kept}
 use Rattle.region_typing_rules.proofs.SameTypes.{mode_equal, same_equal}
 
 -- what is so of both is so of the one that a test chooses
@@ -330,16 +330,12 @@ declared_formed s t own (Some b) =
     let parts = and_parts (is_row t) (nat_lt 0 size) both in
     promised_so (AreFormedIf s.locals p) (IsFormedIf s.structs s.locals t) (normal_bounds how size (bounds_span b)) (bounds_formed s.locals p how size (bounds_span b) h) (for_row s.structs s.locals own t parts.0 parts.1)))
 
--- what is promised of what passes
-promise_kept : {A : Type 0} (P : A → Type 0) (v : Verdict A) (x : A) → Promises P v → v ≡ Passes x → P x
-promise_kept P v x h e = subst (Promises P) e h
-
 pub declared_is_formed : DeclaredFormed
 declared_is_formed s t own o b e = promise_kept (IsFormedIf s.structs s.locals t) (declared_bounds s t own o) b (declared_formed s t own o) e
 
 -- ---- below the variables of a flow
 
-int_below : (types : List CType) (vars : ℕ) (o : Option ℕ) → length types ≤ vars → IsInt types o → IsBelow vars o
+pub int_below : (types : List CType) (vars : ℕ) (o : Option ℕ) → length types ≤ vars → IsInt types o → IsBelow vars o
 int_below types vars None few h = tt
 int_below types vars (Some x) few h = let there = slice_get_within types x Int h in omega arith
 

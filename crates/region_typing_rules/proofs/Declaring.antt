@@ -129,7 +129,7 @@ module _ (frame : Frame) (types : List CType) (all_scalar : AllByRecursion IsSca
   are_moving n low knots g w reaches few (typed.update_local found number char h) s at = tt
   are_moving n low knots g w reaches few (typed.update number place h) s at = tt
   are_moving n low knots g w reaches few (typed.evaluate h) s at = tt
-  are_moving n low knots g w reaches few (typed.call_alone known h) s at = tt
+  are_moving n low knots g w reaches few (typed.call_alone known h asked) s at = tt
   are_moving n low knots g w reaches few (typed.print h) s at = tt
   are_moving n low knots g w reaches few (typed.put_byte h) s at = tt
 

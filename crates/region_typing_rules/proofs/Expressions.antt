@@ -1,5 +1,5 @@
 -- Expressions that break no rule have types.
-use Rattle.std.proofs.Common.{◌≡◌, ℕ, ◌+◌, ◌^◌, Bool, true, false, List, [], ◌∷◌, replicate, length, Option, Some, None, pos, ℤ, ◌+ℤ◌, ◌<◌, refl, sym, ap, ◌∙◌, subst, arith, ⊎_elim}
+use Rattle.std.proofs.Common.{◌≡◌, ℕ, suc, ◌+◌, ◌^◌, Bool, true, false, List, [], ◌∷◌, map, replicate, length, Option, Some, None, pos, ℤ, ◌+ℤ◌, ◌<◌, refl, sym, ap, ◌∙◌, subst, arith, ⊎_elim, inl}
 use Rattle.std.specs.Prelude.{◌==◌, slice_get, nat_lt, not, ◌&&◌, ◌||◌, cond, is_some}
 use Rattle.std.specs.List.{AllByRecursion}
 use Rattle.std.proofs.lemmas.Bool.{and_parts, or_cases, eqb-true}
@@ -49,12 +49,12 @@ use Rattle.bounds_flow_meaning.specs.Rows.{slots}
 use Rattle.bounds_flow_meaning.proofs.Numbers.{type_there}
 use Rattle.bounds_flow_meaning.proofs.AllSteps.{flows_hold}
 use Rattle.region_typing_rules.specs.Verdicts.{Verdict, Passes, Stops, passing, picked}
-use Rattle.region_typing_rules.specs.Scopes.{Scope, Signature, Named, Local, Object, Array, Nothing, named, function_named, members_named}
+use Rattle.region_typing_rules.specs.Scopes.{Scope, Signature, WrittenBounds, bounds_in, Named, Local, Object, Array, Nothing, named, function_named, members_named}
 use Rattle.region_typing_rules.specs.Types.{type_named, is_number, is_pointer, are_comparable, kind_converts, pointer_converts, converts}
-use Rattle.region_typing_rules.specs.Readings.{constant, against, sum_bounds, own_bounds, from_base, based_bounds, is_null}
-use Rattle.region_typing_rules.specs.Expressions.{Places, OfLocal, OfCell, Standing, ForNothing, ForArray, For, Typed, Value, AStruct, Called, Gives, GivesNothing, site_at, bounds_by, bounds_at, noted_if, with_bounds, one_element, sum_node, bounded, number, at_place, in_force, local_typed, name_typed, member_place, member_from, offset_among, member_at, dotted, with_elements, first_element, pointed_by, arrowed, pointed_at, dereferenced, checked_at, pointer_to, address, number_of, scalar_of, unary_typed, is_row, is_single_value, lacks_bounds, without_ptr, two_numbers, two_scalars, operator_along, summed, sum_typed, as_pointer, equated_values, equated, have_one_base, are_related, ordered_values, ordered, arithmetic, binary_typed, element_at, indexed, is_met, in_type, asked_as, asked_of, meets, bounds_met, converted, arguments_as, arguments_met, is_import, side_number, callee_of, call_of, first_of, writes, predefined_call, called, with_result, constant_typed, typed, all_typed, call_typed}
+use Rattle.region_typing_rules.specs.Readings.{constant, against, sum_bounds, own_bounds, from_base, based_bounds, is_null, is_pointer_type, pointer_local, term}
+use Rattle.region_typing_rules.specs.Expressions.{Places, OfLocal, OfCell, Standing, ForNothing, ForArray, For, Typed, Value, AStruct, Called, Gives, GivesNothing, site_at, bounds_by, bounds_at, noted_if, with_bounds, one_element, sum_node, bounded, number, at_place, in_force, local_typed, name_typed, member_place, member_from, offset_among, member_at, dotted, with_elements, first_element, pointed_by, arrowed, pointed_at, dereferenced, checked_at, pointer_to, address, number_of, scalar_of, unary_typed, is_row, is_single_value, lacks_bounds, without_ptr, two_numbers, two_scalars, operator_along, summed, sum_typed, as_pointer, equated_values, equated, have_one_base, are_related, ordered_values, ordered, arithmetic, binary_typed, element_at, indexed, is_met, in_type, asked_as, asked_of, meets, bounds_met, converted, arguments_as, arguments_met, is_import, side_number, callee_of, call_of, first_of, writes, predefined_call, called, with_result, constant_typed, typed, all_typed, call_typed, argument_meets, at_call, meets_all, pointer_for, pointers_for, term_for, terms_for}
 use Rattle.region_typing_rules.specs.Typed as rules
-use Rattle.region_typing_rules.specs.Typed.{Frame, IsCallee, HasBounds, AreSumBounds, CountsFrom, HasElements, IsInForce, LeadsToOne, HasType, HaveTypes, HasPlace, IsSimple, IsScalar, IsScalarResult, IsNumberResult}
+use Rattle.region_typing_rules.specs.Typed.{Frame, AreAsked, HaveRows, IsAskedAt, IsCallee, pointers_of, term_of, terms_of, HasBounds, AreSumBounds, CountsFrom, HasElements, IsInForce, LeadsToOne, HasType, HaveTypes, HasPlace, IsSimple, IsScalar, IsScalarResult, IsNumberResult}
 use Rattle.region_typing_rules.proofs.Values.{member_row}
 use Rattle.region_typing_rules.proofs.Verdicts.{Promises, passing_promises, needs_promises, anything_promised, Extends}
 use Rattle.region_typing_rules.proofs.Known.{IsKnown, IsKnownResult, size_kept, bounds_kept}
@@ -65,6 +65,8 @@ use Rattle.region_typing_rules.proofs.SameTypes.{mode_equal, same_equal}
 use Rattle.region_typing_rules.proofs.Elements.{based_has_base}
 use Rattle.region_typing_rules.proofs.Sizes.{size_fits}
 use Rattle.region_typing_rules.proofs.Alike.{alike_here}
+use Rattle.region_typing_rules.proofs.Asked.{AreTerms, HasEndsBelow, are_terms, asked_at}
+use Rattle.bounds_exprs.specs.declared.term.Term.{Term}
 use Rattle.region_typing_rules.proofs.Told.{null_is}
 
 first_not : (a b : Bool) → not (a || b) ≡ true → a ≡ false
@@ -100,12 +102,17 @@ pub record IsBare (value : core.Expression) : Type 0 where
   pub own : bounds_of value ≡ None
   pub based : based_bounds value ≡ None
 
+-- a pointer to one value has the bounds of its type at its node, and the ends of those that it has from a base speak of such variables
+pub record IsOne (structs : List Structure) (vars : ℕ) (m : Mode) (t : CType) (value : core.Expression) : Type 0 where
+  pub own : HasBounds structs (Pointer m kinds.One t) (bounds_of value)
+  pub based : (b : Bounds) → based_bounds value ≡ Some b → AreEndsBelow vars b
+
 -- what is at the node of a value of a type
 abbrev pub HasNode : List Structure → ℕ → CType → core.Expression → Type 0
 HasNode structs vars Int value = Unit {0}
 HasNode structs vars Char value = Unit {0}
 HasNode structs vars (Struct number) value = Unit {0}
-HasNode structs vars (Pointer m kinds.One t) value = HasBounds structs (Pointer m kinds.One t) (bounds_of value)
+HasNode structs vars (Pointer m kinds.One t) value = IsOne structs vars m t value
 HasNode structs vars (Pointer m kinds.Array t) value = IsRow structs vars t value
 HasNode structs vars (Pointer m kinds.Nt t) value = IsBare value
 
@@ -119,15 +126,34 @@ no_ended modes.Checked p = refl
 no_ended modes.Tainted p = refl
 no_ended modes.Raw p = refl
 
+-- those of a pointer to one value
+single_below : (structs : List Structure) (vars : ℕ) (m : Mode) (t : CType) (site : Site) (p : PointerBounds) → bounds_at structs (Pointer m kinds.One t) site ≡ Some p → AreEndsBelow vars p.bounds
+single_below structs vars modes.Checked t site p e = let same : one_element ≡ p.bounds = cc in subst (AreEndsBelow vars) same (record { lo = tt; hi = tt })
+single_below structs vars modes.Tainted t site p e = absurd (cc)
+single_below structs vars modes.Raw t site p e = absurd (cc)
+
+-- an expression has bounds from a base by those at its node alone
+pub record TakesBounds (of : Option PointerBounds → core.Expression) : Type 0 where
+  pub own : (o : Option PointerBounds) → bounds_of (of o) ≡ o
+  pub none : based_bounds (of None) ≡ None
+  pub based : (vars : ℕ) (p : PointerBounds) (b : Bounds) → AreEndsBelow vars p.bounds → based_bounds (of (Some p)) ≡ Some b → AreEndsBelow vars b
+
 -- the bounds that its type gives an expression
-node_with : (structs : List Structure) (vars : ℕ) (t : CType) (site : Site) (of : Option PointerBounds → core.Expression) → ((o : Option PointerBounds) → bounds_of (of o) ≡ o) → based_bounds (of None) ≡ None → HasNode structs vars t (of (bounds_at structs t site))
-node_with structs vars Int site of is none = tt
-node_with structs vars Char site of is none = tt
-node_with structs vars (Struct number) site of is none = tt
-node_with structs vars (Pointer m kinds.One t) site of is none = (site, is (bounds_at structs (Pointer m kinds.One t) site))
-node_with structs vars (Pointer m kinds.Array t) site of is none =
-    subst (λ o. IsRow structs vars t (of o)) (sym (no_row m _)) (record { own = subst (AreCounted structs vars t) (sym (is None)) tt; based = λ b e. let found = rw none at e in absurd (cc) })
-node_with structs vars (Pointer m kinds.Nt t) site of is none = subst (λ o. IsBare (of o)) (sym (no_ended m _)) (record { own = is None; based = none })
+node_with : (structs : List Structure) (vars : ℕ) (t : CType) (site : Site) (of : Option PointerBounds → core.Expression) → TakesBounds of → HasNode structs vars t (of (bounds_at structs t site))
+node_with structs vars Int site of is = tt
+node_with structs vars Char site of is = tt
+node_with structs vars (Struct number) site of is = tt
+node_with structs vars (Pointer m kinds.One t) site of is = record {
+  own = (site, is.own (bounds_at structs (Pointer m kinds.One t) site));
+  based = λ b e. by b (bounds_at structs (Pointer m kinds.One t) site) refl e;
+}
+  where
+    by : (b : Bounds) (o : Option PointerBounds) → bounds_at structs (Pointer m kinds.One t) site ≡ o → based_bounds (of o) ≡ Some b → AreEndsBelow vars b
+    by b None at e = absurd (let q : None ≡ Some b = sym is.none ∙ e in cc)
+    by b (Some p) at e = is.based vars p b (single_below structs vars m t site p at) e
+node_with structs vars (Pointer m kinds.Array t) site of is =
+    subst (λ o. IsRow structs vars t (of o)) (sym (no_row m _)) (record { own = subst (AreCounted structs vars t) (sym (is.own None)) tt; based = λ b e. let found = rw is.none at e in absurd (cc) })
+node_with structs vars (Pointer m kinds.Nt t) site of is = subst (λ o. IsBare (of o)) (sym (no_ended m _)) (record { own = is.own None; based = is.none })
 
 load_noted : (t : CType) (p : core.Place) (o : Option PointerBounds) → bounds_of (noted_if o (core.Load t p None)) ≡ o
 load_noted t p None = refl
@@ -268,6 +294,12 @@ from_base_below vars k b below = by (is_some b.base)
     by true = below
     by false = record { lo = below.lo; hi = below.hi }
 
+load_takes : (t : CType) (p : core.Place) → TakesBounds (λ o. noted_if o (core.Load t p None))
+load_takes t p = record { own = load_noted t p; none = refl; based = λ vars q b below e. absurd (cc) }
+
+local_takes : (k : ℕ) → TakesBounds (λ o. noted_if o (core.Local k None))
+local_takes k = record { own = local_noted k; none = refl; based = λ vars q b below e. let same : from_base k q.bounds ≡ b = cc in subst (AreEndsBelow vars) same (from_base_below vars k q.bounds below) }
+
 module _ (g : Frame) (types : List CType) (s : Scope) where
   -- what a value stands for
   abbrev pub FitsPlace : CType → Standing → Type 0
@@ -323,7 +355,7 @@ module _ (g : Frame) (types : List CType) (s : Scope) where
 
   load_fits : (t : CType) (p : core.Place) (site : Site) → IsScalar t → HasPlace g types s p t → FitsValue t false (noted_if (bounds_at g.structs t site) (core.Load t p None)) (For (OfCell p))
   load_fits t p site scalar h =
-      record { has_type = loaded t p site scalar h; is_number = λ x. absurd (cc); stands = h; scalar = scalar; node = node_with g.structs s.flow.vars t site (λ o. noted_if o (core.Load t p None)) (load_noted t p) refl }
+      record { has_type = loaded t p site scalar h; is_number = λ x. absurd (cc); stands = h; scalar = scalar; node = node_with g.structs s.flow.vars t site (λ o. noted_if o (core.Load t p None)) (load_takes t p) }
 
   at_place_fits : (t : CType) (p : core.Place) → HasPlace g types s p t → FitsNoted (at_place t p)
   at_place_fits Int p h site = load_fits Int p site refl h
@@ -340,7 +372,7 @@ module _ (g : Frame) (types : List CType) (s : Scope) where
 
   held_fits : Extends s.locals types → (t : CType) (k : ℕ) (site : Site) → IsScalar t → slice_get s.locals k ≡ Some t → FitsValue t false (noted_if (bounds_at g.structs t site) (core.Local k None)) (For (OfLocal k))
   held_fits ext t k site scalar h =
-      record { has_type = held t k site h; is_number = λ x. absurd (cc); stands = ext k t h; scalar = scalar; node = node_with g.structs s.flow.vars t site (λ o. noted_if o (core.Local k None)) (local_noted k) refl }
+      record { has_type = held t k site h; is_number = λ x. absurd (cc); stands = ext k t h; scalar = scalar; node = node_with g.structs s.flow.vars t site (λ o. noted_if o (core.Local k None)) (local_takes k) }
 
   module _ (knows : Knows g types s) where
     -- what is known in the scope makes a local pointer valid with its bounds in force
@@ -428,7 +460,7 @@ module _ (g : Frame) (types : List CType) (s : Scope) where
 
   -- a pointer to a place
   pointer_fits : {p : core.Place} {t : CType} → HasPlace g types s p t → (site : Site) → FitsNoted (pointer_to t p site)
-  pointer_fits h site = λ node. plain_fits _ _ refl (rules.address_of (checked_fits h site) (node, refl)) (node, refl)
+  pointer_fits h site = λ node. plain_fits _ _ refl (rules.address_of (checked_fits h site) (node, refl)) (record { own = (node, refl); based = λ b e. absurd (cc) })
 
   address_promises : (a : Typed) (site : Site) (span : Span) → Fits a → Promises FitsNoted (address a site span)
   address_promises (Value type zero value ForNothing) site span h = tt
@@ -630,15 +662,26 @@ module _ (g : Frame) (types : List CType) (s : Scope) where
   met_promises Q (AStruct number place) to span next h = h tt
 
   -- the same of arguments and the types of their parameters
-  abbrev AllMet : List (Typed × Span) → List CType → Type 0
-  AllMet [] ts = Unit {0}
-  AllMet (a ∷ arguments) [] = Unit {0}
-  AllMet (a ∷ arguments) (t ∷ ts) = AreMet a.0 t × AllMet arguments ts
+  abbrev AreAllMet : List (Typed × Span) → List CType → Type 0
+  AreAllMet [] ts = Unit {0}
+  AreAllMet (a ∷ arguments) [] = Unit {0}
+  AreAllMet (a ∷ arguments) (t ∷ ts) = AreMet a.0 t × AreAllMet arguments ts
 
-  arguments_met_promise : {A : Type 0} (Q : A → Type 0) (arguments : List (Typed × Span)) (ts : List CType) (next : Verdict A) → (AllMet arguments ts → Promises Q next) → Promises Q (arguments_met s.flow arguments ts next)
-  arguments_met_promise Q [] ts next h = h tt
-  arguments_met_promise Q (a ∷ arguments) [] next h = h tt
-  arguments_met_promise Q (a ∷ arguments) (t ∷ ts) next h = met_promises Q a.0 t a.1 _ (λ first. arguments_met_promise Q arguments ts next (λ others. h (first, others)))
+  -- and of arguments, the types of their parameters and the bounds of these
+  abbrev AllMet : List (Option Term) → List (Option ℕ) → List (Typed × Span) → List CType → List WrittenBounds → Type 0
+  AllMet terms pointers [] ts bounds = Unit {0}
+  AllMet terms pointers (a ∷ arguments) [] bounds = Unit {0}
+  AllMet terms pointers (a ∷ arguments) (t ∷ ts) [] = (argument_meets s.flow terms pointers a.0 t None ≡ true) × AllMet terms pointers arguments ts []
+  AllMet terms pointers (a ∷ arguments) (t ∷ ts) (b ∷ bounds) = (argument_meets s.flow terms pointers a.0 t (bounds_in b) ≡ true) × AllMet terms pointers arguments ts bounds
+
+  arguments_met_promise : {A : Type 0} (Q : A → Type 0) (terms : List (Option Term)) (pointers : List (Option ℕ)) (arguments : List (Typed × Span)) (ts : List CType) (bounds : List WrittenBounds) (next : Verdict A)
+      → (AllMet terms pointers arguments ts bounds → Promises Q next) → Promises Q (arguments_met s.flow terms pointers arguments ts bounds next)
+  arguments_met_promise Q terms pointers [] ts bounds next h = h tt
+  arguments_met_promise Q terms pointers (a ∷ arguments) [] bounds next h = h tt
+  arguments_met_promise Q terms pointers (a ∷ arguments) (t ∷ ts) [] next h =
+      needs_promises Q (argument_meets s.flow terms pointers a.0 t None) E17 a.1 _ (λ first. arguments_met_promise Q terms pointers arguments ts [] next (λ others. h (first, others)))
+  arguments_met_promise Q terms pointers (a ∷ arguments) (t ∷ ts) (b ∷ bounds) next h =
+      needs_promises Q (argument_meets s.flow terms pointers a.0 t (bounds_in b)) E17 a.1 _ (λ first. arguments_met_promise Q terms pointers arguments ts bounds next (λ others. h (first, others)))
 
   either_true : (test : Bool) → (test || true) ≡ true
   either_true true = refl
@@ -652,10 +695,49 @@ module _ (g : Frame) (types : List CType) (s : Scope) where
   number_met (Value (Pointer m k t) zero value place) = either_true zero
   number_met (AStruct number place) = tt
 
-  all_met : (arguments : List (Typed × Span)) → AllMet arguments (Int ∷ [])
+  all_met : (arguments : List (Typed × Span)) → AreAllMet arguments (Int ∷ [])
   all_met [] = tt
   all_met (a ∷ []) = (number_met a.0, tt)
   all_met (a ∷ b ∷ arguments) = (number_met a.0, tt)
+
+  -- nothing is asked by its type of a pointer to an array
+  row_met : (zero : Bool) (value : core.Expression) (type : CType) (m : Mode) (u : CType) → (zero || meets s.flow value (asked_of type (Pointer m kinds.Array u))) ≡ true
+  row_met zero value Int m u = either_true zero
+  row_met zero value Char m u = either_true zero
+  row_met zero value (Struct n) m u = either_true zero
+  row_met zero value (Pointer m' kinds.One t) m u = either_true zero
+  row_met zero value (Pointer m' kinds.Array t) m u = either_true zero
+  row_met zero value (Pointer m' kinds.Nt t) m u = either_true zero
+
+  -- where an argument meets the bounds of its parameter, it meets those that its type asks for
+  type_met : (terms : List (Option Term)) (pointers : List (Option ℕ)) (a : Typed) (t : CType) (o : Option Bounds) → ((b : Bounds) → o ≡ Some b → (m : Mode) × (u : CType) × (t ≡ Pointer m kinds.Array u)) → argument_meets s.flow terms pointers a t o ≡ true → AreMet a t
+  type_met terms pointers (Value type zero value place) t None row h = h
+  type_met terms pointers (Value type zero value place) t (Some b) row h = let it = row b refl in subst (λ t. (zero || meets s.flow value (asked_of type t)) ≡ true) (sym it.2) (row_met zero value type it.0 it.1)
+  type_met terms pointers (AStruct number place) t o row h = tt
+
+  types_met : (terms : List (Option Term)) (pointers : List (Option ℕ)) (arguments : List (Typed × Span)) (ts : List CType) (bounds : List WrittenBounds) → HaveRows ts (map bounds_in bounds) → AllMet terms pointers arguments ts bounds → AreAllMet arguments ts
+  types_met terms pointers [] ts bounds rows h = tt
+  types_met terms pointers (a ∷ arguments) [] bounds rows h = tt
+  types_met terms pointers (a ∷ arguments) (t ∷ ts) [] rows h = (type_met terms pointers a.0 t None (λ b e. absurd (cc)) h.0, types_met terms pointers arguments ts [] (λ x b e. absurd (cc)) h.1)
+  types_met terms pointers (a ∷ arguments) (t ∷ ts) (b ∷ bounds) rows h = (
+    type_met terms pointers a.0 t (bounds_in b) (λ d e. let it = rows 0 d (ap Some e) in (it.0, it.1, same_type t (Pointer it.0 kinds.Array it.1) it.2)) h.0,
+    types_met terms pointers arguments ts bounds (λ x d e. rows (suc x) d e) h.1,
+  )
+    where
+      same_type : (t u : CType) → Some t ≡ Some u → t ≡ u
+      same_type t u q = cc
+
+  -- what converted a value
+  abbrev IsConverted : Typed → CType → core.Expression → Type 0
+  IsConverted (Value type zero value place) t v = (converts type zero t ≡ true) × (v ≡ in_type t (zero && is_number type) value)
+  IsConverted (AStruct number place) t v = ⊥
+
+  abbrev AreConverted : List (Typed × Span) → List CType → core.Arguments → Type 0
+  AreConverted [] ts core.Done = Unit {0}
+  AreConverted [] ts (core.More v rest) = ⊥
+  AreConverted (a ∷ arguments) [] values = ⊥
+  AreConverted (a ∷ arguments) (t ∷ ts) core.Done = ⊥
+  AreConverted (a ∷ arguments) (t ∷ ts) (core.More v rest) = IsConverted a.0 t v × AreConverted arguments ts rest
 
   -- ---- calls
 
@@ -672,21 +754,23 @@ module _ (g : Frame) (types : List CType) (s : Scope) where
   scalar_result None h = tt
   scalar_result (Some t) h = number_scalar t h
 
-  call_fits : (structs : List Structure) (callee : Callee) (ts : List CType) (result : Option CType) (values : core.Arguments) (site : Site) → Extends structs g.structs → IsKnownResult structs result → IsCallee g callee ts result → HaveTypes g types s values ts → IsScalarResult result → FitsCall (call_of structs result callee values site)
-  call_fits structs callee ts None values site ext known is h scalar = rules.call_alone is h
-  call_fits structs callee ts (Some t) values site ext known is h scalar =
+  call_fits : (structs : List Structure) (callee : Callee) (ts : List CType) (result : Option CType) (values : core.Arguments) (site : Site) → Extends structs g.structs → IsKnownResult structs result → (bs : List (Option Bounds)) → IsCallee g callee ts bs result → HaveTypes g types s values ts
+      → AreAsked g.structs s (terms_of s.locals values ts) (pointers_of s.locals values) values bs → IsScalarResult result → FitsCall (call_of structs result callee values site)
+  call_fits structs callee ts None values site ext known bs is h asked scalar = rules.call_alone is h asked
+  call_fits structs callee ts (Some t) values site ext known bs is h asked scalar =
       let kept = bounds_kept structs g.structs t site ext known in
-      (rules.call is h (site, kept), (scalar, subst (λ b. HasNode g.structs s.flow.vars t (core.Call callee values b)) (sym kept) (node_with g.structs s.flow.vars t site (core.Call callee values) (λ o. refl) refl)))
+      (rules.call is h asked (site, kept), (scalar, subst (λ b. HasNode g.structs s.flow.vars t (core.Call callee values b)) (sym kept) (node_with g.structs s.flow.vars t site (core.Call callee values) (record { own = λ o. refl; none = refl; based = λ vars p b below e. absurd (cc) }))))
 
-  trusted_callee : (number : ℕ) (f : Signature) → IsTrusted g number f → IsCallee g (callees.Trusted number) f.parameters f.result
+  trusted_callee : (number : ℕ) (f : Signature) → IsTrusted g number f → IsCallee g (callees.Trusted number) f.parameters (map bounds_in f.bounds) f.result
   trusted_callee number f is =
-      subst (λ result. IsCallee g (callees.Trusted number) f.parameters result) is.result
-      (subst (λ ts. IsCallee g (callees.Trusted number) ts is.function.result) is.parameters (rules.trusted is.found))
+      let bs = map bounds_in f.bounds in
+      subst (λ result. IsCallee g (callees.Trusted number) f.parameters bs result) is.result
+      (subst (λ ts. IsCallee g (callees.Trusted number) ts bs is.function.result) is.parameters (rules.trusted is.found is.bounds (subst (λ ts. HaveRows ts bs) (sym is.parameters) is.rows)))
 
-  tainted_callee : (number : ℕ) (f : Signature) (site : Site) → IsTainted g number f → IsCallee g (callees.Tainted number site) (replicate (length f.parameters) Int) f.result
+  tainted_callee : (number : ℕ) (f : Signature) (site : Site) → IsTainted g number f → IsCallee g (callees.Tainted number site) (replicate (length f.parameters) Int) [] f.result
   tainted_callee number f site is =
-      subst (λ result. IsCallee g (callees.Tainted number site) (replicate (length f.parameters) Int) result) is.result
-      (subst (λ n. IsCallee g (callees.Tainted number site) (replicate n Int) is.import.result) is.parameters
+      subst (λ result. IsCallee g (callees.Tainted number site) (replicate (length f.parameters) Int) [] result) is.result
+      (subst (λ n. IsCallee g (callees.Tainted number site) (replicate n Int) [] is.import.result) is.parameters
       (rules.tainted is.found (subst IsNumberResult (sym is.result) is.number_result)))
 
   with_result_promises : (c : Called) (span : Span) → FitsCall c → Promises Fits (with_result c span)
@@ -736,7 +820,7 @@ module _ (g : Frame) (types : List CType) (s : Scope) where
 
     kind_typed : (m : Mode) (t : CType) (from to : Kind) (value : core.Expression) → kind_converts from to ≡ true → HasType g types s value (Pointer m from t) → HasNode g.structs s.flow.vars (Pointer m from t) value → meets s.flow value (asked_as from to) ≡ true → HasType g types s value (Pointer m to t)
     kind_typed m t kinds.One kinds.One value converts h node met = h
-    kind_typed m t kinds.One kinds.Array value converts h node met = rules.row h node
+    kind_typed m t kinds.One kinds.Array value converts h node met = rules.row h node.own
     kind_typed m t kinds.One kinds.Nt value converts h node met = absurd (cc)
     kind_typed m t kinds.Array kinds.One value converts h node met = single_typed m t value h node met
     kind_typed m t kinds.Array kinds.Array value converts h node met = h
@@ -768,21 +852,155 @@ module _ (g : Frame) (types : List CType) (s : Scope) where
     in_type_typed (Pointer m k t) type zero value number h typed node met = null_or zero type m k t value number h typed node met
 
     -- a value that converts has the type where its bounds meet those that are asked for
+    so_converted : {A : Type 0} (Q : A → Type 0) (a : Typed) (to : CType) (span : Span) (next : core.Expression → Verdict A) → Fits a → ((v : core.Expression) → IsConverted a to v → (AreMet a to → HasType g types s v to) → Promises Q (next v)) → Promises Q (converted a to span next)
+    so_converted Q (Value type zero value place) to span next h more =
+        needs_promises Q (converts type zero to) E13 span (next (in_type to (zero && is_number type) value)) (λ c. more (in_type to (zero && is_number type) value) (c, refl) (in_type_typed to type zero value h.is_number c h.has_type h.node))
+    so_converted Q (AStruct number place) to span next h more = tt
+
     pub converted_promises : {A : Type 0} (Q : A → Type 0) (a : Typed) (to : CType) (span : Span) (next : core.Expression → Verdict A) → Fits a → ((v : core.Expression) → (AreMet a to → HasType g types s v to) → Promises Q (next v)) → Promises Q (converted a to span next)
-    converted_promises Q (Value type zero value place) to span next h more =
-        needs_promises Q (converts type zero to) E13 span (next (in_type to (zero && is_number type) value)) (λ c. more (in_type to (zero && is_number type) value) (in_type_typed to type zero value h.is_number c h.has_type h.node))
-    converted_promises Q (AStruct number place) to span next h more = tt
+    converted_promises Q a to span next h more = so_converted Q a to span next h (λ v is. more v)
 
     abbrev HaveConverted : List (Typed × Span) → List CType → core.Arguments → Type 0
-    HaveConverted arguments ts values = AllMet arguments ts → HaveTypes g types s values ts
+    HaveConverted arguments ts values = (AreAllMet arguments ts → HaveTypes g types s values ts) × AreConverted arguments ts values
 
     arguments_promise : (arguments : List (Typed × Span)) (ts : List CType) → length ts ≡ length arguments → AllFit arguments → Promises (HaveConverted arguments ts) (arguments_as arguments ts)
-    arguments_promise [] [] many all = λ met. rules.done
+    arguments_promise [] [] many all = (λ met. rules.done, tt)
     arguments_promise [] (t ∷ ts) many all = absurd (omega arith)
     arguments_promise (a ∷ arguments) [] many all = absurd (omega arith)
     arguments_promise (a ∷ arguments) (t ∷ ts) many all =
-        converted_promises (HaveConverted (a ∷ arguments) (t ∷ ts)) a.0 t a.1 _ all.0
-        (λ v typed. passing_promises (HaveConverted arguments ts) (HaveConverted (a ∷ arguments) (t ∷ ts)) (arguments_as arguments ts) _ (arguments_promise arguments ts (omega arith) all.1) (λ others h met. rules.more (typed met.0) (h met.1)))
+        so_converted (HaveConverted (a ∷ arguments) (t ∷ ts)) a.0 t a.1 _ all.0
+        (λ v is typed. passing_promises (HaveConverted arguments ts) (HaveConverted (a ∷ arguments) (t ∷ ts)) (arguments_as arguments ts) _ (arguments_promise arguments ts (omega arith) all.1) (λ others h. (λ met. rules.more (typed met.0) (h.0 met.1), (is, h.1))))
+
+    -- ---- what stands for parameters
+
+    -- a number isn't a local pointer
+    local_number : (x : ℕ) (b : Option PointerBounds) (type : CType) → is_number type ≡ true → HasType g types s (core.Local x b) type → (t : CType) × (slice_get s.locals x ≡ Some t) × (is_number t ≡ true)
+    local_number x b type number (rules.local {t = t} found bounds) = (t, found, number)
+    local_number x b type number (rules.bounded found size limited force) = absurd (cc)
+    local_number x b type number (rules.widened h) = local_number x b Char refl h
+    local_number x b type number (rules.single h elements leads) = absurd (cc)
+    local_number x b type number (rules.row h bounds) = absurd (cc)
+    local_number x b type number (rules.ended_row h none) = absurd (cc)
+
+    number_local : (type : CType) (value : core.Expression) → is_number type ≡ true → HasType g types s value type → pointer_local s.locals value ≡ None
+    number_local type (core.Local x b) number h = by (slice_get s.locals x) refl
+      where
+        by : (o : Option CType) → slice_get s.locals x ≡ o → picked (is_pointer_type o) (Some x) None ≡ None
+        by None e = refl
+        by (Some Int) e = refl
+        by (Some Char) e = refl
+        by (Some (Struct n)) e = refl
+        by (Some (Pointer m k t)) e =
+            let it = local_number x b type number h in
+            let same : it.0 ≡ Pointer m k t = (let found = it.1 in cc) in
+            absurd (let none = subst (λ t. is_number t ≡ true) same it.2 in cc)
+    number_local type value number h = refl
+
+    -- a value as it is passed stands for its parameter as it stood before
+    term_same : (a : Typed) (t : CType) (v : core.Expression) → IsConverted a t v → term_for s.locals a t ≡ term_of s.locals v t
+    term_same (Value type zero value place) Int v is = ap (term s.locals) (sym is.1)
+    term_same (Value type zero value place) Char v is = refl
+    term_same (Value type zero value place) (Struct n) v is = refl
+    term_same (Value type zero value place) (Pointer m k u) v is = refl
+    term_same (AStruct number place) t v is = absurd is
+
+    pointer_same : (a : Typed) (t : CType) (v : core.Expression) → Fits a → IsConverted a t v → pointer_for s.locals a ≡ pointer_local s.locals v
+    pointer_same (Value type zero value place) Int v h is = ap (pointer_local s.locals) (sym is.1)
+    pointer_same (Value type zero value place) Char v h is = number_local type value (number_of type is.0) h.has_type ∙ ap (pointer_local s.locals) (sym is.1)
+      where
+        number_of : (type : CType) → converts type zero Char ≡ true → is_number type ≡ true
+        number_of Int e = refl
+        number_of Char e = refl
+        number_of (Struct n) e = absurd (cc)
+        number_of (Pointer m k t) e = absurd (cc)
+    pointer_same (Value type zero value place) (Struct n) v h is = absurd (let none = is.0 in cc)
+    pointer_same (Value type zero value place) (Pointer m k u) v h is = by (zero && is_number type) refl
+      where
+        by : (test : Bool) → (zero && is_number type) ≡ test → pointer_local s.locals value ≡ pointer_local s.locals v
+        by true e = number_local type value (and_parts zero (is_number type) e).1 h.has_type ∙ ap (pointer_local s.locals) (sym (is.1 ∙ ap (λ test. as_pointer test value) e))
+        by false e = ap (pointer_local s.locals) (sym (is.1 ∙ ap (λ test. as_pointer test value) e))
+    pointer_same (AStruct number place) t v h is = absurd is
+
+    terms_same : (arguments : List (Typed × Span)) (ts : List CType) (values : core.Arguments) → AreConverted arguments ts values → terms_for s.locals arguments ts ≡ terms_of s.locals values ts
+    terms_same [] ts core.Done are = refl
+    terms_same [] ts (core.More v rest) are = absurd are
+    terms_same (a ∷ arguments) [] values are = absurd are
+    terms_same (a ∷ arguments) (t ∷ ts) core.Done are = absurd are
+    terms_same (a ∷ arguments) (t ∷ ts) (core.More v rest) are = rw (term_same a.0 t v are.0, terms_same arguments ts rest are.1) refl
+
+    pointers_same : (arguments : List (Typed × Span)) (ts : List CType) (values : core.Arguments) → AllFit arguments → AreConverted arguments ts values → pointers_for s.locals arguments ≡ pointers_of s.locals values
+    pointers_same [] ts core.Done all are = refl
+    pointers_same [] ts (core.More v rest) all are = absurd are
+    pointers_same (a ∷ arguments) [] values all are = absurd are
+    pointers_same (a ∷ arguments) (t ∷ ts) core.Done all are = absurd are
+    pointers_same (a ∷ arguments) (t ∷ ts) (core.More v rest) all are = rw (pointer_same a.0 t v all.0 are.0, pointers_same arguments ts rest all.1 are.1) refl
+
+    -- ---- what arguments are asked
+
+    -- the bounds of a pointer that converts to one to an array
+    row_below : (type : CType) (m : Mode) (u : CType) (value : core.Expression) → pointer_converts type kinds.Array (Pointer m kinds.Array u) ≡ true → HasNode g.structs s.flow.vars type value → HasEndsBelow g.structs s knows.flow knows.few value
+    row_below Int m u value c node = absurd (cc)
+    row_below Char m u value c node = absurd (cc)
+    row_below (Struct n) m u value c node = absurd (cc)
+    row_below (Pointer m' kinds.One t) m u value c node = record { own = λ b e. one_own b e; based = node.based }
+      where
+        one_own : (b : Bounds) → own_bounds value ≡ Some b → AreEndsBelow s.flow.vars b
+        one_own b e = by (bounds_of value) refl
+          where
+            by : (o : Option PointerBounds) → bounds_of value ≡ o → AreEndsBelow s.flow.vars b
+            by None n = absurd (let none = rw n at e in cc)
+            by (Some p) n = let found : Some p.bounds ≡ Some b = rw n at e in let same : p.bounds ≡ b = cc in subst (AreEndsBelow s.flow.vars) same (single_below g.structs s.flow.vars m' t node.own.0 p (sym node.own.1 ∙ n))
+    row_below (Pointer m' kinds.Array t) m u value c node = record { own = λ b e. row_own b e; based = node.based }
+      where
+        row_own : (b : Bounds) → own_bounds value ≡ Some b → AreEndsBelow s.flow.vars b
+        row_own b e = by (bounds_of value) refl node.own
+          where
+            by : (o : Option PointerBounds) → bounds_of value ≡ o → AreCounted g.structs s.flow.vars t o → AreEndsBelow s.flow.vars b
+            by None n counted = absurd (let none = rw n at e in cc)
+            by (Some p) n counted = let found : Some p.bounds ≡ Some b = rw n at e in let same : p.bounds ≡ b = cc in subst (AreEndsBelow s.flow.vars) same counted.below
+    row_below (Pointer m' kinds.Nt t) m u value c node = record { own = λ b e. absurd (ended_none b e); based = λ b e. absurd (let none : None ≡ Some b = sym node.based ∙ e in cc) }
+      where
+        ended_none : (b : Bounds) → own_bounds value ≡ Some b → ⊥
+        ended_none b e = let none = rw node.own at e in cc
+
+    argument_asked : (terms : List (Option Term)) (pointers : List (Option ℕ)) (a : Typed) (t : CType) (v : core.Expression) (o : Option Bounds) → AreTerms s.locals terms → ((b : Bounds) → o ≡ Some b → (m : Mode) × (u : CType) × (t ≡ Pointer m kinds.Array u)) → Fits a → IsConverted a t v
+        → argument_meets s.flow terms pointers a t o ≡ true → IsAskedAt g.structs s terms pointers v o
+    argument_asked terms pointers a t v None are row h is met = tt
+    argument_asked terms pointers (AStruct number place) t v (Some b) are row h is met = absurd is
+    argument_asked terms pointers (Value type zero value place) t v (Some b) are row h is met =
+        let it = row b refl in
+        by (zero && is_number type) refl it.0 it.1 (subst (λ t. converts type zero t ≡ true) it.2 is.0) (is.1 ∙ ap (λ t. in_type t (zero && is_number type) value) it.2)
+      where
+        passed : (m : Mode) (u : CType) (z : Bool) → zero ≡ z → (zero && is_number type) ≡ false → converts type zero (Pointer m kinds.Array u) ≡ true → v ≡ value → IsAskedAt g.structs s terms pointers v (Some b)
+        passed m u true e unlike c same = absurd (let int = h.is_number e in let none = rw (e, int) at unlike in cc)
+        passed m u false e unlike c same =
+            let found : pointer_converts type kinds.Array (Pointer m kinds.Array u) ≡ true = rw e at c in
+            let asked : (is_null value || meets_all s.flow value (at_call terms pointers b)) ≡ true = rw e at met in
+            subst (λ e. IsAskedAt g.structs s terms pointers e (Some b)) (sym same) (asked_at g.structs s knows.flow knows.few terms pointers value b are (row_below type m u value found h.node) asked)
+
+        by : (test : Bool) → (zero && is_number type) ≡ test → (m : Mode) (u : CType) → converts type zero (Pointer m kinds.Array u) ≡ true → v ≡ as_pointer (zero && is_number type) value → IsAskedAt g.structs s terms pointers v (Some b)
+        by true e m u c same = inl (same ∙ ap (λ test. as_pointer test value) e)
+        by false e m u c same = passed m u zero refl e c (same ∙ ap (λ test. as_pointer test value) e)
+
+    all_asked : (terms : List (Option Term)) (pointers : List (Option ℕ)) → AreTerms s.locals terms → (arguments : List (Typed × Span)) (ts : List CType) (bounds : List WrittenBounds) (values : core.Arguments) → HaveRows ts (map bounds_in bounds) → AllFit arguments → AreConverted arguments ts values
+        → AllMet terms pointers arguments ts bounds → AreAsked g.structs s terms pointers values (map bounds_in bounds)
+    all_asked terms pointers terms_are [] ts bounds core.Done rows all are met = tt
+    all_asked terms pointers terms_are [] ts bounds (core.More v rest) rows all are met = absurd are
+    all_asked terms pointers terms_are (a ∷ arguments) [] bounds values rows all are met = absurd are
+    all_asked terms pointers terms_are (a ∷ arguments) (t ∷ ts) bounds core.Done rows all are met = absurd are
+    all_asked terms pointers terms_are (a ∷ arguments) (t ∷ ts) [] (core.More v rest) rows all are met = tt
+    all_asked terms pointers terms_are (a ∷ arguments) (t ∷ ts) (b ∷ bounds) (core.More v rest) rows all are met = (
+      argument_asked terms pointers a.0 t v (bounds_in b) terms_are (λ d e. let it = rows 0 d (ap Some e) in (it.0, it.1, same_type t (Pointer it.0 kinds.Array it.1) it.2)) all.0 are.0 met.0,
+      all_asked terms pointers terms_are arguments ts bounds rest (λ x d e. rows (suc x) d e) all.1 are.1 met.1,
+    )
+      where
+        same_type : (t u : CType) → Some t ≡ Some u → t ≡ u
+        same_type t u q = cc
+
+    -- nothing is asked where no parameter has bounds
+    none_asked : (terms : List (Option Term)) (pointers : List (Option ℕ)) (values : core.Arguments) → AreAsked g.structs s terms pointers values []
+    none_asked terms pointers core.Done = tt
+    none_asked terms pointers (core.More v rest) = tt
 
     -- ---- predefined functions
 
@@ -792,7 +1010,7 @@ module _ (g : Frame) (types : List CType) (s : Scope) where
     writes_promise : (of : core.Expression → core.Statement) → ((v : core.Expression) → HasType g types s v Int → IsSimple g types s (of v)) → (arguments : List (Typed × Span)) (span : Span) → AllFit arguments → Promises FitsCall (writes of arguments span)
     writes_promise of h arguments span all =
         needs_promises FitsCall (length arguments == 1) E14 span _
-        (λ one. passing_promises (HaveConverted arguments (Int ∷ [])) FitsCall (arguments_as arguments (Int ∷ [])) _ (arguments_promise arguments (Int ∷ []) (sym (eqb-true (length arguments) 1 one)) all) (λ values typed. first_fits of h (typed (all_met arguments))))
+        (λ one. passing_promises (HaveConverted arguments (Int ∷ [])) FitsCall (arguments_as arguments (Int ∷ [])) _ (arguments_promise arguments (Int ∷ []) (sym (eqb-true (length arguments) 1 one)) all) (λ values typed. first_fits of h (typed.0 (all_met arguments))))
 
     predefined_promises : (given : Given) (name : ℕ) (arguments : List (Typed × Span)) (span : Span) → AllFit arguments → Promises FitsCall (predefined_call given name arguments span)
     predefined_promises given name arguments span all = by (name == given.next_input) (name == given.print_int) (name == given.putchar) refl refl refl
@@ -857,15 +1075,24 @@ module _ (g : Frame) (types : List CType) (s : Scope) where
     result_known : (name : ℕ) (f : Signature) → function_named s.functions name ≡ Some f → IsKnownResult s.structs f.result
     result_known name f found = named_has (λ (x : Signature). IsKnownResult s.structs x.result) s.functions name f knows.file.closed.of_functions found
 
-    side_fits : (name : ℕ) (f : Signature) (site : Site) (values : core.Arguments) (side : Bool) → is_import f ≡ side → function_named s.functions name ≡ Some f → HaveTypes g types s values f.parameters → FitsCall (call_of s.structs f.result (callee_of side (side_number side s.functions f.name 0) site) values site)
-    side_fits name f site values true e found h =
+    side_fits : (name : ℕ) (f : Signature) (arguments : List (Typed × Span)) (site : Site) (values : core.Arguments) (side : Bool) → is_import f ≡ side → function_named s.functions name ≡ Some f → AllFit arguments → HaveConverted arguments f.parameters values
+        → AllMet (terms_for s.locals arguments f.parameters) (pointers_for s.locals arguments) arguments f.parameters f.bounds → FitsCall (call_of s.structs f.result (callee_of side (side_number side s.functions f.name 0) site) values site)
+    side_fits name f arguments site values true e found all h met =
         let number = side_number true s.functions f.name 0 in
         let is = knows.file.tainted name f found e in
-        call_fits s.structs (callees.Tainted number site) (replicate (length f.parameters) Int) f.result values site knows.file.structs (result_known name f found) (tainted_callee number f site is) (crossing h is.numbers) (scalar_result f.result is.number_result)
-    side_fits name f site values false e found h =
+        call_fits s.structs (callees.Tainted number site) (replicate (length f.parameters) Int) f.result values site knows.file.structs (result_known name f found) [] (tainted_callee number f site is)
+        (crossing (h.0 (types_met (terms_for s.locals arguments f.parameters) (pointers_for s.locals arguments) arguments f.parameters f.bounds is.rows met)) is.numbers)
+        (none_asked _ _ values) (scalar_result f.result is.number_result)
+    side_fits name f arguments site values false e found all h met =
         let number = side_number false s.functions f.name 0 in
         let is = knows.file.trusted name f found e in
-        call_fits s.structs (callees.Trusted number) f.parameters f.result values site knows.file.structs (result_known name f found) (trusted_callee number f is) h is.scalar
+        let terms = terms_for s.locals arguments f.parameters in
+        let pointers = pointers_for s.locals arguments in
+        let asked = all_asked terms pointers (are_terms s.locals arguments f.parameters) arguments f.parameters f.bounds values is.rows all h.1 met in
+        call_fits s.structs (callees.Trusted number) f.parameters f.result values site knows.file.structs (result_known name f found) (map bounds_in f.bounds) (trusted_callee number f is)
+        (h.0 (types_met terms pointers arguments f.parameters f.bounds is.rows met))
+        (subst (λ ts. AreAsked g.structs s ts (pointers_of s.locals values) values (map bounds_in f.bounds)) (terms_same arguments f.parameters values h.1)
+        (subst (λ ps. AreAsked g.structs s terms ps values (map bounds_in f.bounds)) (pointers_same arguments f.parameters values all h.1) asked)) is.scalar
 
     called_promises : (o : Option Signature) (name : ℕ) (arguments : List (Typed × Span)) (site : Site) (span : Span) → function_named s.functions name ≡ o → AllFit arguments → Promises FitsCall (called s o name arguments site span)
     called_promises None name arguments site span e all = predefined_promises s.given name arguments span all
@@ -873,7 +1100,7 @@ module _ (g : Frame) (types : List CType) (s : Scope) where
         needs_promises FitsCall (length f.parameters == length arguments) E14 span _
         (λ many. crossing_promises FitsCall (is_import f) arguments _
         (passing_promises (HaveConverted arguments f.parameters) FitsCall (arguments_as arguments f.parameters) _ (arguments_promise arguments f.parameters (eqb-true (length f.parameters) (length arguments) many) all)
-        (λ values typed. arguments_met_promise FitsCall arguments f.parameters _ (λ met. side_fits name f site values (is_import f) refl e (typed met)))))
+        (λ values typed. arguments_met_promise FitsCall (terms_for s.locals arguments f.parameters) (pointers_for s.locals arguments) arguments f.parameters f.bounds _ (λ met. side_fits name f arguments site values (is_import f) refl e all typed met))))
 
     -- ---- the walk
 

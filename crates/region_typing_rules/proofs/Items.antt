@@ -3,7 +3,7 @@ use Rattle.std.proofs.Common.{◌≡◌, ℕ, suc, ◌+◌, ◌*◌, ◌≤◌, 
 use Rattle.std.specs.Prelude.{◌==◌, bytes_eq, nat_lt, not, ◌&&◌, ◌||◌, is_some, is_none}
 use Rattle.std.specs.List.{AllByRecursion, list_all, list_any}
 use Rattle.std.proofs.lemmas.Bool.Decides.{nat_tests}
-use Rattle.std.proofs.lemmas.Bool.{and_parts, or_cases, ltb-true}
+use Rattle.std.proofs.lemmas.Bool.{and_parts, or_cases}
 use Rattle.std.proofs.lemmas.List.{length-append, length-map, append-nil}
 use Rattle.ckc_text.specs.declared.code.Code.TheVariants.{E08, E10, E13, E15}
 use Rattle.ckc_tree.specs.declared.item.FunctionKind.{FunctionKind}
@@ -15,37 +15,39 @@ use Rattle.ckc_tree.specs.Items as i
 use Rattle.ckc_names_rules.specs.Given as names
 use Rattle.ckc_names_rules.specs.Naming as naming
 use Rattle.ckc_names_rules.specs.Naming.{is_int_type, is_int, takes_nothing, is_main_function, is_main}
-use Rattle.built_forms.specs.Built.{is_number_type, is_number_result, is_number_parameter, built_parameters, built_of_kind, built_function, built_item}
+use Rattle.built_forms.specs.Built.{is_number_result, is_number_parameter, built_parameters, built_of_kind, built_function, built_item}
 use Rattle.ckc_tree.specs.Items.{Item}
 use Rattle.ckc_tree.specs.Heights.{◌beside◌, statements_reach, optional_bounds_reach, result_reach, parameters_reach, optional_body_reach, item_reach, items_reach}
 use Rattle.pointer_modes.specs.Types.{CType, Int, Structure}
 use Rattle.ckc_core.specs.Core as core
 use Rattle.ckc_core.specs.Stacks.{statements_stack}
 use Rattle.region_typing_rules.specs.Verdicts.{Verdict, Passes, Stops, passing, picked}
-use Rattle.region_typing_rules.specs.Scopes.{Scope, Signature, Variable, function_named}
-use Rattle.region_typing_rules.specs.Types.{base_type, without_stars, type_named}
+use Rattle.region_typing_rules.specs.Scopes.{Scope, Signature, bounds_in, function_named}
+use Rattle.region_typing_rules.specs.Types.{base_type, without_stars}
 use Rattle.region_typing_rules.specs.Expressions.{Places, is_import, is_tainted}
 use Rattle.region_typing_rules.specs.Statements.{statements, with_local, is_unchecked}
 use Rattle.bounds_flow.specs.Flows.{at_entry}
 use Rattle.region_typing_rules.specs.Knowing.{all_declared}
 use Rattle.region_typing_rules.specs.Items as items
-use Rattle.region_typing_rules.specs.Items.{Walk, scalar_members, structure, variables, global, listed, parameter_types, result_type, with_function, with_parameters, variables_in, inside, core_function, function_body, is_defined, agrees, all_scalar, scalar_result, function_rules, signature_of, function, item}
-use Rattle.region_typing_rules.specs.Typed.{Frame, IsScalar, IsScalarResult, AreStatements, IsNumberResult}
-use Rattle.region_typing_rules.proofs.Verdicts.{Promises, passing_promises, needs_promises, anything_promised, promised_so, both_promise, later_promises, all_promised, Extends}
-use Rattle.region_typing_rules.proofs.Known.{IsKnown, IsKnownResult, without_known, base_known, type_known}
+use Rattle.region_typing_rules.specs.Items.{Walk, scalar_members, structure, variables, global, listed, parameter_types, result_type, with_function, with_parameters, variables_in, inside, core_function, function_body, is_defined, agrees, all_scalar, scalar_result, function_rules, signature_of, function, item, Parameter, with_bounds}
+use Rattle.region_typing_rules.specs.Typed.{Frame, HaveRows, IsScalar, IsScalarResult, AreStatements, IsNumberResult}
+use Rattle.region_typing_rules.proofs.Verdicts.{Promises, passing_promises, needs_promises, promised_so, both_promise, later_promises, all_promised, Extends}
+use Rattle.region_typing_rules.proofs.Known.{IsKnown, IsKnownResult, without_known, base_known}
 use Rattle.region_typing_rules.proofs.Knowledge.{IsNumberType, KnowsFile}
-use Rattle.region_typing_rules.proofs.Growth.{Grows, stays, grows_further, file_known, local_grows, statements_grow, GrowsTo}
+use Rattle.region_typing_rules.proofs.Growth.{Grows, stays, grows_further, file_known, knowing_grows, local_grows, statements_grow, GrowsTo}
 use Rattle.region_typing_rules.proofs.Stacks.{beside_first, beside_second, around_higher, HasFew}
 use Rattle.region_typing_rules.proofs.StatementStacks.{HaveFew, statements_low}
 use Rattle.region_typing_rules.proofs.Signatures.{named_further, named_last, side_further, Agrees, agrees_equal, scalars_all, result_scalar, IsDeclared}
 use Rattle.region_typing_rules.specs.KnownIsSo.{IsSo, IsWalk}
 use Rattle.region_typing_rules.proofs.Sound.{AreSound, statements_sound}
-use Rattle.region_typing_rules.proofs.Soundness.{EndsAs, runs_further, types_held}
+use Rattle.region_typing_rules.proofs.Soundness.{EndsAs, has_locals, runs_further, types_held}
+use Rattle.region_typing_rules.proofs.Calls.{AreEntered}
+use Rattle.region_typing_rules.proofs.Parameters.{AreFormed, AreParameters, all_bounds, all_formed, bounds_size, few_parameters, have_rows, none_listed, number_base, number_parameters, parameters_are, parameters_known, starred_number}
 use Rattle.region_typing_rules.proofs.Entries.{inside_entry}
 use Rattle.region_typing_rules.proofs.Safe.{setting_of}
 use Rattle.ckc_core.specs.Meaning.{effects, knot}
 use Rattle.ckc_core.specs.States.{shapes}
-use Rattle.region_typing_rules.proofs.Walks.{FileGrows, file_stays, file_further, AreSettled, IsBody, IsWell, bodies_later, all_append}
+use Rattle.region_typing_rules.proofs.Walks.{FileGrows, file_stays, file_further, AreSettled, IsBody, IsNamed, IsWell, bodies_later, all_append}
 use Rattle.region_typing_rules.proofs.Objects.{Follows, region_promises, structure_promises, global_promises}
 
 -- what is so of `main`
@@ -76,16 +78,6 @@ IsNamedMain entry (i.FunctionItem d) = is_main_function d ≡ true → d.name.nu
 module _ (height entry : ℕ) where
   -- ---- functions
 
-  -- a type of the tree that is a number's
-  number_base : (g : Scope) (t : TypeTree) → is_number_type t ≡ true → Promises IsNumberType (base_type g t)
-  number_base g (IntType span) h = refl
-  number_base g (CharType span) h = refl
-  number_base g (StructType tag span) h = absurd (cc)
-  number_base g (PointerType word element stars span) h = absurd (cc)
-
-  starred_number : (base : TypeTree) (stars : ℕ) (t : CType) → IsNumberType t → Promises IsNumberType (without_stars base stars t)
-  starred_number base stars t h = needs_promises IsNumberType (stars == 0) E15 (type_span base) (Passes t) (λ none. h)
-
   int_base : (g : Scope) (t : TypeTree) → is_int_type t ≡ true → Promises (λ (u : CType). u ≡ Int) (base_type g t)
   int_base g (IntType span) h = refl
   int_base g (CharType span) h = absurd (cc)
@@ -106,32 +98,6 @@ module _ (height entry : ℕ) where
       (passing_promises (λ (u : CType). u ≡ Int) (λ (u : CType). u ≡ Int) (base_type g base) (without_stars base stars) (int_base g base h) (λ t int. needs_promises (λ (u : CType). u ≡ Int) (stars == 0) E15 (type_span base) (Passes t) (λ none. int)))
       (λ t int. ap Some int)
 
-  abbrev HasNumber : Variable → Type 0
-  HasNumber p = IsNumberType p.type
-
-  -- and so are its parameters
-  number_parameters : (g : Scope) (members : List i.Member) (before : List Variable) → list_all is_number_parameter members ≡ true → AllByRecursion HasNumber before → Promises (AllByRecursion HasNumber) (parameter_types g members before)
-  number_parameters g [] before h all = all
-  number_parameters g (p ∷ members) before h all =
-      let parts = and_parts (is_number_parameter p) (list_all is_number_parameter members) h in
-      let base = (and_parts (is_number_type p.type.base) (p.type.stars == 0 && is_none p.bounds) parts.0).0 in
-      needs_promises (AllByRecursion HasNumber) (nat_lt (length before) 16) E08 (type_span p.type.base) _
-      (λ low. passing_promises IsNumberType (AllByRecursion HasNumber) (type_named g p.type) _
-      (passing_promises IsNumberType IsNumberType (base_type g p.type.base) (without_stars p.type.base p.type.stars) (number_base g p.type.base base) (starred_number p.type.base p.type.stars))
-      (λ t n. number_parameters g members (before ++ record { name = p.name.number; type = t } ∷ []) parts.1 (all_append HasNumber before (record { name = p.name.number; type = t }) all n)))
-
-  number_types : (vs : List Variable) → AllByRecursion HasNumber vs → AllByRecursion IsNumberType (map (λ (p : Variable). p.type) vs)
-  number_types [] all = tt
-  number_types (v ∷ vs) all = (all.0, number_types vs all.1)
-
-  -- at most 16 parameters
-  few_parameters : (g : Scope) (members : List i.Member) (before : List Variable) → length before ≤ 16 → Promises (λ (vs : List Variable). length vs ≤ 16) (parameter_types g members before)
-  few_parameters g [] before few = few
-  few_parameters g (p ∷ members) before few =
-      needs_promises (λ (vs : List Variable). length vs ≤ 16) (nat_lt (length before) 16) E08 (type_span p.type.base) _
-      (λ low. passing_promises (λ (t : CType). Unit {0}) (λ (vs : List Variable). length vs ≤ 16) (type_named g p.type) _ (anything_promised (type_named g p.type))
-      (λ t _. few_parameters g members (before ++ record { name = p.name.number; type = t } ∷ []) (let below = ltb-true (length before) 16 low in let new : Variable = record { name = p.name.number; type = t } in omega (arith, length-append before (new ∷ [])))))
-
   -- the types of a signature name declared structs alone
   result_known : (g : Scope) → length g.tags ≤ length g.structs → (form : i.ResultForm) (stars : ℕ) → Promises (IsKnownResult g.structs) (result_type g form stars)
   result_known g tagged (i.Void span) stars = needs_promises (IsKnownResult g.structs) (stars == 0) E15 span (Passes None) (λ none. tt)
@@ -139,23 +105,16 @@ module _ (height entry : ℕ) where
       passing_promises (IsKnown g.structs) (IsKnownResult g.structs) (passing (base_type g base) (without_stars base stars)) _
       (passing_promises (IsKnown g.structs) (IsKnown g.structs) (base_type g base) (without_stars base stars) (base_known g tagged base) (without_known g tagged base stars)) (λ t h. h)
 
-  parameters_known : (g : Scope) → length g.tags ≤ length g.structs → (members : List i.Member) (before : List Variable) → AllByRecursion (λ (v : Variable). IsKnown g.structs v.type) before → Promises (AllByRecursion (λ (v : Variable). IsKnown g.structs v.type)) (parameter_types g members before)
-  parameters_known g tagged [] before all = all
-  parameters_known g tagged (p ∷ members) before all =
-      let known = λ (x : Variable). IsKnown g.structs x.type in
-      needs_promises (AllByRecursion known) (nat_lt (length before) 16) E08 (type_span p.type.base) _
-      (λ low. passing_promises (IsKnown g.structs) (AllByRecursion known) (type_named g p.type) _ (type_known g tagged p.type)
-      (λ t h. parameters_known g tagged members (before ++ record { name = p.name.number; type = t } ∷ []) (all_append known before (record { name = p.name.number; type = t }) all h)))
-
   -- what its form says of a function, for its signature
-  record FitsForm (structs : List Structure) (d : i.Function) (result : Option CType) (parameters : List Variable) : Type 0 where
+  record FitsForm (structs : List Structure) (d : i.Function) (result : Option CType) (parameters : List Parameter) : Type 0 where
     known_result : IsKnownResult structs result
-    known : AllByRecursion (λ (v : Variable). IsKnown structs v.type) parameters
-    numbers : is_tainted d.kind ≡ true → AllByRecursion IsNumberType (map (λ (p : Variable). p.type) parameters)
+    known : AllByRecursion (λ (v : Parameter). IsKnown structs v.type) parameters
+    numbers : is_tainted d.kind ≡ true → AllByRecursion IsNumberType (map (λ (p : Parameter). p.type) parameters)
     number_result : is_tainted d.kind ≡ true → IsNumberResult result
     int_result : is_main_function d ≡ true → result ≡ Some Int
     few : length parameters ≤ 16
     none : is_main_function d ≡ true → parameters ≡ []
+    formed : AreFormed structs (map (λ (p : Parameter). p.type) parameters) parameters
 
   -- a tainted function of a built tree
   record IsCrossing (d : i.Function) : Type 0 where
@@ -192,26 +151,21 @@ module _ (height entry : ℕ) where
   main_form : (d : i.Function) → is_main_function d ≡ true → IsMain d
   main_form d h = let parts = main_parts d h in record { trusted = kind_trusted d.kind parts.trusted; int = parts.int; nothing = parts.nothing }
 
-  none_listed : (g : Scope) (ps : i.Parameters) → takes_nothing ps ≡ true → Promises (λ (vs : List Variable). vs ≡ []) (parameter_types g (listed ps) [])
-  none_listed g i.Nothing h = refl
-  none_listed g i.VoidAlone h = refl
-  none_listed g (i.Listed parameters) h = absurd (cc)
-
   -- ---- the body of a function
 
-  parameters_grow : (ps : List Variable) (g : Scope) → length g.locals + length ps ≤ g.flow.vars → AllByRecursion IsScalar (map (λ (p : Variable). p.type) ps) → AllByRecursion (λ (v : Variable). IsKnown g.structs v.type) ps → Grows g (with_parameters ps g)
+  parameters_grow : (ps : List Parameter) (g : Scope) → length g.locals + length ps ≤ g.flow.vars → AllByRecursion IsScalar (map (λ (p : Parameter). p.type) ps) → AllByRecursion (λ (v : Parameter). IsKnown g.structs v.type) ps → Grows g (with_parameters ps g)
   parameters_grow [] g few all known = stays g
   parameters_grow (p ∷ ps) g few all known =
       grows_further g (with_local p.name p.type None g) (with_parameters ps (with_local p.name p.type None g)) (local_grows p.name p.type None g all.0 (omega arith) (λ tagged. known.0))
       (parameters_grow ps (with_local p.name p.type None g) (omega (arith, length-append g.locals (p.type ∷ []))) all.1 known.1)
 
-  sizes_kept : (ps : List Variable) (g : Scope) → (with_parameters ps g).flow.vars ≡ g.flow.vars
+  sizes_kept : (ps : List Parameter) (g : Scope) → (with_parameters ps g).flow.vars ≡ g.flow.vars
   sizes_kept [] g = refl
   sizes_kept (p ∷ ps) g = sizes_kept ps (with_local p.name p.type None g)
 
-  parameter_locals : (ps : List Variable) (g : Scope) → (with_parameters ps g).locals ≡ g.locals ++ map (λ (p : Variable). p.type) ps
+  parameter_locals : (ps : List Parameter) (g : Scope) → (with_parameters ps g).locals ≡ g.locals ++ map (λ (p : Parameter). p.type) ps
   parameter_locals [] g = sym (append-nil g.locals)
-  parameter_locals (p ∷ ps) g = parameter_locals ps (with_local p.name p.type None g) ∙ append_assoc g.locals (p.type ∷ []) (map (λ (q : Variable). q.type) ps)
+  parameter_locals (p ∷ ps) g = parameter_locals ps (with_local p.name p.type None g) ∙ append_assoc g.locals (p.type ∷ []) (map (λ (q : Parameter). q.type) ps)
 
   extends_take : (xs ys : List CType) → Extends xs ys → (take (length xs) ys ≡ xs) × (length xs ≤ length ys)
   extends_take [] ys ext = (refl, omega arith)
@@ -234,7 +188,7 @@ module _ (height entry : ℕ) where
   for_parameters : (parameters : ℕ) (body : trees.Statements) → parameters ≤ 16 → parameters ≤ variables_in parameters body
   for_parameters parameters body few = (within 256 (parameters + all_declared body) (nat_lt 256 (parameters + all_declared body)) refl).1 parameters (omega arith) (omega arith)
 
-  abbrev at_start : Signature → List Variable → trees.Statements → Scope → Scope
+  abbrev at_start : Signature → List Parameter → trees.Statements → Scope → Scope
   at_start f ps body s = record s {
     locals = [];
     visible = [];
@@ -247,10 +201,17 @@ module _ (height entry : ℕ) where
   }
 
   -- the scope in which a body stands
-  file_inside : (g : Frame) (f : Signature) (ps : List Variable) (body : trees.Statements) (s : Scope) → length ps ≤ 16 → AllByRecursion IsScalar (map (λ (p : Variable). p.type) ps) → AllByRecursion (λ (v : Variable). IsKnown s.structs v.type) ps → KnowsFile g s → KnowsFile g (inside f ps body s)
+  inside_grows : (f : Signature) (ps : List Parameter) (body : trees.Statements) (s : Scope) → length ps ≤ 16 → AllByRecursion IsScalar (map (λ (p : Parameter). p.type) ps) → AllByRecursion (λ (v : Parameter). IsKnown s.structs v.type) ps → Grows (at_start f ps body s) (inside f ps body s)
+  inside_grows f ps body s few all types =
+      let start : Scope = at_start f ps body s in
+      let behind : Scope = with_parameters ps start in
+      grows_further start behind (inside f ps body s) (parameters_grow ps start (omega (arith, for_parameters (length ps) body few)) all types)
+      (knowing_grows (with_bounds 0 ps behind.flow) behind (bounds_size 0 ps behind.flow))
+
+  file_inside : (g : Frame) (f : Signature) (ps : List Parameter) (body : trees.Statements) (s : Scope) → length ps ≤ 16 → AllByRecursion IsScalar (map (λ (p : Parameter). p.type) ps) → AllByRecursion (λ (v : Parameter). IsKnown s.structs v.type) ps → KnowsFile g s → KnowsFile g (inside f ps body s)
   file_inside g f ps body s few all types known =
       let start : Scope = at_start f ps body s in
-      file_known g start (with_parameters ps start) (parameters_grow ps start (omega (arith, for_parameters (length ps) body few)) all types) (record { structs = known.structs; closed = record { tagged = known.closed.tagged; of_members = known.closed.of_members; of_functions = known.closed.of_functions; of_variables = known.closed.of_variables; of_locals = tt }; few_members = known.few_members; scalar_members = known.scalar_members; variables = known.variables; trusted = known.trusted; tainted = known.tainted })
+      file_known g start (inside f ps body s) (inside_grows f ps body s few all types) (record { structs = known.structs; closed = record { tagged = known.closed.tagged; of_members = known.closed.of_members; of_functions = known.closed.of_functions; of_variables = known.closed.of_variables; of_locals = tt }; few_members = known.few_members; scalar_members = known.scalar_members; variables = known.variables; trusted = known.trusted; tainted = known.tainted })
 
   -- a body that was walked, in a program in which the file is known, where its locals are these
   record Premises (s : Scope) : Type 0 where
@@ -285,21 +246,24 @@ module _ (height entry : ℕ) where
     named : function_named s.functions f.name ≡ Some signature
     agrees : Agrees signature f
 
-  function_body_typed : (s : Scope) (f : Signature) (ps : List Variable) (body : trees.Statements) (x : core.Statements × Scope) → f.parameters ≡ map (λ (p : Variable). p.type) ps → IsKnownAs s f → AllByRecursion IsScalar f.parameters → IsScalarResult f.result → length ps ≤ 16 → AllByRecursion (λ (v : Variable). IsKnown s.structs v.type) ps → IsWalkedBody (inside f ps body s) x → IsBody height s (record { name = f.name; function = core_function f ps x.0 x.1 })
-  function_body_typed s f ps body x same known scalars result few known_types walked =
+  function_body_typed : (s : Scope) (f : Signature) (ps : List Parameter) (body : trees.Statements) (x : core.Statements × Scope) → f.parameters ≡ map (λ (p : Parameter). p.type) ps → f.bounds ≡ map (λ (p : Parameter). p.bounds) ps → IsKnownAs s f → AllByRecursion IsScalar f.parameters → IsScalarResult f.result → length ps ≤ 16
+      → AllByRecursion (λ (v : Parameter). IsKnown s.structs v.type) ps → AreFormed s.structs (map (λ (p : Parameter). p.type) ps) ps → IsWalkedBody (inside f ps body s) x → IsBody height s (record { name = f.name; function = core_function f ps x.0 x.1 })
+  function_body_typed s f ps body x same same_bounds known scalars result few known_types formed walked =
       let start : Scope = at_start f ps body s in
-      let types = map (λ (p : Variable). p.type) ps in
+      let types = map (λ (p : Parameter). p.type) ps in
       let all : AllByRecursion IsScalar types = subst (AllByRecursion IsScalar) same scalars in
-      let grown = parameters_grow ps start (omega (arith, for_parameters (length ps) body few)) all known_types in
+      let grown = inside_grows f ps body s few all known_types in
       let held : (inside f ps body s).locals ≡ types = parameter_locals ps start in
       let ext : Extends types x.1.locals = subst (λ ts. Extends ts x.1.locals) held walked.1.locals in
       let taken = extends_take types x.1.locals ext in
-      let count : length types ≡ length ps = length-map ps (λ (p : Variable). p.type) in
+      let count : length types ≡ length ps = length-map ps (λ (p : Parameter). p.type) in
       let locals : AllByRecursion IsScalar x.1.locals = walked.1.scalars (subst (AllByRecursion IsScalar) (sym held) all) in
+      let first : take (length ps) x.1.locals ≡ types = subst (λ n. take n x.1.locals ≡ types) count taken.0 in
+      let declared : all_bounds ps ≡ map bounds_in known.signature.bounds = ap (map bounds_in) (sym same_bounds ∙ sym known.agrees.bounds) in
       record {
         signature = known.signature;
         named = known.named;
-        parameters = subst (λ n. take n x.1.locals ≡ types) count taken.0 ∙ sym same ∙ sym known.agrees.parameters;
+        parameters = first ∙ sym same ∙ sym known.agrees.parameters;
         result = sym known.agrees.result;
         safe = λ g file. record {
           typed = record {
@@ -308,10 +272,11 @@ module _ (height entry : ℕ) where
             result = result;
             body = subst (λ r. AreStatements g x.1.locals r false x.0) (sym grown.result) (subst (λ l. AreStatements g x.1.locals (inside f ps body s).result l x.0) (sym grown.loop) ((walked.2 (premises g file locals 0 0 0)).typed (λ k t e. e)));
           };
-          runs = λ budget sandbox trusted n knots low u kept.
+          rows = subst (λ ts. HaveRows ts (map bounds_in known.signature.bounds)) (sym first) (subst (HaveRows types) declared (have_rows s.structs types ps formed));
+          runs = λ budget sandbox trusted n knots low u kept begun.
               runs_further g budget n low x.1.locals (λ flow t. EndsAs g (inside f ps body s).result (inside f ps body s).in_loop flow t × IsSo g.structs x.1 flow t) (EndsAs g f.result false) (effects true (setting_of g budget sandbox trusted) (knot true (setting_of g budget sandbox trusted) n) x.0 u)
               ((walked.2 (premises g file locals budget sandbox trusted)).runs (λ k t e. e) n knots low u
-              (record { kept = kept; known = (inside_entry f ps body s few).free g.structs u (types_held g.structs (shapes u.blocks) x.1.locals u.locals kept.locals) }))
+              (record { kept = kept; known = (inside_entry g.structs f ps body s few formed).free u (types_held g.structs (shapes u.blocks) x.1.locals u.locals kept.locals) (has_locals g.structs (shapes u.blocks) (inside f ps body s).locals x.1.locals u.locals walked.1.locals kept.locals) (subst (λ bs. AreEntered g.structs bs u) (sym declared) begun) }))
               (λ flow t h. subst (λ r. EndsAs g r false flow t) (sym grown.result) (subst (λ l. EndsAs g (inside f ps body s).result l flow t) (sym grown.loop) h.0));
         };
         few_parameters = few;
@@ -321,7 +286,7 @@ module _ (height entry : ℕ) where
     where
       premises : (g : Frame) → KnowsFile g s → AllByRecursion IsScalar x.1.locals → (budget sandbox trusted : ℕ) → Premises (inside f ps body s)
       premises g file locals budget sandbox trusted =
-          let all : AllByRecursion IsScalar (map (λ (p : Variable). p.type) ps) = subst (AllByRecursion IsScalar) same scalars in
+          let all : AllByRecursion IsScalar (map (λ (p : Parameter). p.type) ps) = subst (AllByRecursion IsScalar) same scalars in
           record {
             frame = g;
             types = x.1.locals;
@@ -331,11 +296,11 @@ module _ (height entry : ℕ) where
             sandbox = sandbox;
             trusted = trusted;
             known = file_inside g f ps body s few all known_types file;
-            walk = (inside_entry f ps body s few).walk;
+            walk = (inside_entry g.structs f ps body s few formed).walk;
           }
 
       few_of : length x.1.locals ≤ x.1.flow.vars → length x.1.locals ≤ 256
-      few_of h = omega (arith, h, few_variables (length ps) body, walked.1.size, sizes_kept ps (at_start f ps body s))
+      few_of h = omega (arith, h, few_variables (length ps) body, walked.1.size, bounds_size 0 ps (with_parameters ps (at_start f ps body s)).flow, sizes_kept ps (at_start f ps body s))
 
   -- ---- functions
 
@@ -377,6 +342,11 @@ module _ (height entry : ℕ) where
       follows : Follows height w (record w { scope = with_function known f w.scope })
       is_known : IsKnownAs (with_function known f w.scope) f
 
+    -- those that are found are found among one more
+    named_so_far : (f : Signature) (functions : List Signature) → AllByRecursion (IsNamed w.scope.functions) functions → AllByRecursion (IsNamed (w.scope.functions ++ f ∷ [])) functions
+    named_so_far f [] all = tt
+    named_so_far f (x ∷ functions) all = (named_further w.scope.functions f x.name x all.0, named_so_far f functions all.1)
+
     declares : (known : Option Signature) (f : Signature) → function_named w.scope.functions f.name ≡ known → IsRuled known f → IsDeclared f → IsKnownResult w.scope.structs f.result → Declares known f
     declares None f e ruled declared known_result =
         let after = with_function None f w.scope in
@@ -395,6 +365,7 @@ module _ (height entry : ℕ) where
               scalars = well.scalars;
               start = well.start;
               declared = all_append IsDeclared w.scope.functions f well.declared declared;
+              named = all_append (IsNamed (w.scope.functions ++ f ∷ [])) w.scope.functions f (named_so_far f w.scope.functions well.named) (named_last w.scope.functions f e);
               bodies = bodies_later height w.scope after w.bodies well.closed grows well.bodies;
               roomy = well.roomy;
               bytes = well.bytes;
@@ -403,18 +374,18 @@ module _ (height entry : ℕ) where
             settled = settled;
             grows = grows;
           };
-          is_known = record { signature = f; named = named_last w.scope.functions f e; agrees = record { kind = refl; parameters = refl; result = refl } };
+          is_known = record { signature = f; named = named_last w.scope.functions f e; agrees = record { kind = refl; parameters = refl; result = refl; bounds = refl } };
         }
     declares (Some before) f e ruled declared known_result = record {
       follows = record {
-        well = record { closed = well.closed; few = well.few; scalars = well.scalars; start = well.start; declared = well.declared; bodies = well.bodies; roomy = well.roomy; bytes = well.bytes; room = well.room };
+        well = record { closed = well.closed; few = well.few; scalars = well.scalars; start = well.start; declared = well.declared; named = well.named; bodies = well.bodies; roomy = well.roomy; bytes = well.bytes; room = well.room };
         settled = settled;
         grows = file_stays w.scope;
       };
       is_known = record { signature = before; named = e; agrees = agrees_equal before f ruled.agreed };
     }
 
-    module _ (d : i.Function) (result : Option CType) (parameters : List Variable) (form : FitsForm w.scope.structs d result parameters) (of_main : IsNamedMain entry (i.FunctionItem d)) (known : Option Signature) (found : function_named w.scope.functions d.name.number ≡ known) where
+    module _ (d : i.Function) (result : Option CType) (parameters : List Parameter) (form : FitsForm w.scope.structs d result parameters) (of_main : IsNamedMain entry (i.FunctionItem d)) (known : Option Signature) (found : function_named w.scope.functions d.name.number ≡ known) where
       abbrev signature : Signature
       signature = signature_of d result parameters
 
@@ -425,7 +396,7 @@ module _ (height entry : ℕ) where
       IsPassed v = Passed w (is_main_function d) v
 
       declared_so : IsRuled known signature → IsDeclared signature
-      declared_so ruled = record { few = omega (arith, form.few, length-map parameters (λ (p : Variable). p.type)); scalars = scalars_all signature.parameters ruled.scalars; result = result_scalar result ruled.scalar; numbers = form.numbers; number_result = form.number_result }
+      declared_so ruled = record { few = omega (arith, form.few, length-map parameters (λ (p : Parameter). p.type)); scalars = scalars_all signature.parameters ruled.scalars; result = result_scalar result ruled.scalar; numbers = form.numbers; number_result = form.number_result; rows = have_rows w.scope.structs signature.parameters parameters form.formed }
 
       is_declared : IsRuled known signature → Declares known signature
       is_declared ruled = declares known signature found ruled (declared_so ruled) form.known_result
@@ -438,23 +409,27 @@ module _ (height entry : ℕ) where
             signature = it_is.signature;
             named = subst (λ x. function_named with_it.scope.functions x ≡ Some it_is.signature) name it_is.named;
             trusted = ap is_tainted it_is.agrees.kind ∙ it.trusted;
-            none = it_is.agrees.parameters ∙ ap (λ (ps : List Variable). map (λ (p : Variable). p.type) ps) (form.none main);
+            none = it_is.agrees.parameters ∙ ap (λ (ps : List Parameter). map (λ (p : Parameter). p.type) ps) (form.none main);
             int = it_is.agrees.result ∙ form.int_result main;
           }
 
-      known_parameters : (o : Option Signature) → AllByRecursion (λ (v : Variable). IsKnown (with_function o signature w.scope).structs v.type) parameters
+      known_parameters : (o : Option Signature) → AllByRecursion (λ (v : Parameter). IsKnown (with_function o signature w.scope).structs v.type) parameters
       known_parameters None = form.known
       known_parameters (Some before) = form.known
+
+      formed_parameters : (o : Option Signature) → AreFormed (with_function o signature w.scope).structs (map (λ (p : Parameter). p.type) parameters) parameters
+      formed_parameters None = form.formed
+      formed_parameters (Some before) = form.formed
 
       -- with a body more
       with_body : IsRuled known signature → (body : trees.Statements) → (x : core.Statements × Scope) → IsWalkedBody (inside signature parameters body with_it.scope) x → IsPassed (record with_it { bodies = with_it.bodies ++ record { name = signature.name; function = core_function signature parameters x.0 x.1 } ∷ [] })
       with_body ruled body x walked =
           let it = is_declared ruled in
-          let typed_body = function_body_typed with_it.scope signature parameters body x refl it.is_known (scalars_all signature.parameters ruled.scalars) (result_scalar result ruled.scalar) form.few (known_parameters known) walked in
+          let typed_body = function_body_typed with_it.scope signature parameters body x refl refl it.is_known (scalars_all signature.parameters ruled.scalars) (result_scalar result ruled.scalar) form.few (known_parameters known) (formed_parameters known) walked in
           let well' = it.follows.well in
           record {
             follows = record {
-              well = record { closed = well'.closed; few = well'.few; scalars = well'.scalars; start = well'.start; declared = well'.declared; bodies = all_append (IsBody height with_it.scope) with_it.bodies (record { name = signature.name; function = core_function signature parameters x.0 x.1 }) well'.bodies typed_body; roomy = well'.roomy; bytes = well'.bytes; room = well'.room };
+              well = record { closed = well'.closed; few = well'.few; scalars = well'.scalars; start = well'.start; declared = well'.declared; named = well'.named; bodies = all_append (IsBody height with_it.scope) with_it.bodies (record { name = signature.name; function = core_function signature parameters x.0 x.1 }) well'.bodies typed_body; roomy = well'.roomy; bytes = well'.bytes; room = well'.room };
               settled = it.follows.settled;
               grows = it.follows.grows;
             };
@@ -470,10 +445,10 @@ module _ (height entry : ℕ) where
           few_of (f ∷ functions) all = (all.0.few, few_of functions all.1)
 
           by : (o : Option Signature) → HaveFew (with_function o signature w.scope)
-          by None = all_append HasFew w.scope.functions signature (few_of w.scope.functions well.declared) (omega (arith, form.few, length-map parameters (λ (p : Variable). p.type)))
+          by None = all_append HasFew w.scope.functions signature (few_of w.scope.functions well.declared) (omega (arith, form.few, length-map parameters (λ (p : Parameter). p.type)))
           by (Some before) = few_of w.scope.functions well.declared
 
-      parameters_keep : (ps : List Variable) (g : Scope) → g.functions ≡ (with_parameters ps g).functions
+      parameters_keep : (ps : List Parameter) (g : Scope) → g.functions ≡ (with_parameters ps g).functions
       parameters_keep [] g = refl
       parameters_keep (p ∷ ps) g = parameters_keep ps (with_local p.name p.type None g)
 
@@ -496,9 +471,6 @@ module _ (height entry : ℕ) where
     abbrev ResultFits : i.Function → Option CType → Type 0
     ResultFits d result = (is_tainted d.kind ≡ true → IsNumberResult result) × ((is_main_function d ≡ true → result ≡ Some Int) × IsKnownResult w.scope.structs result)
 
-    abbrev ParametersFit : i.Function → List Variable → Type 0
-    ParametersFit d parameters = (is_tainted d.kind ≡ true → AllByRecursion HasNumber parameters) × ((is_main_function d ≡ true → parameters ≡ []) × ((length parameters ≤ 16) × AllByRecursion (λ (v : Variable). IsKnown w.scope.structs v.type) parameters))
-
     result_fits : (d : i.Function) → built_function d ≡ true → Promises (ResultFits d) (result_type w.scope d.result d.stars)
     result_fits d built =
         let v = result_type w.scope d.result d.stars in
@@ -508,23 +480,32 @@ module _ (height entry : ℕ) where
         (later_promises (is_main_function d ≡ true) (λ (o : Option CType). o ≡ Some Int) v (λ main. int_result w.scope d.result d.stars (main_form d main).int))
         (result_known w.scope well.closed.tagged d.result d.stars))
 
-    parameters_fit : (d : i.Function) → built_function d ≡ true → Promises (ParametersFit d) (parameter_types w.scope (listed d.parameters) [])
-    parameters_fit d built =
-        let v = parameter_types w.scope (listed d.parameters) [] in
-        both_promise (λ (ps : List Variable). is_tainted d.kind ≡ true → AllByRecursion HasNumber ps) (λ (ps : List Variable). (is_main_function d ≡ true → ps ≡ []) × ((length ps ≤ 16) × AllByRecursion (λ (v : Variable). IsKnown w.scope.structs v.type) ps)) v
-        (later_promises (is_tainted d.kind ≡ true) (AllByRecursion HasNumber) v (λ tainted. number_parameters w.scope (listed d.parameters) [] (listed_numbers d.parameters (crossing d built tainted).parameters) tt))
-        (both_promise (λ (ps : List Variable). is_main_function d ≡ true → ps ≡ []) (λ (ps : List Variable). (length ps ≤ 16) × AllByRecursion (λ (v : Variable). IsKnown w.scope.structs v.type) ps) v
-        (later_promises (is_main_function d ≡ true) (λ (ps : List Variable). ps ≡ []) v (λ main. none_listed w.scope d.parameters (main_form d main).nothing))
-        (both_promise (λ (ps : List Variable). length ps ≤ 16) (AllByRecursion (λ (v : Variable). IsKnown w.scope.structs v.type)) v (few_parameters w.scope (listed d.parameters) [] (omega arith)) (parameters_known w.scope well.closed.tagged (listed d.parameters) [] tt)))
+    -- a function that takes nothing has no parameters
+    none_taken : (ps : i.Parameters) → takes_nothing ps ≡ true → listed ps ≡ []
+    none_taken i.Nothing h = refl
+    none_taken i.VoidAlone h = refl
+    none_taken (i.Listed parameters) h = absurd (cc)
+
+    fits_form : (d : i.Function) (result : Option CType) (ps : List Parameter) → built_function d ≡ true → ResultFits d result → AreParameters w.scope (listed d.parameters) 0 (listed d.parameters) ps → FitsForm w.scope.structs d result ps
+    fits_form d result ps built hr are =
+        let all = listed d.parameters in
+        record {
+          known_result = hr.1.1;
+          known = parameters_known w.scope all well.closed.tagged 0 all ps are;
+          numbers = λ tainted. number_parameters w.scope all 0 all ps (listed_numbers d.parameters (crossing d built tainted).parameters) are;
+          number_result = hr.0;
+          int_result = hr.1.0;
+          few = let low = few_parameters w.scope all 0 all ps are (omega arith) in omega (arith, low);
+          none = λ main. none_listed w.scope ps (subst (λ ms. AreParameters w.scope ms 0 ms ps) (none_taken d.parameters (main_form d main).nothing) are);
+          formed = all_formed w.scope all ps are;
+        }
 
     function_promises : (at : Places) (all : List Item) (d : i.Function) → IsNamedMain entry (i.FunctionItem d) → built_function d ≡ true → (optional_body_reach d.body).height ≤ height → Promises (Passed w (is_main_function d)) (function at all w d)
     function_promises at all d of_main built low =
         needs_promises (Passed w (is_main_function d)) (is_some (function_named w.scope.functions d.name.number) || nat_lt (length w.scope.functions) 4096) E08 d.span _
         (λ few. passing_promises (ResultFits d) (Passed w (is_main_function d)) (result_type w.scope d.result d.stars) _ (result_fits d built)
-        (λ result hr. passing_promises (ParametersFit d) (Passed w (is_main_function d)) (parameter_types w.scope (listed d.parameters) []) _ (parameters_fit d built)
-        (λ parameters hp. declaration_promises d result parameters
-        (record { known_result = hr.1.1; known = hp.1.1.1; numbers = λ tainted. number_types parameters (hp.0 tainted); number_result = hr.0; int_result = hr.1.0; few = hp.1.1.0; none = hp.1.0 }) of_main
-        (function_named w.scope.functions d.name.number) refl at all low)))
+        (λ result hr. passing_promises (AreParameters w.scope (listed d.parameters) 0 (listed d.parameters)) (Passed w (is_main_function d)) (parameter_types w.scope (listed d.parameters) (listed d.parameters) []) _ (parameters_are w.scope (listed d.parameters))
+        (λ parameters are. declaration_promises d result parameters (fits_form d result parameters built hr are) of_main (function_named w.scope.functions d.name.number) refl at all low)))
 
     -- ---- items
 
@@ -541,6 +522,7 @@ module _ (height entry : ℕ) where
           scalars = well.scalars;
           start = well.start;
           declared = well.declared;
+          named = well.named;
           bodies = bodies_later height w.scope (record w.scope { is_off = items.is_off region }) w.bodies well.closed (region_grows region) well.bodies;
           roomy = well.roomy;
           bytes = well.bytes;

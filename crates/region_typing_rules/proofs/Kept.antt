@@ -11,11 +11,11 @@ use Rattle.pointer_modes.specs.Types as types
 use Rattle.pointer_modes.specs.Types.{CType}
 use Rattle.ckc_core.specs.Programs.{Initial}
 use Rattle.region_typing_rules.specs.Verdicts.{Verdict, Passes, Stops, passing, needs, picked}
-use Rattle.region_typing_rules.specs.Scopes.{Scope, Signature, Variable, function_named}
+use Rattle.region_typing_rules.specs.Scopes.{Scope, Signature, function_named}
 use Rattle.region_typing_rules.specs.Expressions.{Places, is_tainted}
 use Rattle.region_typing_rules.specs.Statements.{is_unchecked}
 use Rattle.region_typing_rules.specs.Types.{base_type, without_stars}
-use Rattle.region_typing_rules.specs.Items.{Defined, Walk, Walked, WalkedVariable, in_checked_region, is_struct, member_types, member_names, with_struct, scalar_members, structure, initializer, object_cells, variables, with_variable, length_of, room_for, room_for_first, with_objects, global, listed, parameter_types, result_type, with_function, function_body, agrees, all_scalar, scalar_result, is_defined, function_rules, signature_of, function}
+use Rattle.region_typing_rules.specs.Items.{Defined, Parameter, Walk, Walked, WalkedVariable, in_checked_region, is_struct, member_types, member_names, with_struct, scalar_members, structure, initializer, object_cells, variables, with_variable, length_of, room_for, room_for_first, with_objects, global, listed, parameter_types, result_type, with_function, function_body, agrees, all_scalar, scalar_result, is_defined, function_rules, signature_of, function}
 use Rattle.region_typing_rules.proofs.Verdicts.{Promises, passing_promises, needs_promises}
 
 -- whatever is passed on
@@ -109,25 +109,25 @@ module _ (P : List Signature → List Defined → Type 0) where
       needs_promises Keeps (picked (is_tainted d.kind) true (is_defined all d.name.number)) E10 d.span (needs (not (is_unchecked d.mark)) E15 d.span checked) (λ e'.
       needs_promises Keeps (not (is_unchecked d.mark)) E15 d.span checked (λ e''. in_region w.scope d.span w h)))
 
-  abbrev declared_in : Walk → i.Function → Option CType → List Variable → Walk
+  abbrev declared_in : Walk → i.Function → Option CType → List Parameter → Walk
   declared_in w d result parameters = record w { scope = with_function (function_named w.scope.functions d.name.number) (signature_of d result parameters) w.scope }
 
-  abbrev behind_parameters : Places → List Item → Walk → i.Function → Option CType → List Variable → Verdict Walk
+  abbrev behind_parameters : Places → List Item → Walk → i.Function → Option CType → List Parameter → Verdict Walk
   behind_parameters at all w d result parameters =
       passing (function_body at (declared_in w d result parameters) (signature_of d result parameters) parameters d.body) (function_rules all d (signature_of d result parameters) (function_named w.scope.functions d.name.number))
 
   abbrev behind_result : Places → List Item → Walk → i.Function → Option CType → Verdict Walk
-  behind_result at all w d result = passing (parameter_types w.scope (listed d.parameters) []) (behind_parameters at all w d result)
+  behind_result at all w d result = passing (parameter_types w.scope (listed d.parameters) (listed d.parameters) []) (behind_parameters at all w d result)
 
   pub function_kept : (at : Places) (all : List Item) (w : Walk) (d : i.Function)
       → ((f : Signature) → (is_some (function_named w.scope.functions d.name.number) || nat_lt (length w.scope.functions) 4096) ≡ true → P (with_function (function_named w.scope.functions d.name.number) f w.scope).functions w.bodies)
-      → ((v : Walk) (f : Signature) (parameters : List Variable) → Keeps v → Promises Keeps (function_body at v f parameters d.body))
+      → ((v : Walk) (f : Signature) (parameters : List Parameter) → Keeps v → Promises Keeps (function_body at v f parameters d.body))
       → Promises Keeps (function at all w d)
   function_kept at all w d declares defines =
       let known = function_named w.scope.functions d.name.number in
       needs_promises Keeps (is_some known || nat_lt (length w.scope.functions) 4096) E08 d.span (passing (result_type w.scope d.result d.stars) (behind_result at all w d)) (λ room.
       passing_any Keeps (result_type w.scope d.result d.stars) (behind_result at all w d) (λ result.
-      passing_any Keeps (parameter_types w.scope (listed d.parameters) []) (behind_parameters at all w d result) (λ parameters.
+      passing_any Keeps (parameter_types w.scope (listed d.parameters) (listed d.parameters) []) (behind_parameters at all w d result) (λ parameters.
       let f = signature_of d result parameters in
       passing_promises Keeps Keeps (function_body at (declared_in w d result parameters) f parameters d.body) (function_rules all d f known)
       (defines (declared_in w d result parameters) f parameters (declares f room)) (λ v kept. rules_kept all d f known v kept))))

@@ -1,5 +1,5 @@
 -- What a walk knows of the program that it leads to, and what names stand for there.
-use Rattle.std.proofs.Common.{◌≡◌, ℕ, zero, suc, ◌+◌, ◌<◌, ◌≤◌, Bool, true, false, List, [], ◌∷◌, take, length, Option, Some, None, refl, ap, subst, arith}
+use Rattle.std.proofs.Common.{◌≡◌, ℕ, zero, suc, ◌+◌, ◌<◌, ◌≤◌, Bool, true, false, List, [], ◌∷◌, take, map, length, Option, Some, None, refl, ap, subst, arith}
 use Rattle.std.specs.Prelude.{◌==◌, slice_get, not}
 use Rattle.std.specs.List.{AllByRecursion}
 use Rattle.ckc_text.specs.declared.place.Span.{Span}
@@ -16,12 +16,12 @@ use Rattle.ckc_core.specs.Programs.{Initial, Import}
 use Rattle.ckc_core.specs.Core as core
 use Rattle.ckc_core.specs.States.{shape, object_block}
 use Rattle.region_typing_rules.specs.Verdicts.{Verdict, meant, picked}
-use Rattle.region_typing_rules.specs.Scopes.{Scope, Signature, FileVariable, Visible, Named, Local, Object, Array, Nothing, local_if, found_if, local_named, object_of, object_named, or_else, null_named, named, function_named}
+use Rattle.region_typing_rules.specs.Scopes.{Scope, Signature, FileVariable, Visible, Named, Local, Object, Array, Nothing, local_if, found_if, local_named, object_of, object_named, or_else, null_named, named, function_named, bounds_in}
 use Rattle.region_typing_rules.specs.Types.{is_number}
 use Rattle.region_typing_rules.specs.Expressions.{Typed, is_checked_argument, without_checked, crossing, is_import, side_number, member_from, offset_among}
 use Rattle.bounds_flow_meaning.specs.Rows.{slots_from, slots, HasRow}
 use Rattle.region_typing_rules.specs.KnownIsSo.{AreLimited}
-use Rattle.region_typing_rules.specs.Typed.{Frame, AreRows, IsNumberResult, IsScalar, IsScalarResult}
+use Rattle.region_typing_rules.specs.Typed.{Frame, HaveRows, AreRows, IsNumberResult, IsScalar, IsScalarResult}
 use Rattle.region_typing_rules.proofs.Verdicts.{Promises, needs_promises, Extends}
 use Rattle.region_typing_rules.proofs.Known.{IsKnown, IsClosed}
 
@@ -35,6 +35,8 @@ pub record IsTrusted (g : Frame) (number : ℕ) (f : Signature) : Type 0 where
   pub parameters : take function.parameters function.locals ≡ f.parameters
   pub result : function.result ≡ f.result
   pub scalar : IsScalarResult f.result
+  pub bounds : slice_get g.bounds number ≡ Some (map bounds_in f.bounds)
+  pub rows : HaveRows f.parameters (map bounds_in f.bounds)
 
 -- a tainted one, which takes and gives numbers
 pub record IsTainted (g : Frame) (number : ℕ) (f : Signature) : Type 0 where
@@ -44,6 +46,7 @@ pub record IsTainted (g : Frame) (number : ℕ) (f : Signature) : Type 0 where
   pub result : import.result ≡ f.result
   pub numbers : AllByRecursion IsNumberType f.parameters
   pub number_result : IsNumberResult f.result
+  pub rows : HaveRows f.parameters (map bounds_in f.bounds)
 
 -- a variable of the program, and what stands at its first byte
 pub record IsObject (g : Frame) (type : CType) (number : ℕ) : Type 0 where

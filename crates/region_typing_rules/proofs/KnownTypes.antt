@@ -3,7 +3,7 @@ use Rattle.std.proofs.Common.{◌≡◌, ℕ, suc, ◌^◌, Bool, true, false, L
 use Rattle.std.specs.Prelude.{◌==◌, slice_get, nat_lt, not, ◌&&◌, ◌||◌, is_some}
 use Rattle.std.specs.List.{AllByRecursion}
 use Rattle.ckc_text.specs.declared.place.Span.{Span}
-use Rattle.ckc_text.specs.declared.code.Code.TheVariants.{E04, E13, E14, E17, E18, E19, E26}
+use Rattle.ckc_text.specs.declared.code.Code.TheVariants.{E04, E13, E14, E18, E19, E26}
 use Rattle.ckc_tree.specs.declared.expr.UnaryOperator.{UnaryOperator}
 use Rattle.ckc_tree.specs.declared.expr.UnaryOperator.TheVariants as unary
 use Rattle.ckc_tree.specs.declared.expr.BinaryOperator.{BinaryOperator}
@@ -20,13 +20,12 @@ use Rattle.ckc_core.specs.declared.program.Direction.TheVariants as directions
 use Rattle.ckc_core.specs.Core as core
 use Rattle.ckc_core.specs.Meaning.{bounds_of}
 use Rattle.ckc_core.proofs.Elements.{of_element}
-use Rattle.bounds_flow.specs.Flows.{Knowledge}
 use Rattle.ckc_names_rules.specs.declared.given.Given.{Given}
 use Rattle.region_typing_rules.specs.Verdicts.{Verdict, Passes, Stops, passing, meant, picked}
 use Rattle.region_typing_rules.specs.Scopes.{Scope, Signature, FileVariable, Visible, Named, Local, Object, Array, Nothing, local_if, found_if, local_named, object_of, object_named, or_else, null_named, named, function_named, members_named}
 use Rattle.region_typing_rules.specs.Types.{type_named, is_number, is_pointer, are_comparable}
-use Rattle.region_typing_rules.specs.Expressions.{Places, OfLocal, OfCell, ForNothing, ForArray, For, Typed, Value, AStruct, Called, Gives, GivesNothing, site_at, bounded, number, at_place, local_typed, name_typed, member_from, member_at, dotted, with_elements, first_element, pointed_by, arrowed, pointed_at, dereferenced, address, number_of, scalar_of, unary_typed, is_single_value, lacks_bounds, two_numbers, two_scalars, operator_along, summed, sum_typed, equated, are_related, ordered, binary_typed, element_at, indexed, asked_of, meets, arguments_met, arguments_as, is_import, call_of, declared_callee, writes, predefined_call, called, with_result, typed, all_typed}
-use Rattle.region_typing_rules.proofs.Verdicts.{Promises, passing_promises, needs_promises, anything_promised}
+use Rattle.region_typing_rules.specs.Expressions.{Places, OfLocal, OfCell, ForNothing, ForArray, For, Typed, Value, AStruct, Called, Gives, GivesNothing, site_at, bounded, number, at_place, local_typed, name_typed, member_from, member_at, dotted, with_elements, first_element, pointed_by, arrowed, pointed_at, dereferenced, address, number_of, scalar_of, unary_typed, is_single_value, lacks_bounds, two_numbers, two_scalars, operator_along, summed, sum_typed, equated, are_related, ordered, binary_typed, element_at, indexed, arguments_as, is_import, call_of, declared_callee, writes, predefined_call, called, with_result, typed, all_typed}
+use Rattle.region_typing_rules.proofs.Verdicts.{Promises, passing_promises, needs_promises, anything_promised, all_met_promise}
 use Rattle.region_typing_rules.proofs.Known.{IsKnown, IsKnownResult, IsClosed}
 use Rattle.region_typing_rules.proofs.Knowledge.{crossing_promises}
 use Rattle.region_typing_rules.proofs.Signatures.{named_has}
@@ -233,13 +232,6 @@ module _ (structs : List Structure) where
       by false false true e e1 e2 = rw (e, e1, e2) (writes_known core.PutByte arguments span)
       by false false false e e1 e2 = rw (e, e1, e2) tt
 
-  arguments_met_known : (f : Knowledge) (arguments : List (Typed × Span)) (ts : List CType) (next : Verdict Called) → Promises (IsKnownCall structs) next → Promises (IsKnownCall structs) (arguments_met f arguments ts next)
-  arguments_met_known f [] ts next h = h
-  arguments_met_known f (a ∷ arguments) [] next h = h
-  arguments_met_known f ((Value type zero value place, span) ∷ arguments) (t ∷ ts) next h =
-      needs_promises (IsKnownCall structs) (zero || meets f value (asked_of type t)) E17 span (arguments_met f arguments ts next) (λ met. arguments_met_known f arguments ts next h)
-  arguments_met_known f ((AStruct n place, span) ∷ arguments) (t ∷ ts) next h = arguments_met_known f arguments ts next h
-
   with_result_known : (c : Called) (span : Span) → IsKnownCall structs c → Promises Known (with_result c span)
   with_result_known (Gives type value) span h = h
   with_result_known (GivesNothing call) span h = tt
@@ -306,7 +298,7 @@ module _ (s : Scope) (closed : IsClosed s) where
       needs_promises (IsKnownCall s.structs) (length f.parameters == length arguments) E14 span _
       (λ many. crossing_promises (IsKnownCall s.structs) (is_import f) arguments _
       (passing_promises (λ (values : core.Arguments). Unit {0}) (IsKnownCall s.structs) (arguments_as arguments f.parameters) _ (anything_promised (arguments_as arguments f.parameters))
-      (λ values _. arguments_met_known s.structs s.flow arguments f.parameters _ (call_known s.structs (declared_callee s f site) f.result values site (named_has (λ (x : Signature). IsKnownResult s.structs x.result) s.functions name f closed.of_functions e)))))
+      (λ values _. all_met_promise (IsKnownCall s.structs) s.flow _ _ arguments f.parameters f.bounds _ (call_known s.structs (declared_callee s f site) f.result values site (named_has (λ (x : Signature). IsKnownResult s.structs x.result) s.functions name f closed.of_functions e)))))
 
   pub typed_known : (at : Places) (x : Expression) → Promises (IsKnownTyped s.structs) (typed at s x)
   typed_known at (e.Number value span) = needs_promises (IsKnownTyped s.structs) (nat_lt value (2 ^ 31)) E04 span _ (λ low. tt)

@@ -11,6 +11,8 @@ pub mod Sizes
 pub mod KnownTypes
 pub mod Elements
 pub mod Given
+pub mod Asked
+pub mod Calls
 pub mod Expressions
 pub mod FlowSizes
 pub mod Growth
@@ -58,3 +60,4 @@ pub mod Entries
 pub mod Safe
 pub mod SameTypes
 pub mod DeclaredBounds
+pub mod Parameters

@@ -16,7 +16,7 @@ use Rattle.ckc_tree.specs.Statements.{Initializer, Declarator, Statements}
 use Rattle.ckc_tree.specs.Items as i
 use Rattle.ckc_tree.specs.Items.{ResultForm, Parameters, Body, Item, Tree}
 use Rattle.ckc_tree.specs.Numbers.{Numbers, number_type, number_expression, number_initializer, number_declarator, number_statements, number_member, number_structure, number_global, number_result, number_parameters, number_body, number_function, number_item}
-use Rattle.built_forms.specs.Built.{optional, built_type, built_initializer, built_variable, built_result, built_parameters, built_member, is_number_result, is_number_parameter, built_body, built_of_kind, built_function, built_item, is_built}
+use Rattle.built_forms.specs.Built.{optional, built_type, built_initializer, built_variable, built_result, built_parameters, built_parameter, is_number_result, is_number_parameter, built_body, built_of_kind, built_function, built_item, is_built}
 use Rattle.ckc_names_rules.specs.declared.given.Given.{Given}
 use Rattle.ckc_names_rules.specs.Given.{number_in, given_by}
 use Rattle.ckc_names_rules.specs.Mentions.{Mention, DeclareTag, DeclareFunction, type_mentions, bounds_mentions, optional_mentions, initializer_mentions, declarator_mentions, in_block, listed_mentions, parameters_mentions, statements_mentions, result_mentions, function_mentions, item_mentions, tree_mentions}
@@ -28,21 +28,21 @@ use Rattle.pointer_modes.specs.Types.{CType, Int, Char, Struct, Pointer, Structu
 use Rattle.ckc_core.specs.Programs.{Initial}
 use Rattle.ckc_core.specs.Core as core
 use Rattle.region_typing_rules.specs.Verdicts.{Verdict, Passes, Stops, Broken, Nameless, Unnamed, passing, meant, picked}
-use Rattle.region_typing_rules.specs.Scopes.{Scope, Signature, Variable as Parameter, FileVariable, found_if, object_of, object_named, function_named, struct_named}
+use Rattle.region_typing_rules.specs.Scopes.{Scope, Signature, FileVariable, found_if, object_of, object_named, function_named, struct_named}
 use Rattle.region_typing_rules.specs.Types.{without_stars, base_type}
 use Rattle.region_typing_rules.specs.Expressions.{Places, is_tainted, typed}
 use Rattle.bounds_flow.specs.Flows.{at_entry}
 use Rattle.region_typing_rules.specs.Statements.{is_unchecked, statements}
 use Rattle.ckc_tree.specs.declared.stmt.SignedConstant.{SignedConstant}
-use Rattle.region_typing_rules.specs.Items.{Walk, is_struct, member_types, scalar_members, with_struct, member_names, structure, signed_constant, Walked, Missing, Written, Constants, unsigned_number, small_constants, initializer, are_zeros, is_zero, number_or_break, cells_or_break, object_cells, with_variable, length_of, count_of, is_length, written_size, few_bytes, room_for, WalkedVariable, variables, room_for_first, with_objects, global, listed, parameter_types, result_type, agrees, all_scalar, scalar_result, with_function, variables_in, inside, function_body, is_defined, function_rules, signature_of, function, is_off, item, items, start, walked}
+use Rattle.region_typing_rules.specs.Items.{Walk, Parameter, is_struct, member_types, scalar_members, with_struct, member_names, structure, signed_constant, Walked, Missing, Written, Constants, unsigned_number, small_constants, initializer, are_zeros, is_zero, number_or_break, cells_or_break, object_cells, with_variable, length_of, count_of, is_length, written_size, few_bytes, room_for, WalkedVariable, variables, room_for_first, with_objects, global, listed, parameter_types, result_type, agrees, all_scalar, scalar_result, with_function, variables_in, with_bounds, before_bounds, inside, function_body, is_defined, function_rules, signature_of, function, is_off, item, items, start, walked}
 use Rattle.region_typing_rules.specs.Cores.{checked}
 use Rattle.region_typing_rules.proofs.Signatures.{bytes_equal}
 use Rattle.region_typing_rules.proofs.NamedVerdicts.{IsNamed, AllNamed, Any, passing_named, then_named, needs_named, named_so}
 use Rattle.region_typing_rules.proofs.NamedMentions.{AreFound, mentioned_append, not_refused, quiet_front, quiet_all, type_quiet, bounds_quiet, optional_quiet, initializer_quiet, declared_front, AreQuiet, opened, block_mentioned, KeepsOutside, append_keeps, quiet_keeps, nothing_keeps, statements_keep}
-use Rattle.region_typing_rules.proofs.NamedScopes.{number_equal, KnowsTags, meant_some, among_any, AgreesFile, file_agrees, Agrees, entry_value, entry_without, HasTags, found_tags, base_named, stars_named}
+use Rattle.region_typing_rules.proofs.NamedScopes.{number_equal, KnowsTags, meant_some, among_any, AgreesFile, file_agrees, Agrees, flow_agrees, entry_value, entry_without, HasTags, found_tags, base_named, stars_named}
 use Rattle.region_typing_rules.proofs.NamedExpressions.{typed_named}
 use Rattle.region_typing_rules.proofs.NamedStatements.{Behind, statements_named}
-use Rattle.region_typing_rules.proofs.NamedLists.{or_cases, any_more, any_last, Adds, adds_same, lists_all, listed_adds, listed_keeps, HaveTags, is_listed, is_variable, members_named, Named as AreParameters, parameters_named, inside_agrees}
+use Rattle.region_typing_rules.proofs.NamedLists.{or_cases, any_more, any_last, Adds, adds_same, lists_all, listed_adds, listed_keeps, HaveTags, is_listed, is_parameter, members_named, Named as AreParameters, parameters_named, inside_agrees}
 
 -- ---- what is known at file level
 
@@ -271,7 +271,7 @@ none_built None h = refl
 none_built (Some body) h = absurd (cc)
 
 body_built : (kind : FunctionKind) (d : i.Function) → built_of_kind kind d ≡ true → optional built_body d.body ≡ true
-body_built function_kinds.Trusted d h = (and_parts (built_parameters built_member d.parameters) _ (and_parts (built_result d.result) _ h).1).1
+body_built function_kinds.Trusted d h = (and_parts (built_parameters built_parameter d.parameters) _ (and_parts (built_result d.result) _ h).1).1
 body_built function_kinds.Tainted d h = none_built d.body (and_parts (built_parameters is_number_parameter d.parameters) _ (and_parts (d.stars == 0) _ (and_parts (is_number_result d.result) _ h).1).1).1
 body_built function_kinds.Callback d h = absurd (cc)
 
@@ -356,16 +356,16 @@ function_named_so of at all n m w d before built h =
     let known = function_named w.scope.functions (of d.name.name) in
     let tags = (parameters_add (λ x. Unit {0}) d.parameters (λ x e. tt) (opened parts.declared) parts.entered parts.parameters).1 in
     let tags' : HaveTags n.tags (listed d.parameters) = subst (λ (k : Scopes). HaveTags k.tags (listed d.parameters)) parts.is_declared tags in
-    let named : IsNamed (AreParameters of (listed d.parameters) []) (parameter_types w.scope (listed e.parameters) []) =
-    subst (λ ms. IsNamed (AreParameters of (listed d.parameters) []) (parameter_types w.scope ms [])) (sym (listed_numbered of d.parameters)) (parameters_named of n.tags w.scope before.tag (listed d.parameters) [] tags') in
+    let named : IsNamed (AreParameters of (listed d.parameters) []) (parameter_types w.scope (listed e.parameters) (listed e.parameters) []) =
+    subst (λ ms. IsNamed (AreParameters of (listed d.parameters) []) (parameter_types w.scope (listed e.parameters) ms [])) (sym (listed_numbered of d.parameters)) (parameters_named of n.tags w.scope before.tag (listed e.parameters) (listed d.parameters) [] tags') in
     needs_named (File of m) _ E08 d.span _
     (then_named (File of m) (result_type w.scope e.result d.stars) _ (result_named of n w.scope before d.result d.stars parts.result)
-    (λ result. passing_named (AreParameters of (listed d.parameters) []) (File of m) (parameter_types w.scope (listed e.parameters) []) _ named
+    (λ result. passing_named (AreParameters of (listed d.parameters) []) (File of m) (parameter_types w.scope (listed e.parameters) (listed e.parameters) []) _ named
     (λ ps each. (let f : Signature = signature_of e result ps in
     let after : Scope = with_function known f w.scope in
     let inner : Walk = record w { scope = after } in
     let now : AgreesFile of parts.declared after = subst (λ k. AgreesFile of k after) (sym parts.is_declared) (function_agrees of d.name _ f refl n w.scope before) in
-    let adds = (parameters_add (λ x. is_variable ps (of x) ≡ true) d.parameters (λ x e. each x (inl e)) (opened parts.declared) parts.entered parts.parameters).0 in
+    let adds = (parameters_add (λ x. is_parameter ps (of x) ≡ true) d.parameters (λ x e. each x (inl e)) (opened parts.declared) parts.entered parts.parameters).0 in
     let start : Statements → Scope = λ body. record after {
       locals = [];
       visible = [];
@@ -377,7 +377,9 @@ function_named_so of at all n m w d before built h =
       continues = None;
     } in
     let inside_now : (body : Statements) → Agrees of parts.entered (inside f ps body after) =
-    λ body. inside_agrees of (opened parts.declared) parts.entered (start body) ps (record { value = now.value; function = now.function; tag = now.tag; given = now.given }) adds in
+    λ body. (let b : Scope = before_bounds f ps body after in
+    flow_agrees of parts.entered b b.outside (with_bounds 0 ps b.flow) b.breaks b.continues
+    (inside_agrees of (opened parts.declared) parts.entered (start body) ps (record { value = now.value; function = now.function; tag = now.tag; given = now.given }) adds)) in
     passing_named (λ (v : Walk). v.scope ≡ after) (File of m) (function_body at inner f ps e.body) _ (body_named of at inner f ps d.body parts.entered parts.left inside_now form parts.body)
     (λ x same. named_so (λ (v : Walk). v ≡ x) (File of m) (function_rules all e f known x)
     (λ v is. subst (λ (u : Walk). File of m u) (sym is) (subst (AgreesFile of m) (sym same) (subst (λ k. AgreesFile of k after) (sym parts.behind) now))) (rules_named all e f known x))))))

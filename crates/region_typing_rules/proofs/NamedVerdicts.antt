@@ -11,6 +11,7 @@ use Rattle.ckc_tree.specs.declared.expr.BinaryOperator.TheVariants as binary
 use Rattle.ckc_tree.specs.declared.stmt.StoreOperator.{StoreOperator}
 use Rattle.ckc_tree.specs.declared.stmt.StoreOperator.TheVariants as stores
 use Rattle.pointer_modes.specs.declared.ctype.Kind.TheVariants as kinds
+use Rattle.bounds_exprs.specs.declared.term.Term.{Term}
 use Rattle.bounds_flow.specs.Flows.{Knowledge}
 use Rattle.pointer_modes.specs.Types.{CType, Int, Char, Struct, Pointer, members_of}
 use Rattle.ckc_core.specs.declared.program.Site.{Site}
@@ -24,9 +25,9 @@ use Rattle.ckc_core.specs.declared.program.Direction.TheVariants as directions
 use Rattle.ckc_core.specs.Core as core
 use Rattle.ckc_core.specs.Meaning.{bounds_of}
 use Rattle.region_typing_rules.specs.Verdicts.{Verdict, Passes, Stops, Broken, Nameless, passing, needs}
-use Rattle.region_typing_rules.specs.Scopes.{Scope, Signature, members_named}
+use Rattle.region_typing_rules.specs.Scopes.{Scope, Signature, WrittenBounds, bounds_in, members_named}
 use Rattle.region_typing_rules.specs.Types.{is_number, is_pointer, are_comparable, converts}
-use Rattle.region_typing_rules.specs.Expressions.{Places, site_at, Lvalue, OfLocal, OfCell, Standing, ForNothing, ForArray, For, Typed, Value, AStruct, Called, Gives, GivesNothing, plain, number, sum_node, at_place, member_from, member_at, dotted, struct_place, first_element, with_elements, pointed_by, arrowed, pointed_at, dereferenced, address_at, address, number_of, scalar_of, unary_typed, is_single_value, lacks_bounds, without_ptr, two_numbers, two_scalars, operator_along, summed, sum_typed, equated_values, equated, are_related, ordered_values, ordered, arithmetic, binary_typed, element_at, indexed, in_type, asked_of, meets, bounds_met, converted, arguments_as, arguments_met, is_import, is_checked_argument, without_checked, crossing, declared_call, writes, with_result}
+use Rattle.region_typing_rules.specs.Expressions.{Places, site_at, Lvalue, OfLocal, OfCell, Standing, ForNothing, ForArray, For, Typed, Value, AStruct, Called, Gives, GivesNothing, plain, number, sum_node, at_place, member_from, member_at, dotted, struct_place, first_element, with_elements, pointed_by, arrowed, pointed_at, dereferenced, address_at, address, number_of, scalar_of, unary_typed, is_single_value, lacks_bounds, without_ptr, two_numbers, two_scalars, operator_along, summed, sum_typed, equated_values, equated, are_related, ordered_values, ordered, arithmetic, binary_typed, element_at, indexed, in_type, asked_of, meets, bounds_met, converted, arguments_as, terms_for, pointers_for, argument_meets, arguments_met, is_import, is_checked_argument, without_checked, crossing, declared_call, writes, with_result}
 use Rattle.region_typing_rules.specs.Statements.{assigned, update, moved, updated_as, updated, stored, returned, returned_nothing}
 
 -- no name stands for nothing, and this is so of the value where no rule is broken
@@ -237,14 +238,19 @@ crossing_named : {A : Type 0} (tainted : Bool) (ts : List (Typed × Span)) (next
 crossing_named true ts next h = unchecked_named ts next h
 crossing_named false ts next h = h
 
-all_met_named : {A : Type 0} (f : Knowledge) (ts : List (Typed × Span)) (types : List CType) (next : Verdict A) → AllNamed next → AllNamed (arguments_met f ts types next)
-all_met_named f [] types next h = h
-all_met_named f (t ∷ ts) [] next h = h
-all_met_named f (t ∷ ts) (type ∷ types) next h = met_named f t.0 type t.1 _ (all_met_named f ts types next h)
+all_met_named : {A : Type 0} (f : Knowledge) (terms : List (Option Term)) (pointers : List (Option ℕ)) (ts : List (Typed × Span)) (types : List CType) (bounds : List WrittenBounds) (next : Verdict A) → AllNamed next
+    → AllNamed (arguments_met f terms pointers ts types bounds next)
+all_met_named f terms pointers [] types bounds next h = h
+all_met_named f terms pointers (t ∷ ts) [] bounds next h = h
+all_met_named f terms pointers (t ∷ ts) (type ∷ types) [] next h =
+    needs_named Any (argument_meets f terms pointers t.0 type None) E17 t.1 _ (all_met_named f terms pointers ts types [] next h)
+all_met_named f terms pointers (t ∷ ts) (type ∷ types) (b ∷ bounds) next h =
+    needs_named Any (argument_meets f terms pointers t.0 type (bounds_in b)) E17 t.1 _ (all_met_named f terms pointers ts types bounds next h)
 
 pub declared_named : (s : Scope) (f : Signature) (ts : List (Typed × Span)) (site : Site) (span : Span) → AllNamed (declared_call s f ts site span)
 declared_named s f ts site span =
-    needs_named Any (length f.parameters == length ts) E14 span _ (crossing_named (is_import f) ts _ (then_named Any (arguments_as ts f.parameters) _ (arguments_named ts f.parameters) (λ values. all_met_named s.flow ts f.parameters _ tt)))
+    needs_named Any (length f.parameters == length ts) E14 span _ (crossing_named (is_import f) ts _ (then_named Any (arguments_as ts f.parameters) _ (arguments_named ts f.parameters) (λ values.
+    all_met_named s.flow (terms_for s.locals ts f.parameters) (pointers_for s.locals ts) ts f.parameters f.bounds _ tt)))
 
 pub writes_named : (of : core.Expression → core.Statement) (ts : List (Typed × Span)) (span : Span) → AllNamed (writes of ts span)
 writes_named of ts span = needs_named Any (length ts == 1) E14 span _ (then_named Any (arguments_as ts (Int ∷ [])) _ (arguments_named ts (Int ∷ [])) (λ values. tt))

@@ -81,6 +81,7 @@ module _ (height : ℕ) where
           scalars = of_members (AllByRecursion (λ (m : Member). IsScalar m.ctype)) tt w.scope.structs new well.scalars scalars;
           start = well.start;
           declared = well.declared;
+          named = well.named;
           bodies = bodies_later height w.scope after w.bodies well.closed grows well.bodies;
           roomy = well.roomy;
           bytes = well.bytes;
@@ -252,6 +253,7 @@ module _ (height : ℕ) where
           scalars = h.well.scalars;
           start = h.well.start;
           declared = h.well.declared;
+          named = h.well.named;
           bodies = bodies_later height w.scope after w.bodies h.well.closed more h.well.bodies;
           roomy = h.well.roomy;
           bytes = omega (arith, h.well.bytes, bytes);
@@ -305,6 +307,7 @@ module _ (height : ℕ) where
               scalars = h.well.scalars;
               start = all_append (AllByRecursion IsStart) w.objects cells h.well.start (copies_start w.scope.structs v.type (count_of v.length) cells here);
               declared = h.well.declared;
+              named = h.well.named;
               bodies = h.well.bodies;
               roomy = all_append (λ (o : List Initial). AllByRecursion IsRoomy o × (0 < length o)) w.objects cells h.well.roomy (copies_roomy w.scope.structs v.type (count_of v.length) cells here, some);
               bytes = omega (arith, bytes, taken v waiting.0);

@@ -13,7 +13,7 @@ use Rattle.act_words.specs.Checks.{is_word_number}
 use Rattle.ckc_core.specs.Outcome.{Gives, Ends, Stuck, Unsound, Short, and_then}
 use Rattle.act_words.specs.World.{new_world}
 use Rattle.act_words.specs.Touches.{Crossed, until_return}
-use Rattle.pointer_modes.specs.Types.{CType, Int, Structure}
+use Rattle.pointer_modes.specs.Types.{CType, Int, Pointer, Structure}
 use Rattle.ckc_core.specs.Core as core
 use Rattle.ckc_core.specs.States.{Value, Number, Null, At, Grows, Shape, State, initial_value, object_block, shapes}
 use Rattle.ckc_core.specs.Programs.{Initial, parted}
@@ -23,12 +23,14 @@ use Rattle.ckc_core.specs.Meaning.{Setting, knot, body_if, body_of, effects, mea
 use Rattle.region_typing_rules.specs.Typed.{Frame, IsScalarResult, IsInitial}
 use Rattle.region_typing_rules.specs.NeverStuck.{NeverUnsound, NeverStuck, AlwaysEnds}
 use Rattle.ckc_core.proofs.Numbers.{IsNumber}
-use Rattle.ckc_core.proofs.Elements.{of_element}
 use Rattle.ckc_core.proofs.Audits.{changes_nothing}
 use Rattle.region_typing_rules.proofs.Values.{grows_here, value_grown, value_typed, zero_typed, HaveLocals, values_fit, locals_typed, locals_grown, HoldsValues}
 use Rattle.region_typing_rules.proofs.Worlds.{Crosses, until_crosses}
 use Rattle.region_typing_rules.proofs.Soundness.{shaped, OfType, OfTypes, IsReply, IsAnswer, EndsAs, IsKept, IsKnot, Goes, Runs, runs_then}
-use Rattle.region_typing_rules.proofs.Safe.{IsSafe, IsSafeProgram, KnotsUpTo, setting_of}
+use Rattle.region_typing_rules.proofs.Safe.{AreSafe, IsSafeProgram, KnotsUpTo, safe_at, safe_there, setting_of}
+use Rattle.region_typing_rules.proofs.Calls.{AreEntered, entered_later}
+use Rattle.bounds_exprs.specs.declared.term.Bounds.{Bounds}
+use Rattle.pointer_modes.specs.declared.ctype.Kind.TheVariants as kinds
 use Rattle.region_typing_rules.proofs.Keeping.{Grown}
 use Rattle.region_typing_rules.proofs.Moving.{IsMovedTo, all_of_them, effects_move, knots_move}
 use Rattle.region_typing_rules.proofs.Terms.{so_further, so_on}
@@ -76,22 +78,22 @@ module _ (g : Frame) (budget : ℕ) where
   crossed_goes n low types s (Crossed.Called fun words w) h kept = tt
   crossed_goes n low types s (Crossed.Over ending w) h kept = tt
 
-  module _ (sandbox trusted : ℕ) (functions : AllByRecursion (IsSafe g) g.program.functions) where
+  module _ (sandbox trusted : ℕ) (functions : AreSafe g g.program.functions g.bounds) where
     abbrev setting : Setting
     setting = setting_of g budget sandbox trusted
 
     -- the body of a function, with knots that are enough for it
-    body_goes : (n m : ℕ) → KnotsUpTo g budget sandbox trusted m → (low : ℕ) (types : List CType) (function : ℕ) (f : core.Function) (vs : List Value) (s : State) → slice_get g.program.functions function ≡ Some f → OfTypes g (parameters_of f) vs s → budget ≤ low + m → IsKept g budget n low types s
-        → Goes g budget n low types s (IsAnswer g f.result) (body_of true setting (knot true setting m) (slice_get g.program.functions function) vs s)
-    body_goes n m knots low types function f vs s found h enough kept =
-        let it = of_element (IsSafe g) g.program.functions function f functions found in
+    body_goes : (n m : ℕ) → KnotsUpTo g budget sandbox trusted m → (low : ℕ) (types : List CType) (function : ℕ) (f : core.Function) (bs : List (Option Bounds)) (vs : List Value) (s : State) → slice_get g.program.functions function ≡ Some f → slice_get g.bounds function ≡ Some bs → OfTypes g (parameters_of f) vs s
+        → AreEntered g.structs bs (record s { locals = locals_for f.locals vs }) → budget ≤ low + m → IsKept g budget n low types s → Goes g budget n low types s (IsAnswer g f.result) (body_of true setting (knot true setting m) (slice_get g.program.functions function) vs s)
+    body_goes n m knots low types function f bs vs s found known h begun enough kept =
+        let it = safe_at g g.program.functions g.bounds function f bs functions found known in
         let inside : State = record s { locals = locals_for f.locals vs; depth = s.depth + 1 } in
         let inside_kept : IsKept g budget m low f.locals inside = record { grown = kept.grown; cells = kept.cells; locals = locals_typed g.structs (shaped s) f.locals f.parameters vs it.typed.locals h; world = kept.world; enough = enough } in
         let run = effects true setting (knot true setting m) f.body inside in
         subst (λ o. Goes g budget n low types s (IsAnswer g f.result) (body_of true setting (knot true setting m) o vs s)) (sym found)
         (subst (λ yes. Goes g budget n low types s (IsAnswer g f.result) (body_if true yes setting (knot true setting m) f vs s)) (sym (values_fit g.structs (shaped s) (parameters_of f) vs h))
         (back_goes n m low types f.locals f.result s inside (and_then run (answer f.result)) kept.enough kept.locals refl
-        (runs_then g budget m low f.locals (EndsAs g f.result false) (IsAnswer g f.result) run (answer f.result) (it.runs budget sandbox trusted m knots low inside inside_kept)
+        (runs_then g budget m low f.locals (EndsAs g f.result false) (IsAnswer g f.result) run (answer f.result) (it.runs budget sandbox trusted m knots low inside inside_kept (entered_later g.structs bs (record s { locals = locals_for f.locals vs }) inside (grows_here (shaped s)) refl begun))
         (λ flow t ok t_kept. answer_runs m low f.locals f.result it.typed.result flow t ok t_kept))
         (so_on (λ flow t. Grows (shaped inside) (shaped t)) (λ v t. Grows (shaped inside) (shaped t)) run (answer f.result) (body_grows m f.body inside) (λ flow t grown. answer_grows f.result inside flow t grown))))
       where
@@ -113,14 +115,14 @@ module _ (g : Frame) (budget : ℕ) where
     -- no call comes where no tick is left
     first_knot : IsKnot g budget zero (knot true setting zero)
     first_knot = record {
-      call = λ low types function f vs s found h few kept. let w = kept.world in absurd (omega (arith, few, w.2, w.3));
+      call = λ low types function f vs s found bs known h begun few kept. let w = kept.world in absurd (omega (arith, few, w.2, w.3));
       sandbox = λ low types s few kept. let w = kept.world in absurd (omega (arith, few, w.2, w.3));
       keeps = (knots_move true setting zero).calls;
     }
 
     next_knot : (m : ℕ) → KnotsUpTo g budget sandbox trusted m → IsKnot g budget (suc m) (knot true setting (suc m))
     next_knot m below = record {
-      call = λ low types function f vs s found h few kept. body_goes (suc m) m below low types function f vs s found h (omega (arith, few)) kept;
+      call = λ low types function f vs s found bs known h begun few kept. body_goes (suc m) m below low types function f bs vs s found known h begun (omega (arith, few)) kept;
       sandbox = λ low types s few kept. crossed_goes (suc m) low types s (until_return s.world.acts s.world) (until_crosses budget low s.world.acts kept.world.0 s.world kept.world) kept;
       keeps = (knots_move true setting (suc m)).calls;
     }
@@ -158,6 +160,9 @@ module _ (structs : List Structure) (b : List Shape) where
   start_blocks [] all = tt
   start_blocks (is ∷ objects) all = (start_cells is all.0, start_blocks objects all.1)
 
+nothing_there : (x : ℕ) (c : CType) → slice_get [] x ≡ Some c → ⊥
+nothing_there x c h = absurd (cc)
+
 -- the audited run of what has types ends
 abbrev AuditEnds : core.Core → Settings → List ℤ → List Act → Type 0
 AuditEnds program settings inputs acts = (ending : Ending) × (s : State) × (audited_meaning program settings inputs acts ≡ Ends ending s)
@@ -165,7 +170,7 @@ AuditEnds program settings inputs acts = (ending : Ending) × (s : State) × (au
 audit_ends : (program : core.Core) → IsSafeProgram (parted program) → (settings : Settings) (inputs : List ℤ) (acts : List Act) → All (λ z. IsTrue (is_word_number z)) inputs → All IsAct acts → AuditEnds program settings inputs acts
 audit_ends program is settings inputs acts words all =
     let types = is.typed in
-    let g : Frame = record { program = parted program; structs = types.structs } in
+    let g : Frame = record { program = parted program; structs = types.structs; bounds = types.bounds } in
     let n = settings.budget in
     let f = types.main in
     let start = initial (parted program) (new_world (replicate settings.sandbox 0) first_offset inputs acts) in
@@ -178,7 +183,10 @@ audit_ends program is settings inputs acts words all =
     } in
     let none : parameters_of f.0 ≡ [] = ap (λ k. take k f.0.locals) f.2 in
     run_ends g n n 0 [] start f.0.result _ f.3
-    (body_goes g n settings.sandbox settings.trusted is.functions n n (knots g n settings.sandbox settings.trusted is.functions n) 0 [] program.main f.0 [] start f.1 (subst (λ ts. OfTypes g ts [] start) (sym none) tt) (omega arith) kept)
+    (let it = safe_there g g.program.functions g.bounds program.main f.0 is.functions f.1 in
+    body_goes g n settings.sandbox settings.trusted is.functions n n (knots g n settings.sandbox settings.trusted is.functions n) 0 [] program.main f.0 it.0 [] start f.1 it.1 (subst (λ ts. OfTypes g ts [] start) (sym none) tt)
+    (λ x b l is_bound there. let row = it.2.rows x b is_bound in absurd (let at : slice_get [] x ≡ Some (Pointer row.0 kinds.Array row.1) = subst (λ ts. slice_get ts x ≡ Some (Pointer row.0 kinds.Array row.1)) none row.2 in nothing_there x (Pointer row.0 kinds.Array row.1) at))
+    (omega arith) kept)
 
 pub never_unsound : (program : core.Core) → IsSafeProgram (parted program) → NeverUnsound program
 never_unsound program is settings inputs acts words all site s unsound = let ends = audit_ends program is settings inputs acts words all in absurd (cc)

@@ -1,10 +1,11 @@
 -- The two sides of a program that was walked.
-use Rattle.std.proofs.Common.{◌≡◌, ℕ, Bool, true, false, List, [], ◌∷◌, refl, ap}
+use Rattle.std.proofs.Common.{◌≡◌, ℕ, Bool, true, false, List, [], ◌∷◌, map, Option, refl, ap}
+use Rattle.bounds_exprs.specs.declared.term.Bounds.{Bounds}
 use Rattle.ckc_core.specs.Programs.{Import, Trusted, Tainted, trusted_of, tainted_of, parted}
 use Rattle.ckc_core.specs.Core as core
 use Rattle.ckc_core.specs.Core.{Parted}
 use Rattle.region_typing_rules.specs.Verdicts.{picked}
-use Rattle.region_typing_rules.specs.Scopes.{Signature}
+use Rattle.region_typing_rules.specs.Scopes.{Signature, bounds_in}
 use Rattle.region_typing_rules.specs.Expressions.{is_import, side_number}
 use Rattle.region_typing_rules.specs.Items.{Defined, Walk}
 use Rattle.region_typing_rules.specs.Cores.{body_of, import_of, definitions_of, core_of}
@@ -13,6 +14,11 @@ use Rattle.region_typing_rules.specs.Cores.{body_of, import_of, definitions_of, 
 abbrev pub trusted_functions : List Defined → List Signature → List core.Function
 trusted_functions bodies [] = []
 trusted_functions bodies (f ∷ functions) = picked (is_import f) (trusted_functions bodies functions) (body_of bodies f ∷ trusted_functions bodies functions)
+
+-- and the bounds of their parameters
+abbrev pub trusted_bounds : List Signature → List (List (Option Bounds))
+trusted_bounds [] = []
+trusted_bounds (f ∷ functions) = picked (is_import f) (trusted_bounds functions) (map bounds_in f.bounds ∷ trusted_bounds functions)
 
 -- tainted functions in that order
 abbrev pub tainted_functions : List Signature → List Import

@@ -1,21 +1,26 @@
 -- Functions by their names, and by their numbers among the trusted and the tainted ones.
-use Rattle.std.proofs.Common.{◌≡◌, ℕ, suc, ◌+◌, ◌≤◌, Bool, true, false, List, [], ◌∷◌, ◌++◌, length, Option, Some, None, refl, ap, ◌∙◌, subst, arith}
-use Rattle.std.specs.Prelude.{◌==◌, bytes_eq, slice_get, ◌&&◌}
+use Rattle.std.proofs.Common.{◌≡◌, ℕ, suc, ◌+◌, ◌≤◌, Bool, true, false, List, [], ◌∷◌, ◌++◌, map, length, Option, Some, None, refl, ap, ◌∙◌, subst, arith}
+use Rattle.std.specs.Prelude.{ℤ, ◌==◌, bytes_eq, slice_get, ◌&&◌}
 use Rattle.std.specs.List.{AllByRecursion}
 use Rattle.std.proofs.lemmas.Bool.{and_parts, eqb-true}
-use Rattle.std.proofs.lemmas.Bool.Decides.{nat_tests}
+use Rattle.std.specs.Ordering.{int_eq}
+use Rattle.std.proofs.lemmas.Bool.Decides.{Decides-int_eq, nat_tests}
 use Rattle.std.proofs.lemmas.Slice.Eq.{bytes_eq-Decides}
 use Rattle.ckc_tree.specs.declared.item.FunctionKind.{FunctionKind}
 use Rattle.ckc_tree.specs.declared.item.FunctionKind.TheVariants as kinds
 use Rattle.pointer_modes.specs.Types.{CType}
+use Rattle.bounds_exprs.specs.declared.term.Bounds.{Bounds}
+use Rattle.bounds_exprs.specs.declared.term.Term.{Term}
+use Rattle.bounds_exprs.specs.Normal.{is_same}
+use Rattle.bounds_flow.specs.Pointers.{same_bounds, same_term}
 use Rattle.ckc_core.specs.States.{same_type}
-use Rattle.region_typing_rules.specs.Scopes.{Signature, function_named}
+use Rattle.region_typing_rules.specs.Scopes.{Signature, WrittenBounds, function_named, bounds_in}
 use Rattle.region_typing_rules.specs.Types.{is_scalar}
 use Rattle.region_typing_rules.specs.Expressions.{is_import, counted, same_side, side_number}
-use Rattle.region_typing_rules.specs.Items.{Defined, same_types, same_result, same_kind, agrees, all_scalar, scalar_result}
+use Rattle.region_typing_rules.specs.Items.{Defined, same_types, same_written, all_same_written, same_result, same_kind, agrees, all_scalar, scalar_result}
 use Rattle.region_typing_rules.specs.Cores.{body_of}
-use Rattle.region_typing_rules.proofs.Sides.{trusted_functions, tainted_functions}
-use Rattle.region_typing_rules.specs.Typed.{IsScalar, IsScalarResult, IsNumberResult}
+use Rattle.region_typing_rules.proofs.Sides.{trusted_functions, trusted_bounds, tainted_functions}
+use Rattle.region_typing_rules.specs.Typed.{HaveRows, IsScalar, IsScalarResult, IsNumberResult}
 use Rattle.region_typing_rules.proofs.Knowledge.{IsNumberType}
 use Rattle.region_typing_rules.proofs.SameTypes.{same_equal}
 
@@ -80,6 +85,7 @@ pub record HasTrusted (bodies : List Defined) (functions : List Signature) (name
   pub index : ℕ
   pub counted : side_number false functions name n ≡ n + index
   pub found : slice_get (trusted_functions bodies functions) index ≡ Some (body_of bodies f)
+  pub bounds : slice_get (trusted_bounds functions) index ≡ Some (map bounds_in f.bounds)
 
 pub trusted_there : (bodies : List Defined) (functions : List Signature) (name : ℕ) (f : Signature) (n : ℕ) → function_named functions name ≡ Some f → is_import f ≡ false → HasTrusted bodies functions name f n
 trusted_there bodies [] name f n h side = absurd (cc)
@@ -90,16 +96,16 @@ trusted_there bodies (g ∷ functions) name f n h side = by (name == g.name) (is
         let now = rw e at h in
         let same : g ≡ f = cc in
         let trusted : is_import g ≡ false = ap is_import same ∙ side in
-        record { index = 0; counted = rw e (omega arith); found = rw trusted (ap (λ x. Some (body_of bodies x)) same) }
+        record { index = 0; counted = rw e (omega arith); found = rw trusted (ap (λ x. Some (body_of bodies x)) same); bounds = rw trusted (ap (λ (x : Signature). Some (map bounds_in x.bounds)) same) }
     by false true e i again =
         let now = rw e at h in
         let rest = again n now in
-        record { index = rest.index; counted = rw (e, i) rest.counted; found = rw i rest.found }
+        record { index = rest.index; counted = rw (e, i) rest.counted; found = rw i rest.found; bounds = rw i rest.bounds }
     by false false e i again =
         let now = rw e at h in
         let rest = again (suc n) now in
         let moved : suc n + rest.index ≡ n + suc rest.index = omega arith in
-        record { index = suc rest.index; counted = rw (e, i) (rest.counted ∙ moved); found = rw i rest.found }
+        record { index = suc rest.index; counted = rw (e, i) (rest.counted ∙ moved); found = rw i rest.found; bounds = rw i rest.bounds }
 
 pub record HasTainted (functions : List Signature) (name : ℕ) (f : Signature) (n : ℕ) : Type 0 where
   pub index : ℕ
@@ -155,17 +161,62 @@ kind_equal kinds.Callback kinds.Trusted h = absurd (cc)
 kind_equal kinds.Callback kinds.Tainted h = absurd (cc)
 kind_equal kinds.Callback kinds.Callback h = refl
 
+pub named_equal : (a b : Option ℕ) → is_same a b ≡ true → a ≡ b
+named_equal None None h = refl
+named_equal None (Some y) h = absurd (cc)
+named_equal (Some x) None h = absurd (cc)
+named_equal (Some x) (Some y) h = ap Some (numbers_equal x y h)
+
+term_equal : (a b : Term) → same_term a b ≡ true → a ≡ b
+term_equal a b h =
+    let parts = and_parts (is_same a.var b.var) (int_eq a.plus b.plus) h in
+    let of : Option ℕ → ℤ → Term = λ v c. record { var = v; plus = c } in
+    ap (λ v. of v a.plus) (named_equal a.var b.var parts.0) ∙ ap (of b.var) ((Decides-int_eq a.plus b.plus).0 parts.1)
+
+pub bounds_equal : (a b : Option Bounds) → same_bounds a b ≡ true → a ≡ b
+bounds_equal None None h = refl
+bounds_equal None (Some b) h = absurd (cc)
+bounds_equal (Some a) None h = absurd (cc)
+bounds_equal (Some a) (Some b) h =
+    let first = and_parts (is_same a.base b.base) (same_term a.lo b.lo && same_term a.hi b.hi) h in
+    let second = and_parts (same_term a.lo b.lo) (same_term a.hi b.hi) first.1 in
+    let of : Option ℕ → Term → Term → Option Bounds = λ v l h. Some (record { base = v; lo = l; hi = h }) in
+    ap (λ v. of v a.lo a.hi) (named_equal a.base b.base first.0) ∙ (ap (λ l. of b.base l a.hi) (term_equal a.lo b.lo second.0) ∙ ap (of b.base b.lo) (term_equal a.hi b.hi second.1))
+
+pub written_equal : (a b : WrittenBounds) → same_written a b ≡ true → a ≡ b
+written_equal None None h = refl
+written_equal None (Some b) h = absurd (cc)
+written_equal (Some a) None h = absurd (cc)
+written_equal (Some a) (Some b) h = ap Some (bounds_equal a b h)
+
+pub all_written_equal : (as' bs : List WrittenBounds) → all_same_written as' bs ≡ true → as' ≡ bs
+all_written_equal [] [] h = refl
+all_written_equal [] (b ∷ bs) h = absurd (cc)
+all_written_equal (a ∷ as') [] h = absurd (cc)
+all_written_equal (a ∷ as') (b ∷ bs) h =
+    let parts = and_parts (same_written a b) (all_same_written as' bs) h in
+    let first = written_equal a b parts.0 in
+    let rest = all_written_equal as' bs parts.1 in
+    cc
+
 -- two declarations of one function
 pub record Agrees (a b : Signature) : Type 0 where
   pub kind : a.kind ≡ b.kind
   pub parameters : a.parameters ≡ b.parameters
   pub result : a.result ≡ b.result
+  pub bounds : a.bounds ≡ b.bounds
 
 pub agrees_equal : (a b : Signature) → agrees (Some a) b ≡ true → Agrees a b
 agrees_equal a b h =
-    let first = and_parts (same_kind a.kind b.kind) (same_types a.parameters b.parameters && same_result a.result b.result) h in
-    let second = and_parts (same_types a.parameters b.parameters) (same_result a.result b.result) first.1 in
-    record { kind = kind_equal a.kind b.kind first.0; parameters = types_equal a.parameters b.parameters second.0; result = result_equal a.result b.result second.1 }
+    let first = and_parts (same_kind a.kind b.kind) (same_types a.parameters b.parameters && (same_result a.result b.result && all_same_written a.bounds b.bounds)) h in
+    let second = and_parts (same_types a.parameters b.parameters) (same_result a.result b.result && all_same_written a.bounds b.bounds) first.1 in
+    let third = and_parts (same_result a.result b.result) (all_same_written a.bounds b.bounds) second.1 in
+    record {
+      kind = kind_equal a.kind b.kind first.0;
+      parameters = types_equal a.parameters b.parameters second.0;
+      result = result_equal a.result b.result third.0;
+      bounds = all_written_equal a.bounds b.bounds third.1;
+    }
 
 pub scalars_all : (ts : List CType) → all_scalar ts ≡ true → AllByRecursion IsScalar ts
 scalars_all [] h = tt
@@ -182,3 +233,4 @@ pub record IsDeclared (f : Signature) : Type 0 where
   pub result : IsScalarResult f.result
   pub numbers : is_import f ≡ true → AllByRecursion IsNumberType f.parameters
   pub number_result : is_import f ≡ true → IsNumberResult f.result
+  pub rows : HaveRows f.parameters (map bounds_in f.bounds)

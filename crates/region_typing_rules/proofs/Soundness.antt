@@ -37,7 +37,7 @@ use Rattle.ckc_core.specs.declared.program.Direction.TheVariants as directions
 use Rattle.bounds_exprs.specs.declared.term.Bounds.{Bounds}
 use Rattle.ckc_core.specs.Bounds.{Ends as EndsOf, Pointed, base_byte, ends_at, term_value, with_ends}
 use Rattle.ckc_core.specs.Pointers.{not_null, ordered, ordered_if, number_given, checked_if, distance, lies_below, lies_up_to, cell_behind, pointer_at, pointer_if}
-use Rattle.ckc_core.specs.Steps.{Result, Flow, Next, Broke, Continued, Returned, given, checked, value_if, value_in, place_if, place_at, variable_if, variable_at, load_at, pointer_to, truth, number_of_test, same_place, test_given, result_of, arithmetic_of, compared, negated, complemented, low_byte_of, asked, words_of, reply_as, back, passed, cross, cross_if, call_tainted, takes, parameters_of, enter_if, call_trusted, result_given, choose, leaves_zero, store_if, store_over, store_at, set_if, set_over, set_local, kept_if, is_char, printed, put, no_result, called}
+use Rattle.ckc_core.specs.Steps.{Result, Flow, locals_for, Next, Broke, Continued, Returned, given, checked, value_if, value_in, place_if, place_at, variable_if, variable_at, load_at, pointer_to, truth, number_of_test, same_place, test_given, result_of, arithmetic_of, compared, negated, complemented, low_byte_of, asked, words_of, reply_as, back, passed, cross, cross_if, call_tainted, takes, parameters_of, enter_if, call_trusted, result_given, choose, leaves_zero, store_if, store_over, store_at, set_if, set_over, set_local, kept_if, is_char, printed, put, no_result, called}
 use Rattle.ckc_core.specs.Meaning.{Knot, Setting, audit, bounds_of, site_of, Target, element, element_within, summed, without_ends, value, values, place, target_of, sound_if, effect}
 use Rattle.region_typing_rules.specs.Types.{is_number}
 use Rattle.region_typing_rules.specs.Scopes.{Scope}
@@ -46,8 +46,8 @@ use Rattle.bounds_exprs.specs.Terms.{is_within, term_limit}
 use Rattle.bounds_flow_meaning.specs.Laws.{IsMoved}
 use Rattle.bounds_flow_meaning.specs.Holding.{target_size}
 use Rattle.region_typing_rules.specs.Verdicts.{picked}
-use Rattle.region_typing_rules.specs.Readings.{Behind, based_bounds, own_bounds, behind_by, behind_local, constant, constant_of, further, is_pointer_type, term, toward}
-use Rattle.region_typing_rules.specs.KnownIsSo.{IsAlike, WhereGiven, IsKnown}
+use Rattle.region_typing_rules.specs.Readings.{Behind, based_bounds, own_bounds, behind_by, behind_local, constant, constant_of, further, is_null, is_pointer_type, pointer_local, term, toward}
+use Rattle.region_typing_rules.specs.KnownIsSo.{HasLocals, IsAlike, WhereGiven, IsKnown}
 use Rattle.region_typing_rules.specs.Typed as typed
 use Rattle.bounds_exprs.specs.declared.term.Term.{Term}
 use Rattle.bounds_flow.specs.Conditions.{IsFlow}
@@ -56,7 +56,7 @@ use Rattle.bounds_flow_meaning.specs.Rows.{HasRow, IsPlace, slots}
 use Rattle.bounds_flow_meaning.proofs.Rows.{place_grown, still_there}
 use Rattle.bounds_flow_meaning.proofs.Numbers.{same_number}
 use Rattle.bounds_flow_meaning.proofs.Validity.{ends_parts, grown_valid, times_plus, valid_from}
-use Rattle.region_typing_rules.specs.Typed.{Frame, HasBounds, IsBoundedBy, HasValue, IsNumberResult, IsCallee, AreRows, AreSumBounds, HasElements, HasType, HaveTypes, HasPlace, IsSimple, IsScalar}
+use Rattle.region_typing_rules.specs.Typed.{Frame, HasBounds, IsBoundedBy, HasValue, IsNumberResult, IsCallee, AreAsked, terms_of, pointers_of, AreRows, AreSumBounds, HasElements, HasType, HaveTypes, HasPlace, IsSimple, IsScalar}
 use Rattle.ckc_core.proofs.Numbers.{IsNumber, IfHolds, result_fits, overflow_fits, signed_fits, complement_fits, low_byte_small}
 use Rattle.region_typing_rules.proofs.Worlds.{IsWorld, Answers, Anything, IsWord, tick_answers, enter_answers, touch_answers, next_answers}
 use Rattle.region_typing_rules.proofs.Values.{same_refl, mapped_there, grows_here, grows_on, at_cell, zero_left, shapes_stored, member_place, scalar_cell, some_cell, value_grown, value_typed, value_widened, value_number, HaveValues, values_count, values_fit, HaveLocals, local_there, locals_set, HoldsValues, cell_typed, stored_typed, values_grown, locals_grown}
@@ -68,6 +68,8 @@ use Rattle.region_typing_rules.proofs.Terms.{so_always, so_both, so_further, so_
 use Rattle.region_typing_rules.proofs.Alike.{alike_here, alike_on, fits_after, types_alike}
 use Rattle.region_typing_rules.proofs.Given.{IsGivenIf, AreGivenAt, AreGiven, given_later, local_given, none_given, own_given, plain_given}
 use Rattle.region_typing_rules.proofs.Assigns.{IsBehind, IsGivenTo, stays}
+use Rattle.region_typing_rules.proofs.Told.{null_given, pointer_so}
+use Rattle.region_typing_rules.proofs.Calls.{AreEntered, ArePassed, IsPassed, entered, entered_later, passed_later}
 use Rattle.region_typing_rules.proofs.Elements.{AreOf, pointing, passes_at, ends_there, size_there, within, up_to, as_many, IsSum, sum_among, sum_based, sum_valid, sum_size, array_valid, one_valid, single_typed}
 
 -- locals of these types are there
@@ -144,7 +146,7 @@ module _ (g : Frame) (types : List CType) (here : Scope) (reaches : Extends here
   base_of (typed.both ha hb) b is m d target same = absurd (cc)
   base_of (typed.either ha hb) b is m d target same = absurd (cc)
   base_of (typed.low_byte h) b is m d target same = absurd (cc)
-  base_of (typed.call known h bounds) b is m d target same = absurd (cc)
+  base_of (typed.call known h asked bounds) b is m d target same = absurd (cc)
   base_of typed.next_input b is m d target same = absurd (cc)
 
 -- the shapes of the blocks of a state
@@ -279,8 +281,8 @@ module _ (g : Frame) (budget n : ℕ) where
 
   -- calls that come behind a tick
   pub record IsKnot (k : Knot) : Type 0 where
-    pub call : (low : ℕ) (types : List CType) (function : ℕ) (f : core.Function) (vs : List Value) (s : State) → slice_get g.program.functions function ≡ Some f → OfTypes g (parameters_of f) vs s → suc budget ≤ low + n → IsKept low types s
-        → Goes low types s (IsAnswer g f.result) (k.call function vs s)
+    pub call : (low : ℕ) (types : List CType) (function : ℕ) (f : core.Function) (vs : List Value) (s : State) → slice_get g.program.functions function ≡ Some f → (bs : List (Option Bounds)) → slice_get g.bounds function ≡ Some bs → OfTypes g (parameters_of f) vs s
+        → AreEntered g.structs bs (record s { locals = locals_for f.locals vs }) → suc budget ≤ low + n → IsKept low types s → Goes low types s (IsAnswer g f.result) (k.call function vs s)
     pub sandbox : (low : ℕ) (types : List CType) (s : State) → suc budget ≤ low + n → IsKept low types s → Goes low types s IsReply (k.sandbox s)
     pub keeps : CallsKeep k
 
@@ -596,25 +598,39 @@ module _ (g : Frame) (budget n : ℕ) where
           subst (λ o. Goes low types s (IsAnswer g i.result) (call_tainted setting k import o site vs s)) (sym found)
           (subst (λ yes. Goes low types s (IsAnswer g i.result) (cross_if yes setting k import i site vs s)) (sym test) (cross_goes low s import i site (words_of vs) words.0 words.1 crosses kept))
 
-      entered_goes : (low : ℕ) (s : State) (function : ℕ) (f : core.Function) (vs : List Value) (test : Bool) → test ≡ true → slice_get g.program.functions function ≡ Some f → OfTypes g (parameters_of f) vs s → IsKept low types s
-          → Goes low types s (IsAnswer g f.result) (enter_if test setting k function vs s)
-      entered_goes low s function f vs false e found h kept = absurd (cc)
-      entered_goes low s function f vs true e found h kept =
+      entered_goes : (low : ℕ) (s : State) (function : ℕ) (f : core.Function) (bs : List (Option Bounds)) (vs : List Value) (test : Bool) → test ≡ true → slice_get g.program.functions function ≡ Some f → slice_get g.bounds function ≡ Some bs → OfTypes g (parameters_of f) vs s
+          → AreEntered g.structs bs (record s { locals = locals_for f.locals vs }) → IsKept low types s → Goes low types s (IsAnswer g f.result) (enter_if test setting k function vs s)
+      entered_goes low s function f bs vs false e found known h begun kept = absurd (cc)
+      entered_goes low s function f bs vs true e found known h begun kept =
           let enough : suc budget ≤ suc low + n = let few = kept.enough in omega arith in
           lowered low types s (IsAnswer g f.result) (enter_if true setting k function vs s) kept.enough
           (asked_goes low (suc low) types Anything (IsAnswer g f.result) (spend_tick budget s.world) s _ (tick_answers budget low s.world kept.world) (let few = kept.enough in omega arith) kept
           (λ _ t more _ t_kept. asked_goes (suc low) (suc low) types Anything (IsAnswer g f.result) (enter_call t.depth t.world) t _ (enter_answers budget (suc low) t.depth t.world t_kept.world) t_kept.enough t_kept
-          (λ _ u more' _ u_kept. is.call (suc low) types function f vs u found (values_grown g.structs (shaped s) (shaped u) (grows_on (shaped s) (shaped t) (shaped u) more.0 more'.0) (parameters_of f) vs h) enough u_kept)))
+          (λ _ u more' _ u_kept.
+          let grown = grows_on (shaped s) (shaped t) (shaped u) more.0 more'.0 in
+          is.call (suc low) types function f vs u found bs known (values_grown g.structs (shaped s) (shaped u) grown (parameters_of f) vs h)
+          (entered_later g.structs bs (record s { locals = locals_for f.locals vs }) (record u { locals = locals_for f.locals vs }) grown refl begun) enough u_kept)))
 
-      trusted_goes : (low : ℕ) (s : State) (function : ℕ) (f : core.Function) (vs : List Value) → slice_get g.program.functions function ≡ Some f → OfTypes g (parameters_of f) vs s → IsKept low types s
-          → Goes low types s (IsAnswer g f.result) (call_trusted setting k function vs s)
-      trusted_goes low s function f vs found h kept =
+      trusted_goes : (low : ℕ) (s : State) (function : ℕ) (f : core.Function) (bs : List (Option Bounds)) (vs : List Value) → slice_get g.program.functions function ≡ Some f → slice_get g.bounds function ≡ Some bs → OfTypes g (parameters_of f) vs s
+          → AreEntered g.structs bs (record s { locals = locals_for f.locals vs }) → IsKept low types s → Goes low types s (IsAnswer g f.result) (call_trusted setting k function vs s)
+      trusted_goes low s function f bs vs found known h begun kept =
           let test = ap (λ (o : Option core.Function). takes o vs) found ∙ values_fit g.structs (shaped s) (parameters_of f) vs h in
-          entered_goes low s function f vs (takes (slice_get g.program.functions function) vs) test found h kept
+          entered_goes low s function f bs vs (takes (slice_get g.program.functions function) vs) test found known h begun kept
 
-      called_goes : (low : ℕ) (s : State) {callee : Callee} {ts : List CType} {result : Option CType} → IsCallee g callee ts result → (vs : List Value) → OfTypes g ts vs s → IsKept low types s → Goes low types s (IsAnswer g result) (called setting k callee vs s)
-      called_goes low s (typed.trusted {n = function} {f = f} found) vs h kept = trusted_goes low s function f vs found h kept
-      called_goes low s (typed.tainted {n = import} {i = i} {site = site} found crosses) vs h kept = tainted_goes low s import i site vs found crosses h kept
+      -- what a call enters its function with
+      abbrev AreBegun : {callee : Callee} {ts : List CType} {bs : List (Option Bounds)} {result : Option CType} → IsCallee g callee ts bs result → List Value → State → Type 0
+      AreBegun (typed.trusted {f = f} {bounds = bs} found known rows) vs s = AreEntered g.structs bs (record s { locals = locals_for f.locals vs })
+      AreBegun (typed.tainted found crosses) vs s = Unit {0}
+
+      begun_so : {callee : Callee} {ts : List CType} {bs : List (Option Bounds)} {result : Option CType} (enters : IsCallee g callee ts bs result) (here : Scope) (arguments : core.Arguments) (vs : List Value) (s : State) → IsKnown g.structs here s → HasLocals here.locals s
+          → AreAsked g.structs here (terms_of here.locals arguments ts) (pointers_of here.locals arguments) arguments bs → ArePassed g.structs (length here.locals) here.locals ts arguments vs s → AreBegun enters vs s
+      begun_so (typed.trusted {f = f} {bounds = bs} found known rows) here arguments vs s is_known has asked passed = entered g.structs here s is_known has f.locals f.parameters arguments vs bs rows passed asked
+      begun_so (typed.tainted found crosses) here arguments vs s is_known has asked passed = tt
+
+      called_goes : (low : ℕ) (s : State) {callee : Callee} {ts : List CType} {bs : List (Option Bounds)} {result : Option CType} (enters : IsCallee g callee ts bs result) (vs : List Value) → OfTypes g ts vs s → AreBegun enters vs s → IsKept low types s
+          → Goes low types s (IsAnswer g result) (called setting k callee vs s)
+      called_goes low s (typed.trusted {n = function} {f = f} {bounds = bs} found known rows) vs h begun kept = trusted_goes low s function f bs vs found known h begun kept
+      called_goes low s (typed.tainted {n = import} {i = i} {site = site} found crosses) vs h begun kept = tainted_goes low s import i site vs found crosses h kept
 
     -- ---- expressions
 
@@ -965,6 +981,49 @@ module _ (g : Frame) (budget n : ℕ) where
       row_bounded modes.Tainted t b h v u typed = subst (λ b. IsBounded g (Pointer modes.Tainted kinds.Array t) b v u) (sym h.1) tt
       row_bounded modes.Raw t b h v u typed = subst (λ b. IsBounded g (Pointer modes.Raw kinds.Array t) b v u) (sym h.1) tt
 
+      -- what a pointer is given, by its kind
+      given_by_kind : (e : core.Expression) (c : CType) (s : State) → ((m : Mode) (t : CType) → c ≡ Pointer m kinds.Array t → WhereGiven (GivenTo e m t) (value true setting k e s)) → WhereGiven (IsGivenTo g.structs (length here.locals) c e) (value true setting k e s)
+      given_by_kind e Int s each = so_always (IsGivenTo g.structs (length here.locals) Int e) (value true setting k e s) (λ v u. tt)
+      given_by_kind e Char s each = so_always (IsGivenTo g.structs (length here.locals) Char e) (value true setting k e s) (λ v u. tt)
+      given_by_kind e (Struct number) s each = so_always (IsGivenTo g.structs (length here.locals) (Struct number) e) (value true setting k e s) (λ v u. tt)
+      given_by_kind e (Pointer m kinds.One t) s each = so_always (IsGivenTo g.structs (length here.locals) (Pointer m kinds.One t) e) (value true setting k e s) (λ v u. tt)
+      given_by_kind e (Pointer m kinds.Nt t) s each = so_always (IsGivenTo g.structs (length here.locals) (Pointer m kinds.Nt t) e) (value true setting k e s) (λ v u. tt)
+      given_by_kind e (Pointer m kinds.Array t) s each = each m t refl
+
+      -- an argument, as its function takes it
+      abbrev IsArgument : core.Expression → CType → Value → State → Type 0
+      IsArgument e t v u = OfType g t v u × IsPassed g.structs (length here.locals) here.locals t e v u
+
+      -- what is read off its expression
+      abbrev IsPassedTerm : core.Expression → State → Value → State → Type 0
+      IsPassedTerm e s v u = IsOfTerm s.locals (term here.locals e) v
+
+      abbrev IsPassedLocal : core.Expression → Value → State → Type 0
+      IsPassedLocal e v u = (p : ℕ) → pointer_local here.locals e ≡ Some p → (l : Local) → slice_get u.locals p ≡ Some l → l.value ≡ v
+
+      abbrev IsPassedNull : core.Expression → Value → State → Type 0
+      IsPassedNull e v u = is_null e ≡ true → v ≡ Null
+
+      abbrev IsRead : core.Expression → CType → State → Value → State → Type 0
+      IsRead e t s v u = IsPassedTerm e s v u × (IsPassedLocal e v u × (IsPassedNull e v u × IsGivenTo g.structs (length here.locals) t e v u))
+
+      passed_so : (e : core.Expression) (t : CType) (s : State) → IsHere s → Goes low types s (OfType g t) (value true setting k e s) → WhereGiven (IsGivenTo g.structs (length here.locals) t e) (value true setting k e s) → Goes low types s (IsArgument e t) (value true setting k e s)
+      passed_so e t s h goes given_to =
+          let has = has_locals g.structs (shaped s) here.locals types s.locals reaches h.1.locals in
+          let typed = types_alike g.structs (length here.locals) here.flow s (λ t alike. (h.0 t alike).holds) in
+          sure_further (λ v u. (OfType g t v u × IsAfter s u × IsKept low types u) × IsRead e t s v u) (λ v u. IsArgument e t v u × IsAfter s u × IsKept low types u) (value true setting k e s)
+          (sure_both (λ v u. OfType g t v u × IsAfter s u × IsKept low types u) (IsRead e t s) (value true setting k e s) goes
+          (so_both (IsPassedTerm e s) (λ v u. IsPassedLocal e v u × (IsPassedNull e v u × IsGivenTo g.structs (length here.locals) t e v u)) (value true setting k e s) (term_so true setting k is.keeps here.locals s.locals typed has e s refl)
+          (so_both (IsPassedLocal e) (λ v u. IsPassedNull e v u × IsGivenTo g.structs (length here.locals) t e v u) (value true setting k e s) (pointer_so true setting k is.keeps g.structs here.locals e s)
+          (so_both (IsPassedNull e) (IsGivenTo g.structs (length here.locals) t e) (value true setting k e s) (null_given true setting k is.keeps g.structs here.locals e s) given_to))))
+          (λ v u x. ((x.0.0, record { term = subst (λ ls. IsOfTerm ls (term here.locals e) v) (sym x.0.1.1) x.1.0; local = x.1.1.0; null = x.1.1.1.0; given = x.1.1.1.1 }), x.0.1, x.0.2))
+
+      -- where it is known, and the locals are there
+      begun_later : (s u : State) → IsAfter s u → IsHere s → IsKept low types u → {callee : Callee} {ts : List CType} {bs : List (Option Bounds)} {result : Option CType} (enters : IsCallee g callee ts bs result) (arguments : core.Arguments) (vs : List Value)
+          → AreAsked g.structs here (terms_of here.locals arguments ts) (pointers_of here.locals arguments) arguments bs → ArePassed g.structs (length here.locals) here.locals ts arguments vs u → AreBegun types enters vs u
+      begun_later s u after h kept enters arguments vs asked passed =
+          begun_so types enters here arguments vs u (here_later s u after h kept).0 (has_locals g.structs (shaped u) here.locals types u.locals reaches kept.locals) asked passed
+
       mutual
         pub value_goes : {e : core.Expression} {t : CType} → HasType g types here e t → (s : State) → IsHere s → Goes low types s (OfNode g e t) (value true setting k e s)
         value_goes (typed.word {z = z} fits) s h = with_none (core.Number z) Int s (λ v u. tt) (number_goes low types s z (is_word_number z) refl fits h.1)
@@ -1042,11 +1101,11 @@ module _ (g : Frame) (budget n : ℕ) where
             (λ v u after typed u_kept. chosen_goes low types u (OfType g Int) (truth v) _ _ (test_goes low types u true u_kept) (truth_goes low types u t' (value true setting k b u) (typed_alone b t' u (value_goes hb u (here_later s u after here' u_kept))))))
         value_goes (typed.low_byte {e = e} h) s here' =
             with_none (core.LowByte e) Char s (λ v u. tt) (goes_on low types s (OfType g Int) (OfType g Char) (value true setting k e s) low_byte_of (typed_alone e Int s (value_goes h s here')) (λ v u _ typed u_kept. byte_goes low types u v typed u_kept))
-        value_goes (typed.call {callee = callee} {ts = ts} {arguments = arguments} {t = t} {b = b} known h bounds) s here' =
+        value_goes (typed.call {callee = callee} {ts = ts} {arguments = arguments} {t = t} {b = b} known h asked bounds) s here' =
             with_none (core.Call callee arguments b) t s (plain_bounded t b bounds)
-            (goes_on low types s (OfTypes g ts) (OfType g t) (values true setting k arguments s) _ (values_go h s here')
-            (λ vs u _ typed u_kept. audited_goes low types u t b (and_then (called setting k callee vs u) result_given) bounds
-            (goes_on low types u (IsAnswer g (Some t)) (OfType g t) (called setting k callee vs u) result_given (called_goes types low u known vs typed u_kept) (λ v w _ answered w_kept. given_back low types w t v answered w_kept))))
+            (goes_on low types s (λ vs u. OfTypes g ts vs u × ArePassed g.structs (length here.locals) here.locals ts arguments vs u) (OfType g t) (values true setting k arguments s) _ (values_go h s here')
+            (λ vs u after x u_kept. audited_goes low types u t b (and_then (called setting k callee vs u) result_given) bounds
+            (goes_on low types u (IsAnswer g (Some t)) (OfType g t) (called setting k callee vs u) result_given (called_goes types low u known vs x.0 (begun_later s u after here' u_kept known arguments vs asked x.1) u_kept) (λ v w _ answered w_kept. given_back low types w t v answered w_kept))))
         value_goes typed.next_input s here' =
             with_none core.NextInput Int s (λ v u. tt)
             (asked_goes low low types IsNumber (OfType g Int) (next_input s.world) s _ (next_answers budget low s.world here'.1.world) here'.1.enough here'.1 (λ z u _ fits u_kept. (fits, after_here u, u_kept)))
@@ -1094,16 +1153,19 @@ module _ (g : Frame) (budget n : ℕ) where
         given_so (typed.both ha hb) m d t same s here' goes = absurd (cc)
         given_so (typed.either ha hb) m d t same s here' goes = absurd (cc)
         given_so (typed.low_byte h) m d t same s here' goes = absurd (cc)
-        given_so (typed.call {callee = callee} {arguments = arguments} {t = c} {b = b} known h bounds) m d t same s here' goes =
+        given_so (typed.call {callee = callee} {arguments = arguments} {t = c} {b = b} known h asked bounds) m d t same s here' goes =
             plainly_given (core.Call callee arguments b) m d t s (subst (λ c. HasBounds g.structs c b) same bounds) refl (subst (λ x. Goes low types s (OfNode g (core.Call callee arguments b) x) (value true setting k (core.Call callee arguments b) s)) same goes)
         given_so typed.next_input m d t same s here' goes = absurd (cc)
 
-        pub values_go : {arguments : core.Arguments} {ts : List CType} → HaveTypes g types here arguments ts → (s : State) → IsHere s → Goes low types s (OfTypes g ts) (values true setting k arguments s)
-        values_go typed.done s h = (tt, after_here s, h.1)
+        pub values_go : {arguments : core.Arguments} {ts : List CType} → HaveTypes g types here arguments ts → (s : State) → IsHere s
+            → Goes low types s (λ vs u. OfTypes g ts vs u × ArePassed g.structs (length here.locals) here.locals ts arguments vs u) (values true setting k arguments s)
+        values_go typed.done s h = ((tt, tt), after_here s, h.1)
         values_go (typed.more {e = e} {rest = rest} {t = t} {ts = ts} h hs) s here' =
-            goes_on low types s (OfType g t) (OfTypes g (t ∷ ts)) (value true setting k e s) _ (typed_alone e t s (value_goes h s here'))
-            (λ v u after typed u_kept. goes_on low types u (OfTypes g ts) (OfTypes g (t ∷ ts)) (values true setting k rest u) _ (values_go hs u (here_later s u after here' u_kept))
-            (λ vs w grown typed' w_kept. ((value_grown g.structs (shaped u) (shaped w) grown.0 t v typed, typed'), after_here w, w_kept)))
+            goes_on low types s (IsArgument e t) (λ vs u. OfTypes g (t ∷ ts) vs u × ArePassed g.structs (length here.locals) here.locals (t ∷ ts) (core.More e rest) vs u) (value true setting k e s) _
+            (passed_so e t s here' (typed_alone e t s (value_goes h s here')) (given_by_kind e t s (λ m c same. given_so h m kinds.Array c same s here' (value_goes h s here'))))
+            (λ v u after x u_kept. goes_on low types u (λ vs w. OfTypes g ts vs w × ArePassed g.structs (length here.locals) here.locals ts rest vs w)
+            (λ vs w. OfTypes g (t ∷ ts) vs w × ArePassed g.structs (length here.locals) here.locals (t ∷ ts) (core.More e rest) vs w) (values true setting k rest u) _ (values_go hs u (here_later s u after here' u_kept))
+            (λ vs w grown y w_kept. (((value_grown g.structs (shaped u) (shaped w) grown.0 t v x.0, y.0), (passed_later g.structs (length here.locals) here.locals t e v u w grown x.1, y.1)), after_here w, w_kept)))
 
         pub place_goes : {p : core.Place} {t : CType} → HasPlace g types here p t → (s : State) → IsHere s → Goes low types s (IsPlaced g t) (place true setting k p s)
         place_goes (typed.direct {object = object} {offset = offset} {t = t} {cells = is} found row) s h = variable_goes low types s t object offset is found row h.1
@@ -1215,17 +1277,11 @@ module _ (g : Frame) (budget n : ℕ) where
       behind_so (typed.both {a = a} {b = c} ha hb) s h = nowhere (core.AndAlso a c) s (λ b is. absurd (cc))
       behind_so (typed.either {a = a} {b = c} ha hb) s h = nowhere (core.OrElse a c) s (λ b is. absurd (cc))
       behind_so (typed.low_byte {e = e} he) s h = nowhere (core.LowByte e) s (λ b is. absurd (cc))
-      behind_so (typed.call {callee = callee} {arguments = arguments} {b = c} known ha bounds) s h = nowhere (core.Call callee arguments c) s (λ b is. absurd (cc))
+      behind_so (typed.call {callee = callee} {arguments = arguments} {b = c} known ha asked bounds) s h = nowhere (core.Call callee arguments c) s (λ b is. absurd (cc))
       behind_so typed.next_input s h = nowhere core.NextInput s (λ b is. absurd (cc))
 
-      -- what a pointer is given, by its kind
       pub given_to_so : {e : core.Expression} (c : CType) → HasType g types here e c → (s : State) → IsHere low types here flow reaches s → WhereGiven (IsGivenTo g.structs (length here.locals) c e) (value true setting k e s)
-      given_to_so {e = e} Int h s here' = so_always (IsGivenTo g.structs (length here.locals) Int e) (value true setting k e s) (λ v u. tt)
-      given_to_so {e = e} Char h s here' = so_always (IsGivenTo g.structs (length here.locals) Char e) (value true setting k e s) (λ v u. tt)
-      given_to_so {e = e} (Struct number) h s here' = so_always (IsGivenTo g.structs (length here.locals) (Struct number) e) (value true setting k e s) (λ v u. tt)
-      given_to_so {e = e} (Pointer m kinds.One t) h s here' = so_always (IsGivenTo g.structs (length here.locals) (Pointer m kinds.One t) e) (value true setting k e s) (λ v u. tt)
-      given_to_so {e = e} (Pointer m kinds.Nt t) h s here' = so_always (IsGivenTo g.structs (length here.locals) (Pointer m kinds.Nt t) e) (value true setting k e s) (λ v u. tt)
-      given_to_so {e = e} (Pointer m kinds.Array t) h s here' = given_so low types here flow reaches h m kinds.Array t refl s here' (value_goes low types here flow reaches h s here')
+      given_to_so {e = e} c h s here' = given_by_kind low types here flow reaches e c s (λ m t same. given_so low types here flow reaches h m kinds.Array t same s here' (value_goes low types here flow reaches h s here'))
 
     -- ---- stores
 
@@ -1382,9 +1438,9 @@ module _ (g : Frame) (budget n : ℕ) where
             let grown = grows_on (shaped r) (shaped w) (shaped x) (grows_on (shaped r) (shaped u) (shaped w) to_u.0 to_w.0) to_x.0 in
             kept_store x t (Some site) at new number (place_grown g.structs (shaped r) (shaped x) grown t at.0 at.1 placed) new_typed x_kept))))
         simple_runs (typed.evaluate {e = e} {t = t} h) s stands = value_then _ h s stands (λ v u _ typed u_kept. (refl, u_kept))
-        simple_runs (typed.call_alone {callee = callee} {ts = ts} {arguments = arguments} known h) s stands =
-            runs_on low types s (OfTypes g ts) IsNext (values true setting k arguments s) _ (values_go low types here flow reaches h s stands)
-            (λ vs u _ typed u_kept. runs_on low types u (IsAnswer g None) IsNext (called setting k callee vs u) no_result (called_goes types low u known vs typed u_kept)
+        simple_runs (typed.call_alone {callee = callee} {ts = ts} {arguments = arguments} known h asked) s stands =
+            runs_on low types s (λ vs u. OfTypes g ts vs u × ArePassed g.structs (length here.locals) here.locals ts arguments vs u) IsNext (values true setting k arguments s) _ (values_go low types here flow reaches h s stands)
+            (λ vs u after x u_kept. runs_on low types u (IsAnswer g None) IsNext (called setting k callee vs u) no_result (called_goes types low u known vs x.0 (begun_later low types here flow reaches s u after stands u_kept known arguments vs asked x.1) u_kept)
             (λ v w _ answered w_kept. runs_of low types w IsNext (no_result v w) (nothing_back low types w v answered w_kept)))
         simple_runs (typed.print {e = e} h) s stands = value_then printed h s stands (λ v u _ typed u_kept. printed_goes u v typed u_kept)
         simple_runs (typed.put_byte {e = e} h) s stands = value_then put h s stands (λ v u _ typed u_kept. put_goes u v typed u_kept)

@@ -231,7 +231,7 @@ called_fresh s None name arguments site span = predefined_fresh s.given name arg
 called_fresh s (Some f) name arguments site span =
     needs_promises IsFreshCall (length f.parameters == length arguments) E14 span _
     (λ many. crossing_promises IsFreshCall (is_import f) arguments _
-    (passing_any IsFreshCall (arguments_as arguments f.parameters) _ (λ values. all_met_promise IsFreshCall s.flow arguments f.parameters _
+    (passing_any IsFreshCall (arguments_as arguments f.parameters) _ (λ values. all_met_promise IsFreshCall s.flow _ _ arguments f.parameters f.bounds _
     (call_fresh f.result (declared_callee s f site) values site s.structs))))
 
 pub call_typed_fresh : (at : Places) (s : Scope) (x : Expression) → Promises IsFreshCall (call_typed at s x)

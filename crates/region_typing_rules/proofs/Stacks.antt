@@ -401,7 +401,7 @@ module _ (s : Scope) (few : AllByRecursion HasFew s.functions) where
       (λ many. crossing_promises (LowCall (n + 16)) (is_import f) arguments _
       (passing_promises (λ (values : core.Arguments). arguments_stack values ≤ n + length f.parameters) (LowCall (n + 16)) (arguments_as arguments f.parameters) _ (arguments_low n arguments f.parameters one all)
       (λ values h. let least = named_has HasFew s.functions name f few found in
-      all_met_promise (LowCall (n + 16)) s.flow arguments f.parameters _ (call_low (n + 16) f.result (declared_callee s f site) values site s.structs (omega arith) (omega arith)))))
+      all_met_promise (LowCall (n + 16)) s.flow _ _ arguments f.parameters f.bounds _ (call_low (n + 16) f.result (declared_callee s f site) values site s.structs (omega arith) (omega arith)))))
 
   -- ---- the walk
 

@@ -1,15 +1,17 @@
 -- What verdicts promise of the values that they pass on.
-use Rattle.std.proofs.Common.{◌≡◌, ℕ, zero, suc, Bool, true, false, List, [], ◌∷◌, ◌++◌, length, Some, refl}
+use Rattle.std.proofs.Common.{◌≡◌, ℕ, zero, suc, Bool, true, false, List, [], ◌∷◌, ◌++◌, length, Option, Some, None, refl, subst}
 use Rattle.std.specs.Prelude.{slice_get, not, ◌||◌, is_some}
 use Rattle.ckc_text.specs.declared.code.Code.{Code}
 use Rattle.ckc_text.specs.declared.place.Span.{Span}
 use Rattle.ckc_text.specs.declared.code.Code.TheVariants.{E17, E18, E19}
+use Rattle.bounds_exprs.specs.declared.term.Term.{Term}
 use Rattle.bounds_flow.specs.Flows.{Knowledge}
 use Rattle.pointer_modes.specs.Types.{CType}
 use Rattle.ckc_core.specs.Core as core
 use Rattle.ckc_core.specs.Meaning.{bounds_of}
 use Rattle.region_typing_rules.specs.Verdicts.{Verdict, Passes, Stops, passing, needs}
-use Rattle.region_typing_rules.specs.Expressions.{Typed, Value, AStruct, with_elements, is_single_value, lacks_bounds, without_ptr, asked_of, meets, bounds_met, arguments_met}
+use Rattle.region_typing_rules.specs.Scopes.{WrittenBounds, bounds_in}
+use Rattle.region_typing_rules.specs.Expressions.{Typed, Value, AStruct, with_elements, is_single_value, lacks_bounds, without_ptr, asked_of, meets, bounds_met, argument_meets, arguments_met}
 
 -- what is so of the value where no rule is broken
 abbrev pub Promises : {A : Type 0} → (A → Type 0) → Verdict A → Type 0
@@ -31,6 +33,14 @@ anything_promised (Stops stop) = tt
 pub always_promised : {A P : Type 0} (v : Verdict A) → P → Promises (λ (x : A). P) v
 always_promised (Passes value) h = h
 always_promised (Stops stop) h = tt
+
+-- what passes is what is passed on, and what is promised of it is so
+pub passed_is : {A : Type 0} (v : Verdict A) → Promises (λ (x : A). v ≡ Passes x) v
+passed_is (Passes value) = refl
+passed_is (Stops stop) = tt
+
+pub promise_kept : {A : Type 0} (P : A → Type 0) (v : Verdict A) (x : A) → Promises P v → v ≡ Passes x → P x
+promise_kept P v x h e = subst (Promises P) e h
 
 -- two promises at once, and one that is kept later
 pub both_promise : {A : Type 0} (P Q : A → Type 0) (v : Verdict A) → Promises P v → Promises Q v → Promises (λ (x : A). P x × Q x) v
@@ -76,7 +86,11 @@ pub met_promises : {A : Type 0} (Q : A → Type 0) (f : Knowledge) (t : Typed) (
 met_promises Q f (Value type null value place) to span next h = needs_promises Q (null || meets f value (asked_of type to)) E17 span next (λ yes. h)
 met_promises Q f (AStruct number place) to span next h = h
 
-pub all_met_promise : {A : Type 0} (Q : A → Type 0) (f : Knowledge) (ts : List (Typed × Span)) (types : List CType) (next : Verdict A) → Promises Q next → Promises Q (arguments_met f ts types next)
-all_met_promise Q f [] types next h = h
-all_met_promise Q f (t ∷ ts) [] next h = h
-all_met_promise Q f (t ∷ ts) (type ∷ types) next h = met_promises Q f t.0 type t.1 _ (all_met_promise Q f ts types next h)
+pub all_met_promise : {A : Type 0} (Q : A → Type 0) (f : Knowledge) (terms : List (Option Term)) (pointers : List (Option ℕ)) (ts : List (Typed × Span)) (types : List CType) (bounds : List WrittenBounds) (next : Verdict A) → Promises Q next
+    → Promises Q (arguments_met f terms pointers ts types bounds next)
+all_met_promise Q f terms pointers [] types bounds next h = h
+all_met_promise Q f terms pointers (t ∷ ts) [] bounds next h = h
+all_met_promise Q f terms pointers (t ∷ ts) (type ∷ types) [] next h =
+    needs_promises Q (argument_meets f terms pointers t.0 type None) E17 t.1 _ (λ yes. all_met_promise Q f terms pointers ts types [] next h)
+all_met_promise Q f terms pointers (t ∷ ts) (type ∷ types) (b ∷ bounds) next h =
+    needs_promises Q (argument_meets f terms pointers t.0 type (bounds_in b)) E17 t.1 _ (λ yes. all_met_promise Q f terms pointers ts types bounds next h)

@@ -1,5 +1,5 @@
 -- What holds of a walk behind each item.
-use Rattle.std.proofs.Common.{◌≡◌, ℕ, zero, suc, ◌*◌, ◌<◌, ◌≤◌, Bool, true, false, List, [], ◌∷◌, ◌++◌, take, length, Option, Some, None, refl, sym, ap, ◌∙◌, subst, arith}
+use Rattle.std.proofs.Common.{◌≡◌, ℕ, zero, suc, ◌*◌, ◌<◌, ◌≤◌, Bool, true, false, List, [], ◌∷◌, ◌++◌, take, map, length, Option, Some, None, refl, sym, ap, ◌∙◌, subst, arith}
 use Rattle.std.specs.Prelude.{◌==◌, slice_get}
 use Rattle.std.specs.List.{AllByRecursion}
 use Rattle.std.proofs.Math.Seq.{take-length}
@@ -10,15 +10,15 @@ use Rattle.ckc_core.specs.Core as core
 use Rattle.ckc_core.specs.States.{shape, object_block}
 use Rattle.ckc_core.specs.Stacks.{statements_stack}
 use Rattle.region_typing_rules.specs.Verdicts.{picked}
-use Rattle.region_typing_rules.specs.Scopes.{Scope, Signature, FileVariable, function_named}
+use Rattle.region_typing_rules.specs.Scopes.{Scope, Signature, FileVariable, bounds_in, function_named}
 use Rattle.region_typing_rules.specs.Expressions.{is_import, side_number}
 use Rattle.region_typing_rules.specs.Items.{Defined, Walk, count_of}
 use Rattle.region_typing_rules.specs.Cores.{body_of}
-use Rattle.region_typing_rules.proofs.Sides.{trusted_functions, tainted_functions, sides_of}
+use Rattle.region_typing_rules.proofs.Sides.{trusted_functions, trusted_bounds, tainted_functions, sides_of}
 use Rattle.region_typing_rules.specs.Typed as rules
 use Rattle.bounds_flow_meaning.specs.Rows.{HasRow}
-use Rattle.region_typing_rules.specs.Typed.{Frame, AreRows, IsScalar, IsInitial}
-use Rattle.region_typing_rules.proofs.Safe.{IsSafe}
+use Rattle.region_typing_rules.specs.Typed.{Frame, HaveRows, AreRows, IsScalar, IsInitial}
+use Rattle.region_typing_rules.proofs.Safe.{AreSafe, IsSafe}
 use Rattle.region_typing_rules.specs.Lowerable.{objects_size, IsRoomy, IsSmall}
 use Rattle.region_typing_rules.proofs.Verdicts.{Extends}
 use Rattle.region_typing_rules.proofs.Known.{IsClosed}
@@ -82,10 +82,14 @@ pub record IsBody (height : ℕ) (s : Scope) (b : Defined) : Type 0 where
   pub named : function_named s.functions b.name ≡ Some signature
   pub parameters : take b.function.parameters b.function.locals ≡ signature.parameters
   pub result : b.function.result ≡ signature.result
-  pub safe : (g : Frame) → KnowsFile g s → IsSafe g b.function
+  pub safe : (g : Frame) → KnowsFile g s → IsSafe g (map bounds_in signature.bounds) b.function
   pub few_parameters : b.function.parameters ≤ 16
   pub few_locals : length b.function.locals ≤ 256
   pub low : statements_stack b.function.body ≤ 17 * height
+
+-- a function is found by its name
+abbrev pub IsNamed : List Signature → Signature → Type 0
+IsNamed functions f = function_named functions f.name ≡ Some f
 
 -- what holds of a walk, beside its variables
 pub record IsWell (height : ℕ) (w : Walk) : Type 0 where
@@ -94,6 +98,7 @@ pub record IsWell (height : ℕ) (w : Walk) : Type 0 where
   pub scalars : (n : ℕ) → AllByRecursion (λ (m : Member). IsScalar m.ctype) (members_of w.scope.structs n)
   pub start : AllByRecursion (AllByRecursion IsStart) w.objects
   pub declared : AllByRecursion IsDeclared w.scope.functions
+  pub named : AllByRecursion (IsNamed w.scope.functions) w.scope.functions
   pub bodies : AllByRecursion (IsBody height w.scope) w.bodies
   pub roomy : AllByRecursion (λ (o : List Initial). AllByRecursion IsRoomy o × (0 < length o)) w.objects
   pub bytes : objects_size w.objects ≤ w.taken
@@ -157,7 +162,7 @@ body_suits height s (b ∷ bodies) f all named = by (f.name == b.name) refl (bod
 
 module _ (height entry : ℕ) (w : Walk) (well : IsWell height w) (settled : AreSettled w.scope.structs w.scope.variables w.objects) where
   abbrev pub frame : Frame
-  frame = record { program = sides_of entry w; structs = w.scope.structs }
+  frame = record { program = sides_of entry w; structs = w.scope.structs; bounds = trusted_bounds w.scope.functions }
 
   trusted_known : (name : ℕ) (f : Signature) → function_named w.scope.functions name ≡ Some f → is_import f ≡ false → IsTrusted frame (side_number false w.scope.functions f.name 0) f
   trusted_known name f found side =
@@ -171,6 +176,8 @@ module _ (height entry : ℕ) (w : Walk) (well : IsWell height w) (settled : Are
         parameters = suits.parameters;
         result = suits.result;
         scalar = (named_has IsDeclared w.scope.functions name f well.declared found).result;
+        bounds = subst (λ n. slice_get (trusted_bounds w.scope.functions) n ≡ Some (map bounds_in f.bounds)) number there.bounds;
+        rows = (named_has IsDeclared w.scope.functions name f well.declared found).rows;
       }
 
   tainted_known : (name : ℕ) (f : Signature) → function_named w.scope.functions name ≡ Some f → is_import f ≡ true → IsTainted frame (side_number true w.scope.functions f.name 0) f
@@ -186,6 +193,7 @@ module _ (height entry : ℕ) (w : Walk) (well : IsWell height w) (settled : Are
         result = refl;
         numbers = declared.numbers side;
         number_result = declared.number_result side;
+        rows = declared.rows;
       }
 
   -- all that was walked is known of the program
@@ -201,19 +209,29 @@ module _ (height entry : ℕ) (w : Walk) (well : IsWell height w) (settled : Are
   }
 
   -- each function has types
-  body_safe : (bodies : List Defined) (f : Signature) → AllByRecursion (IsBody height w.scope) bodies → IsDeclared f → IsSafe frame (body_of bodies f)
-  body_safe [] f all declared = record { typed = record { parameters = omega arith; locals = declared.scalars; result = declared.result; body = rules.no_more }; runs = λ budget sandbox trusted n knots low s kept. (tt, kept) }
-  body_safe (b ∷ bodies) f all declared = chosen (f.name == b.name) (all.0.safe frame known) (body_safe bodies f all.1 declared)
+  body_safe : (bodies : List Defined) (f : Signature) → AllByRecursion (IsBody height w.scope) bodies → IsDeclared f → IsNamed w.scope.functions f → IsSafe frame (map bounds_in f.bounds) (body_of bodies f)
+  body_safe [] f all declared named = record {
+    typed = record { parameters = omega arith; locals = declared.scalars; result = declared.result; body = rules.no_more };
+    rows = subst (λ ts. HaveRows ts (map bounds_in f.bounds)) (sym (take-length f.parameters)) declared.rows;
+    runs = λ budget sandbox trusted n knots low s kept begun. (tt, kept);
+  }
+  body_safe (b ∷ bodies) f all declared named = chosen (f.name == b.name) refl (body_safe bodies f all.1 declared named)
     where
-      chosen : (test : Bool) → IsSafe frame b.function → IsSafe frame (body_of bodies f) → IsSafe frame (picked test b.function (body_of bodies f))
-      chosen true h again = h
-      chosen false h again = again
+      chosen : (test : Bool) → (f.name == b.name) ≡ test → IsSafe frame (map bounds_in f.bounds) (body_of bodies f) → IsSafe frame (map bounds_in f.bounds) (picked test b.function (body_of bodies f))
+      chosen true e again =
+          let name = numbers_equal f.name b.name e in
+          let here : function_named w.scope.functions b.name ≡ Some f = subst (λ x. function_named w.scope.functions x ≡ Some f) name named in
+          let there = all.0.named in
+          let same : all.0.signature ≡ f = cc in
+          subst (λ (x : Signature). IsSafe frame (map bounds_in x.bounds) b.function) same (all.0.safe frame known)
+      chosen false e again = again
 
-  pub functions_safe : (functions : List Signature) → AllByRecursion IsDeclared functions → AllByRecursion (IsSafe frame) (trusted_functions w.bodies functions)
-  functions_safe [] all = tt
-  functions_safe (f ∷ functions) all = chosen (is_import f) (body_safe w.bodies f well.bodies all.0) (functions_safe functions all.1)
+  pub functions_safe : (functions : List Signature) → AllByRecursion IsDeclared functions → AllByRecursion (IsNamed w.scope.functions) functions → AreSafe frame (trusted_functions w.bodies functions) (trusted_bounds functions)
+  functions_safe [] all named = tt
+  functions_safe (f ∷ functions) all named = chosen (is_import f) (body_safe w.bodies f well.bodies all.0 named.0) (functions_safe functions all.1 named.1)
     where
-      chosen : (test : Bool) → IsSafe frame (body_of w.bodies f) → AllByRecursion (IsSafe frame) (trusted_functions w.bodies functions) → AllByRecursion (IsSafe frame) (picked test (trusted_functions w.bodies functions) (body_of w.bodies f ∷ trusted_functions w.bodies functions))
+      chosen : (test : Bool) → IsSafe frame (map bounds_in f.bounds) (body_of w.bodies f) → AreSafe frame (trusted_functions w.bodies functions) (trusted_bounds functions)
+          → AreSafe frame (picked test (trusted_functions w.bodies functions) (body_of w.bodies f ∷ trusted_functions w.bodies functions)) (picked test (trusted_bounds functions) (map bounds_in f.bounds ∷ trusted_bounds functions))
       chosen true h rest = rest
       chosen false h rest = (h, rest)
 

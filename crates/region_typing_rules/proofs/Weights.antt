@@ -368,7 +368,7 @@ called_light s xs (Some f) name arguments site span all =
     needs_promises (LightCall (n + 2)) (length f.parameters == length arguments) E14 span _
     (λ many. crossing_promises (LightCall (n + 2)) (is_import f) arguments _
     (passing_promises (AreLight xs) (LightCall (n + 2)) (arguments_as arguments f.parameters) _ (arguments_light xs arguments f.parameters all)
-    (λ values h. all_met_promise (LightCall (n + 2)) s.flow arguments f.parameters _ (call_light n f.result (declared_callee s f site) values site s.structs h))))
+    (λ values h. all_met_promise (LightCall (n + 2)) s.flow _ _ arguments f.parameters f.bounds _ (call_light n f.result (declared_callee s f site) values site s.structs h))))
 
 -- ---- the walk
 

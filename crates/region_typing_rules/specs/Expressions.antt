@@ -1,6 +1,6 @@
 -- The rules of expressions, each with its name, in the order in which they are asked of a node behind its children.
 use Rattle.std.specs.Prelude.{ℕ, suc, ◌+◌, ◌^◌, nat_lt, Bool, true, false, not, ◌&&◌, ◌||◌, ◌==◌, List, [], ◌∷◌, length, pos}
-use Rattle.std.specs.Prelude.{Option, Some, None, is_none, is_some}
+use Rattle.std.specs.Prelude.{Option, Some, None, is_none, is_some, slice_index_or}
 use Rattle.ckc_text.specs.declared.place.Place.{Place}
 use Rattle.ckc_text.specs.declared.place.Span.{Span}
 use Rattle.ckc_text.specs.declared.code.Code.TheVariants.{E04, E10, E12, E13, E14, E17, E18, E19, E22, E24, E26}
@@ -34,12 +34,14 @@ use Rattle.ckc_core.specs.declared.program.PointerBounds.{PointerBounds}
 use Rattle.ckc_core.specs.Core as core
 use Rattle.ckc_core.specs.Meaning.{bounds_of}
 use Rattle.bounds_exprs.specs.declared.term.Bounds.{Bounds}
+use Rattle.bounds_exprs.specs.declared.term.Term.{Term}
+use Rattle.bounds_exprs.specs.Changes.{ends_filled_in}
 use Rattle.ckc_names_rules.specs.declared.given.Given.{Given}
 use Rattle.bounds_flow.specs.Flows.{Knowledge, held_at}
 use Rattle.bounds_flow.specs.Settling.{Finding, Meets, WasLost, Falls, bounds_find}
 use Rattle.region_typing_rules.specs.Verdicts.{Verdict, Passes, Unnamed, passing, needs, breaks, picked}
-use Rattle.region_typing_rules.specs.Scopes.{Scope, Signature, Named, Local, Object, Array, Nothing, named, function_named, members_named}
-use Rattle.region_typing_rules.specs.Readings.{constant, sum_bounds, own_bounds, based_bounds, is_null}
+use Rattle.region_typing_rules.specs.Scopes.{Scope, Signature, WrittenBounds, bounds_in, Named, Local, Object, Array, Nothing, named, function_named, members_named}
+use Rattle.region_typing_rules.specs.Readings.{constant, term, pointer_local, sum_bounds, own_bounds, based_bounds, is_null}
 use Rattle.region_typing_rules.specs.Types.{type_named, is_number, is_pointer, is_checked_pointer, are_comparable, converts}
 
 -- where a value may be stored: a local, or a cell
@@ -519,11 +521,68 @@ abbrev pub call_of : List Structure → Option CType → Callee → core.Argumen
 call_of structs (Some type) callee arguments site = Gives type (core.Call callee arguments (bounds_at structs type site))
 call_of structs None callee arguments site = GivesNothing (core.CallAlone callee arguments)
 
+-- what stands for a parameter of a type at a call: the term of its argument, where both are an `int`, and the local pointer that it is
+abbrev pub term_for : List CType → Typed → CType → Option Term
+term_for locals (Value type zero value place) Int = term locals value
+term_for locals (Value type zero value place) Char = None
+term_for locals (Value type zero value place) (Struct number) = None
+term_for locals (Value type zero value place) (Pointer mode kind target) = None
+term_for locals (AStruct number place) type = None
+
+abbrev pub pointer_for : List CType → Typed → Option ℕ
+pointer_for locals (Value type zero value place) = pointer_local locals value
+pointer_for locals (AStruct number place) = None
+
+-- the same of each parameter
+abbrev pub terms_for : List CType → List (Typed × Span) → List CType → List (Option Term)
+terms_for locals [] types = []
+terms_for locals (argument ∷ arguments) [] = []
+terms_for locals (argument ∷ arguments) (type ∷ types) = term_for locals argument.0 type ∷ terms_for locals arguments types
+
+abbrev pub pointers_for : List CType → List (Typed × Span) → List (Option ℕ)
+pointers_for locals [] = []
+pointers_for locals (argument ∷ arguments) = pointer_for locals argument.0 ∷ pointers_for locals arguments
+
+-- the bounds with a base that stands for theirs, where one does
+abbrev counted_from : Option ℕ → Option Bounds → Option Bounds
+counted_from None bounds = None
+counted_from (Some k) None = None
+counted_from (Some k) (Some b) = Some (record b { base = Some k })
+
+abbrev pub with_caller_base : List (Option ℕ) → Option ℕ → Option Bounds → Option Bounds
+with_caller_base pointers None bounds = bounds
+with_caller_base pointers (Some p) bounds = counted_from (slice_index_or pointers p None) bounds
+
+-- the bounds of a parameter over what stands for the parameters, all put in at once; none where something doesn't stand there
+abbrev pub at_call : List (Option Term) → List (Option ℕ) → Bounds → Option Bounds
+at_call terms pointers b = with_caller_base pointers b.base (ends_filled_in terms b)
+
+abbrev pub meets_all : Knowledge → core.Expression → Option Bounds → Bool
+meets_all f value None = false
+meets_all f value (Some asked) = meets f value (Some asked)
+
+-- the bounds of an argument meet those that it is asked for: the declared ones of its parameter, or those of its type
+abbrev pub argument_meets : Knowledge → List (Option Term) → List (Option ℕ) → Typed → CType → Option Bounds → Bool
+argument_meets f terms pointers (Value type zero value place) to None = zero || meets f value (asked_of type to)
+argument_meets f terms pointers (Value type zero value place) to (Some b) = zero || (is_null value || meets_all f value (at_call terms pointers b))
+argument_meets f terms pointers (AStruct number place) to bounds = true
+
+abbrev first_written : List WrittenBounds → Option Bounds
+first_written [] = None
+first_written (b ∷ bs) = bounds_in b
+
+abbrev other_written : List WrittenBounds → List WrittenBounds
+other_written [] = []
+other_written (b ∷ bs) = bs
+
 -- bounds-are-met, at each argument of a function that isn't tainted (E17)
-abbrev pub arguments_met : {A : Type 0} → Knowledge → List (Typed × Span) → List CType → Verdict A → Verdict A
-arguments_met f [] types next = next
-arguments_met f (argument ∷ arguments) [] next = next
-arguments_met f (argument ∷ arguments) (type ∷ types) next = bounds_met f argument.0 type argument.1 (arguments_met f arguments types next)
+abbrev pub arguments_met : {A : Type 0} → Knowledge → List (Option Term) → List (Option ℕ) → List (Typed × Span) → List CType → List WrittenBounds
+    → Verdict A → Verdict A
+arguments_met f terms pointers [] types bounds next = next
+arguments_met f terms pointers (argument ∷ arguments) [] bounds next = next
+arguments_met f terms pointers (argument ∷ arguments) (type ∷ types) bounds next =
+    needs (argument_meets f terms pointers argument.0 type (first_written bounds)) E17 argument.1
+    (arguments_met f terms pointers arguments types (other_written bounds) next)
 
 -- a declared function as a callee
 abbrev pub declared_callee : Scope → Signature → Site → Callee
@@ -534,7 +593,8 @@ abbrev pub declared_call : Scope → Signature → List (Typed × Span) → Site
 declared_call s f arguments site span =
     needs (length f.parameters == length arguments) E14 span
     (crossing (is_import f) arguments
-    (passing (arguments_as arguments f.parameters) (λ values. arguments_met s.flow arguments f.parameters
+    (passing (arguments_as arguments f.parameters) (λ values.
+    arguments_met s.flow (terms_for s.locals arguments f.parameters) (pointers_for s.locals arguments) arguments f.parameters f.bounds
     (Passes (call_of s.structs f.result (declared_callee s f site) values site)))))
 
 abbrev pub first_of : (core.Expression → core.Statement) → core.Arguments → core.Statement

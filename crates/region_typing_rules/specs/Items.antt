@@ -25,7 +25,9 @@ use Rattle.ckc_tree.specs.declared.stmt.SignedConstant.{SignedConstant}
 use Rattle.ckc_tree.specs.Items as i
 use Rattle.ckc_tree.specs.Items.{ResultForm, Parameters, Item}
 use Rattle.flat_bytes.specs.Blocks.{rounded_up}
-use Rattle.bounds_flow.specs.Flows.{at_entry}
+use Rattle.bounds_exprs.specs.declared.term.Bounds.{Bounds}
+use Rattle.bounds_flow.specs.Pointers.{same_bounds}
+use Rattle.bounds_flow.specs.Flows.{Knowledge, at_entry, entered}
 use Rattle.pointer_modes.specs.Types as types
 use Rattle.pointer_modes.specs.Types.{CType, Int, Char, Struct, Pointer, Structure, members_of}
 use Rattle.pointer_modes.specs.Layout.{Cell, cells_of, size_of}
@@ -33,11 +35,12 @@ use Rattle.ckc_core.specs.Programs.{Initial}
 use Rattle.ckc_core.specs.Core as core
 use Rattle.ckc_core.specs.States.{same_type}
 use Rattle.ckc_core.specs.Steps.{low_byte}
-use Rattle.region_typing_rules.specs.Verdicts.{Verdict, Passes, passing, needs, breaks, meant, picked}
-use Rattle.region_typing_rules.specs.Scopes.{Scope, Signature, Variable, struct_named, function_named}
+use Rattle.region_typing_rules.specs.Verdicts.{Verdict, Passes, Stops, passing, needs, breaks, meant, picked}
+use Rattle.region_typing_rules.specs.Scopes.{Scope, Signature, Visible, WrittenBounds, bounds_in, struct_named, function_named}
 use Rattle.region_typing_rules.specs.Types.{base_type, without_stars, type_named, is_scalar}
 use Rattle.region_typing_rules.specs.Expressions.{Places, Typed, Value, AStruct, is_tainted, typed}
-use Rattle.region_typing_rules.specs.Knowing.{all_declared}
+use Rattle.region_typing_rules.specs.DeclaredBounds.{declared_bounds}
+use Rattle.region_typing_rules.specs.Knowing.{all_declared, knowing}
 use Rattle.region_typing_rules.specs.Statements.{statements, with_local, is_unchecked, is_checked}
 
 -- what is known behind an item: what stands at file level, the cells of the file-level variables with the bytes that their
@@ -309,12 +312,42 @@ listed i.Nothing = []
 listed i.VoidAlone = []
 listed (i.Listed parameters) = parameters
 
+-- a parameter: its name, its type, and what is written for its bounds
+pub record Parameter : Type 0 where
+  pub name : ℕ
+  pub type : CType
+  pub bounds : WrittenBounds
+
+-- what bounds may know of the type of a parameter, before the rules of its type are asked: one whose type breaks a rule has no place in bounds
+abbrev pub type_ahead : Verdict CType → CType
+type_ahead (Passes t) = t
+type_ahead (Stops stop) = Char
+
+abbrev pub types_ahead : Scope → List i.Member → List CType
+types_ahead g [] = []
+types_ahead g (p ∷ parameters) = type_ahead (type_named g p.type) ∷ types_ahead g parameters
+
+-- the names of parameters, from one on
+abbrev pub seen_parameters : (local : ℕ) → List i.Member → List Visible
+seen_parameters local [] = []
+seen_parameters local (p ∷ parameters) = record { name = p.name.number; local = local } ∷ seen_parameters (suc local) parameters
+
+-- where the bounds of parameters are read: each parameter is visible in those of all
+abbrev pub among_parameters : Scope → List i.Member → Scope
+among_parameters g parameters = record g { locals = types_ahead g parameters; visible = seen_parameters 0 parameters }
+
+-- what is written, where it comes to these bounds
+abbrev pub written_as : {A : Type 0} → Option A → Option Bounds → WrittenBounds
+written_as None bounds = None
+written_as (Some text) bounds = Some bounds
+
 -- few-parameters: at most 16 (E08, at the parameter's type)
-abbrev pub parameter_types : Scope → List i.Member → List Variable → Verdict (List Variable)
-parameter_types g [] done = Passes done
-parameter_types g (p ∷ parameters) done =
+abbrev pub parameter_types : Scope → (all : List i.Member) → List i.Member → List Parameter → Verdict (List Parameter)
+parameter_types g all [] done = Passes done
+parameter_types g all (p ∷ parameters) done =
     needs (nat_lt (length done) 16) E08 (type_span p.type.base)
-    (passing (type_named g p.type) (λ t. parameter_types g parameters (done ++ record { name = p.name.number; type = t } ∷ [])))
+    (passing (type_named g p.type) (λ t. passing (declared_bounds (among_parameters g all) t (length done) p.bounds) (λ b.
+    parameter_types g all parameters (done ++ record { name = p.name.number; type = t; bounds = written_as p.bounds b } ∷ []))))
 
 -- stars make a raw pointer (E15)
 abbrev pub result_type : Scope → ResultForm → ℕ → Verdict (Option CType)
@@ -325,6 +358,18 @@ abbrev pub same_types : List CType → List CType → Bool
 same_types [] [] = true
 same_types (t ∷ ts) (u ∷ us) = same_type t u && same_types ts us
 same_types _ _ = false
+
+abbrev pub same_written : WrittenBounds → WrittenBounds → Bool
+same_written None None = true
+same_written None (Some b) = false
+same_written (Some a) None = false
+same_written (Some a) (Some b) = same_bounds a b
+
+abbrev pub all_same_written : List WrittenBounds → List WrittenBounds → Bool
+all_same_written [] [] = true
+all_same_written [] (b ∷ bs) = false
+all_same_written (a ∷ as') [] = false
+all_same_written (a ∷ as') (b ∷ bs) = same_written a b && all_same_written as' bs
 
 abbrev pub same_result : Option CType → Option CType → Bool
 same_result None None = true
@@ -337,10 +382,11 @@ same_kind function_kinds.Tainted function_kinds.Tainted = true
 same_kind function_kinds.Callback function_kinds.Callback = true
 same_kind _ _ = false
 
--- a declaration agrees with the first one in kind and types
+-- a declaration agrees with the first one in kind, types and bounds
 abbrev pub agrees : Option Signature → Signature → Bool
 agrees None f = true
-agrees (Some g) f = same_kind g.kind f.kind && (same_types g.parameters f.parameters && same_result g.result f.result)
+agrees (Some g) f =
+    same_kind g.kind f.kind && (same_types g.parameters f.parameters && (same_result g.result f.result && all_same_written g.bounds f.bounds))
 
 abbrev pub all_scalar : List CType → Bool
 all_scalar [] = true
@@ -355,9 +401,14 @@ with_function None f g = record g { functions = g.functions ++ f ∷ [] }
 with_function (Some before) f g = g
 
 -- the parameters as the first locals
-abbrev pub with_parameters : List Variable → Scope → Scope
+abbrev pub with_parameters : List Parameter → Scope → Scope
 with_parameters [] g = g
 with_parameters (p ∷ ps) g = with_parameters ps (with_local p.name p.type None g)
+
+-- the bounds that are declared for them, from one on
+abbrev pub with_bounds : (local : ℕ) → List Parameter → Knowledge → Knowledge
+with_bounds local [] f = f
+with_bounds local (p ∷ ps) f = with_bounds (suc local) ps (entered local (bounds_in p.bounds) f)
 
 -- the number, or a limit that it passes
 abbrev pub limited : (limit n : ℕ) → ℕ
@@ -367,8 +418,9 @@ limited limit n = picked (nat_lt limit n) limit n
 abbrev pub variables_in : (parameters : ℕ) → Statements → ℕ
 variables_in parameters body = limited 256 (parameters + all_declared body)
 
-abbrev pub inside : Signature → List Variable → Statements → Scope → Scope
-inside f parameters body g =
+-- where the parameters are locals, and no bounds are declared
+abbrev pub before_bounds : Signature → List Parameter → Statements → Scope → Scope
+before_bounds f parameters body g =
     with_parameters parameters (record g {
       locals = [];
       visible = [];
@@ -380,11 +432,16 @@ inside f parameters body g =
       continues = None;
     })
 
-abbrev pub core_function : Signature → List Variable → core.Statements → Scope → core.Function
+-- where the body of a function stands
+abbrev pub inside : Signature → List Parameter → Statements → Scope → Scope
+inside f parameters body g =
+    knowing (with_bounds 0 parameters (before_bounds f parameters body g).flow) (before_bounds f parameters body g)
+
+abbrev pub core_function : Signature → List Parameter → core.Statements → Scope → core.Function
 core_function f parameters body g = record { name = f.text; parameters = length parameters; locals = g.locals; result = f.result; body = body }
 
 -- the body of a function; its locals are gone behind it
-abbrev pub function_body : Places → Walk → Signature → List Variable → Option i.Body → Verdict Walk
+abbrev pub function_body : Places → Walk → Signature → List Parameter → Option i.Body → Verdict Walk
 function_body at w f parameters None = Passes w
 function_body at w f parameters (Some body) =
     passing (statements at (inside f parameters body.statements w.scope) body.statements) (λ x.
@@ -410,18 +467,24 @@ function_rules all d f known w =
     (needs (picked (is_tainted d.kind) true (is_defined all d.name.number)) E10 d.span
     (needs (not (is_unchecked d.mark)) E15 d.span (in_checked_region w.scope d.span w)))
 
-abbrev pub signature_of : i.Function → Option CType → List Variable → Signature
-signature_of d result parameters =
-    record { name = d.name.number; text = d.name.name; kind = d.kind; parameters = map (λ (p : Variable). p.type) parameters; result = result }
+abbrev pub signature_of : i.Function → Option CType → List Parameter → Signature
+signature_of d result parameters = record {
+  name = d.name.number;
+  text = d.name.name;
+  kind = d.kind;
+  parameters = map (λ (p : Parameter). p.type) parameters;
+  bounds = map (λ (p : Parameter). p.bounds) parameters;
+  result = result;
+}
 
 -- few-functions: at most 4,096, of which each counts once (E08)
 abbrev pub function : Places → List Item → Walk → i.Function → Verdict Walk
 function at all w d =
     needs (is_some (function_named w.scope.functions d.name.number) || nat_lt (length w.scope.functions) 4096) E08 d.span
-    (passing (result_type w.scope d.result d.stars) (λ result. passing (parameter_types w.scope (listed d.parameters) []) (λ parameters.
+    (passing (result_type w.scope d.result d.stars) (λ result. passing (parameter_types w.scope (listed d.parameters) (listed d.parameters) []) (λ parameters.
     walked (signature_of d result parameters) parameters (function_named w.scope.functions d.name.number))))
   where
-    walked : Signature → List Variable → Option Signature → Verdict Walk
+    walked : Signature → List Parameter → Option Signature → Verdict Walk
     walked f parameters known =
         passing (function_body at (record w { scope = with_function known f w.scope }) f parameters d.body) (λ x. function_rules all d f known x)
 

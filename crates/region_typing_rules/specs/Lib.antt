@@ -16,3 +16,4 @@ pub mod Typed
 pub mod Lowerable
 pub mod Knowing
 pub mod KnowingExamples
+pub mod CallExamples

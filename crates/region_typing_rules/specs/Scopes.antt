@@ -4,21 +4,27 @@ use Rattle.std.specs.Prelude.{ℕ, suc, Bool, true, false, ◌==◌, List, [], �
 use Rattle.ckc_tree.specs.declared.item.FunctionKind.{FunctionKind}
 use Rattle.pointer_modes.specs.Types.{CType, Structure}
 use Rattle.ckc_names_rules.specs.declared.given.Given.{Given}
+use Rattle.bounds_exprs.specs.declared.term.Bounds.{Bounds}
 use Rattle.bounds_flow.specs.Flows.{Knowledge}
 use Rattle.region_typing_rules.specs.Verdicts.{Verdict, meant, picked}
 
--- a declared function: its name and how that is written, its kind, its parameters, and what it returns
+-- what is written for bounds: nothing, that they are unknown, or bounds
+abbrev pub WrittenBounds : Type 0
+WrittenBounds = Option (Option Bounds)
+
+-- the bounds that are written
+abbrev pub bounds_in : WrittenBounds → Option Bounds
+bounds_in None = None
+bounds_in (Some bounds) = bounds
+
+-- a declared function: its name and how that is written, its kind, its parameters with what is written for their bounds, and what it returns
 pub record Signature : Type 0 where
   pub name : ℕ
   pub text : List ℕ
   pub kind : FunctionKind
   pub parameters : List CType
+  pub bounds : List WrittenBounds
   pub result : Option CType
-
--- a variable that has a name, and its type
-pub record Variable : Type 0 where
-  pub name : ℕ
-  pub type : CType
 
 -- a file-level variable; an array has so many elements of the type
 pub record FileVariable : Type 0 where

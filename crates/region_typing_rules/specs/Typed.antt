@@ -1,5 +1,5 @@
 -- What it is that a core has types: a rule for each form, by the types of what it is made of.
-use Rattle.std.specs.Prelude.{◌≡◌, ℕ, ◌*◌, ◌<◌, ◌≤◌, Bool, true, false, List, [], ◌∷◌, length, take, replicate}
+use Rattle.std.specs.Prelude.{◌≡◌, ◌⊎◌, ℕ, ◌*◌, ◌<◌, ◌≤◌, Bool, true, false, List, [], ◌∷◌, length, take, replicate}
 use Rattle.std.specs.Prelude.{Option, Some, None, slice_get}
 use Rattle.std.specs.List.{AllByRecursion}
 use Rattle.std.proofs.Common.{ℤ}
@@ -11,6 +11,7 @@ use Rattle.pointer_modes.specs.declared.ctype.Kind.TheVariants as kinds
 use Rattle.pointer_modes.specs.Types.{CType, Int, Char, Struct, Pointer, Structure}
 use Rattle.pointer_modes.specs.Layout.{size_of}
 use Rattle.bounds_exprs.specs.declared.term.Bounds.{Bounds}
+use Rattle.bounds_exprs.specs.declared.term.Term.{Term}
 use Rattle.bounds_exprs.specs.Changes.{moved_by}
 use Rattle.bounds_flow_meaning.specs.Holding.{IsValid, HasSize, target_size, types_of}
 use Rattle.bounds_flow_meaning.specs.Rows.{slots, HasRow, IsPlace}
@@ -29,14 +30,15 @@ use Rattle.ckc_core.specs.Meaning.{bounds_of}
 use Rattle.ckc_core.specs.Steps.{is_char}
 use Rattle.region_typing_rules.specs.Types.{is_number, is_scalar}
 use Rattle.region_typing_rules.specs.Scopes.{Scope}
-use Rattle.region_typing_rules.specs.Readings.{constant, against, based_bounds}
-use Rattle.region_typing_rules.specs.Expressions.{bounds_at, row_of, one_element}
-use Rattle.region_typing_rules.specs.KnownIsSo.{IsKnown, AreLimited}
+use Rattle.region_typing_rules.specs.Readings.{constant, against, term, pointer_local, own_bounds, based_bounds}
+use Rattle.region_typing_rules.specs.Expressions.{bounds_at, row_of, one_element, at_call}
+use Rattle.region_typing_rules.specs.KnownIsSo.{HasLocals, IsKnown, AreLimited}
 
--- what the parts of a program are typed in: its two sides, and its structs
+-- what the parts of a program are typed in: its two sides, its structs, and for each trusted function the bounds of its parameters
 pub record Frame : Type 0 where
   pub program : Parted
   pub structs : List Structure
+  pub bounds : List (List (Option Bounds))
 
 -- ---- values
 
@@ -67,11 +69,17 @@ abbrev pub IsNumberResult : Option CType → Type 0
 IsNumberResult None = Unit {0}
 IsNumberResult (Some t) = is_number t ≡ true
 
--- whom a call enters is there, takes arguments of these types, and has this result; only numbers cross to the sandbox and back
-pub data IsCallee (g : Frame) : Callee → List CType → Option CType → Type 0 where
-  trusted : {n : ℕ} {f : Function} → slice_get g.program.functions n ≡ Some f → IsCallee g (callees.Trusted n) (take f.parameters f.locals) f.result
+-- parameters with bounds are pointers to arrays
+abbrev pub HaveRows : List CType → List (Option Bounds) → Type 0
+HaveRows types bounds = (x : ℕ) (b : Bounds) → slice_get bounds x ≡ Some (Some b) → (m : Mode) × (t : CType) × (slice_get types x ≡ Some (Pointer m kinds.Array t))
+
+-- whom a call enters is there, takes arguments of these types, which are valid with these bounds, and has this result; only numbers cross to the
+-- sandbox and back
+pub data IsCallee (g : Frame) : Callee → List CType → List (Option Bounds) → Option CType → Type 0 where
+  trusted : {n : ℕ} {f : Function} {bounds : List (Option Bounds)} → slice_get g.program.functions n ≡ Some f → slice_get g.bounds n ≡ Some bounds
+      → HaveRows (take f.parameters f.locals) bounds → IsCallee g (callees.Trusted n) (take f.parameters f.locals) bounds f.result
   tainted : {n : ℕ} {i : Import} {site : Site} → slice_get g.program.imports n ≡ Some i → IsNumberResult i.result
-      → IsCallee g (callees.Tainted n site) (replicate i.parameters Int) i.result
+      → IsCallee g (callees.Tainted n site) (replicate i.parameters Int) [] i.result
 
 -- ---- bounds
 
@@ -86,6 +94,44 @@ IsInForce structs here k b = (s : State) → IsKnown structs here s → (l : Loc
 -- whenever what is known in a scope is so, a pointer that is valid with these bounds leads to an element
 abbrev pub LeadsToOne : List Structure → Scope → Bounds → Type 0
 LeadsToOne structs here b = (s : State) → IsKnown structs here s → (l : Local) → IsValid structs (Some b) l s → IsValid structs (Some one_element) l s
+
+-- the same of any bounds
+abbrev pub LeadsTo : List Structure → Scope → (from to : Bounds) → Type 0
+LeadsTo structs here b d = (s : State) → HasLocals here.locals s → IsKnown structs here s → (l : Local) → IsValid structs (Some b) l s → IsValid structs (Some d) l s
+
+-- an argument is valid with bounds over its caller: it is null, or its own bounds lead to these, or those that it has from a base
+pub data IsAsked (structs : List Structure) (here : Scope) (e : Expression) (d : Bounds) : Type 0 where
+  null : e ≡ core.Null → IsAsked structs here e d
+  own : {b : Bounds} → own_bounds e ≡ Some b → LeadsTo structs here b d → IsAsked structs here e d
+  based : {b : Bounds} → based_bounds e ≡ Some b → LeadsTo structs here b d → IsAsked structs here e d
+
+-- what stands for the parameters of these types
+abbrev pub term_of : List CType → Expression → CType → Option Term
+term_of locals e Int = term locals e
+term_of locals e Char = None
+term_of locals e (Struct number) = None
+term_of locals e (Pointer mode kind target) = None
+
+abbrev pub terms_of : List CType → Arguments → List CType → List (Option Term)
+terms_of locals core.Done types = []
+terms_of locals (core.More e rest) [] = []
+terms_of locals (core.More e rest) (t ∷ ts) = term_of locals e t ∷ terms_of locals rest ts
+
+abbrev pub pointers_of : List CType → Arguments → List (Option ℕ)
+pointers_of locals core.Done = []
+pointers_of locals (core.More e rest) = pointer_local locals e ∷ pointers_of locals rest
+
+-- an argument is valid with the bounds of its parameter, where these stand for parameters
+abbrev pub IsAskedAt : List Structure → Scope → List (Option Term) → List (Option ℕ) → Expression → Option Bounds → Type 0
+IsAskedAt structs here terms pointers e None = Unit {0}
+IsAskedAt structs here terms pointers e (Some b) = (e ≡ core.Null) ⊎ ((d : Bounds) × (at_call terms pointers b ≡ Some d) × IsAsked structs here e d)
+
+-- each argument is
+abbrev pub AreAsked : List Structure → Scope → List (Option Term) → List (Option ℕ) → Arguments → List (Option Bounds) → Type 0
+AreAsked structs here terms pointers core.Done bounds = Unit {0}
+AreAsked structs here terms pointers (core.More e rest) [] = Unit {0}
+AreAsked structs here terms pointers (core.More e rest) (b ∷ bounds) =
+    IsAskedAt structs here terms pointers e b × AreAsked structs here terms pointers rest bounds
 
 -- so many values of the type stand in a row from the beginning of a block of this shape on
 abbrev pub AreRows : List Structure → Shape → CType → ℕ → Type 0
@@ -164,8 +210,9 @@ mutual
     both : {a b : Expression} {t t' : CType} → HasType g locals here a t → HasType g locals here b t' → HasType g locals here (core.AndAlso a b) Int
     either : {a b : Expression} {t t' : CType} → HasType g locals here a t → HasType g locals here b t' → HasType g locals here (core.OrElse a b) Int
     low_byte : {e : Expression} → HasType g locals here e Int → HasType g locals here (core.LowByte e) Char
-    call : {callee : Callee} {ts : List CType} {arguments : Arguments} {t : CType} {b : Option PointerBounds} → IsCallee g callee ts (Some t)
-        → HaveTypes g locals here arguments ts → HasBounds g.structs t b → HasType g locals here (core.Call callee arguments b) t
+    call : {callee : Callee} {ts : List CType} {bs : List (Option Bounds)} {arguments : Arguments} {t : CType} {b : Option PointerBounds}
+        → IsCallee g callee ts bs (Some t) → HaveTypes g locals here arguments ts
+        → AreAsked g.structs here (terms_of here.locals arguments ts) (pointers_of here.locals arguments) arguments bs → HasBounds g.structs t b → HasType g locals here (core.Call callee arguments b) t
     next_input : HasType g locals here core.NextInput Int
 
   -- arguments, and the types of the parameters
@@ -203,8 +250,9 @@ pub data IsSimple (g : Frame) (locals : List CType) (here : Scope) : Statement �
   update : {t : CType} {p : Place} {operator : Operator} {e : Expression} {site : Site} → is_number t ≡ true → HasPlace g locals here p t
       → HasType g locals here e Int → IsSimple g locals here (core.Update t p operator e site)
   evaluate : {e : Expression} {t : CType} → HasType g locals here e t → IsSimple g locals here (core.Evaluate e)
-  call_alone : {callee : Callee} {ts : List CType} {arguments : Arguments} → IsCallee g callee ts None → HaveTypes g locals here arguments ts
-      → IsSimple g locals here (core.CallAlone callee arguments)
+  call_alone : {callee : Callee} {ts : List CType} {bs : List (Option Bounds)} {arguments : Arguments} → IsCallee g callee ts bs None
+      → HaveTypes g locals here arguments ts
+      → AreAsked g.structs here (terms_of here.locals arguments ts) (pointers_of here.locals arguments) arguments bs → IsSimple g locals here (core.CallAlone callee arguments)
   print : {e : Expression} → HasType g locals here e Int → IsSimple g locals here (core.Print e)
   put_byte : {e : Expression} → HasType g locals here e Int → IsSimple g locals here (core.PutByte e)
 
@@ -250,6 +298,7 @@ IsInitial structs i = HasValue structs [] i.type (initial_value i.type i.number)
 -- a program of two sides with its structs has types, and a `main` without parameters that gives a number
 pub record IsTyped (program : Parted) : Type 0 where
   pub structs : List Structure
+  pub bounds : List (List (Option Bounds))
   pub objects : AllByRecursion (AllByRecursion (IsInitial structs)) program.objects
-  pub functions : AllByRecursion (IsFunction (record { program = program; structs = structs })) program.functions
+  pub functions : AllByRecursion (IsFunction (record { program = program; structs = structs; bounds = bounds })) program.functions
   pub main : (f : Function) × (slice_get program.functions program.main ≡ Some f) × (f.parameters ≡ 0) × (f.result ≡ Some Int)

@@ -20,6 +20,7 @@ ghost use Rattle.region_typing_rules.specs.DeclaredFormed.{DeclaredFormed};
 ghost use Rattle.region_typing_rules.specs.Examples as examples;
 ghost use Rattle.region_typing_rules.specs.ReadingExamples as readings;
 ghost use Rattle.region_typing_rules.specs.KnowingExamples as knowing;
+ghost use Rattle.region_typing_rules.specs.CallExamples as calls;
 
 /// Programs and what they become, worked out from the rules.
 pub fn examples()
@@ -46,7 +47,20 @@ pub fn knowing()
     ensures counts { knowing.counts }
 {}
 
-/// Bounds that are declared for a local are formed: they are of a pointer to elements that have bytes, their ends speak of `int` locals, their
+/// What stands for the bounds of parameters at a call, and which bounds of declarations agree.
+pub fn calls()
+    ensures one_term { calls.one_term }
+    ensures exchanged { calls.exchanged }
+    ensures from_pointer { calls.from_pointer }
+    ensures without_term { calls.without_term }
+    ensures without_pointer { calls.without_pointer }
+    ensures same { calls.same }
+    ensures other { calls.other }
+    ensures none { calls.none }
+    ensures unknown { calls.unknown }
+{}
+
+/// Bounds that are declared for a local or a parameter are formed: they are of a pointer to elements that have bytes, their ends speak of `int` locals, their
 /// base is a pointer of its mode and element, and their constants are limited.
 pub fn declared_bounds()
     ensures { DeclaredFormed }

@@ -92,8 +92,3 @@ pub fitted_then : {A : Type 0} (f : Knowledge) (t : Typed) (to : CType) (span : 
     → converted t to span (λ v. bounds_met f t to span (next v)) ≡ passing (fitted f t to span) next
 fitted_then f (Value type null value place) to span next = fitting (converts type null to) (null || meets f value (asked_of type to)) span _ next
 fitted_then f (AStruct number place) to span next = refl
-
--- bounds that are met
-pub bounds_met_so : {A : Type 0} (f : Knowledge) (t : Typed) (to : CType) (span : Span) (next : Verdict A) → bounds_met f t to span next ≡ needs (is_met_as f t to) E17 span next
-bounds_met_so f (Value type null value place) to span next = refl
-bounds_met_so f (AStruct number place) to span next = refl

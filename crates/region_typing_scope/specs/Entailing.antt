@@ -1,5 +1,5 @@
 -- Inside: the bounds that an expression is asked for as a value of a type, and whether they are met.
-use Rattle.std.specs.Prelude.{Bool, true, ◌||◌, Option, Some, None}
+use Rattle.std.specs.Prelude.{Bool, true, ◌||◌, Option, None}
 use Rattle.ckc_text.specs.declared.place.Span.{Span}
 use Rattle.bounds_exprs.specs.declared.term.Bounds.{Bounds}
 use Rattle.bounds_flow.specs.Flows.{Knowledge}
@@ -28,10 +28,9 @@ abbrev pub based_of : Typed → Option Bounds
 based_of (Value type zero value place) = based_bounds value
 based_of (AStruct number place) = None
 
--- one of two bounds meets what is asked for
-abbrev pub met_by : Knowledge → Option Bounds → Option Bounds → Option Bounds → Bool
-met_by f None own based = true
-met_by f (Some asked) own based = is_met (bounds_find f.facts asked own) || is_met (bounds_find f.facts asked based)
+-- its bounds, without a base or with one, meet others
+abbrev pub has_bounds : Knowledge → Typed → Bounds → Bool
+has_bounds f t asked = is_met (bounds_find f.facts asked (own_of t)) || is_met (bounds_find f.facts asked (based_of t))
 
 -- a value as one of a type that it converts to, where its bounds are met (E13, E17)
 abbrev pub fitted : Knowledge → Typed → CType → Span → Verdict core.Expression

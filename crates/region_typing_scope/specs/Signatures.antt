@@ -6,4 +6,11 @@ use Rattle.region_typing_rules.specs.Scopes.{Signature}
 use Rattle.region_typing_scope.specs.declared.signature.Signature as code
 
 abbrev pub signature : code.Signature → Signature
-signature f = record { name = f.name; text = f.text; kind = f.kind; parameters = map ctype f.parameters.items; result = option_map ctype f.result }
+signature f = record {
+  name = f.name;
+  text = f.text;
+  kind = f.kind;
+  parameters = map ctype f.parameters.items;
+  bounds = f.bounds.items;
+  result = option_map ctype f.result;
+}

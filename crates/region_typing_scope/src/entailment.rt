@@ -6,7 +6,7 @@ ghost use Rattle.subsumption.specs.ClosedTables.{entails_terms};
 ghost use Rattle.subsumption.specs.ShownTables.{is_yes as says_yes};
 ghost use Rattle.bounds_flow.specs.Settling.{ends_find, bounds_find};
 ghost use Rattle.region_typing_rules.specs.Expressions.{is_met as is_met_by, asked_as as asked_of_kinds, asked_of as asked_of_types};
-ghost use Rattle.region_typing_scope.specs.Entailing.{asked_for as asked_for_in, is_met_as, own_of, based_of};
+ghost use Rattle.region_typing_scope.specs.Entailing.{asked_for as asked_for_in, has_bounds as has_bounds_as, is_met_as, own_of, based_of};
 ghost use Rattle.region_typing_scope.specs.Typed.{typed};
 
 use crate::bounds::row_of;
@@ -138,6 +138,16 @@ impl Scope {
         }
     }
 
+    /// Whether the bounds of an expression, without a base or with one, are entailed to lie around others.
+    pub fn has_bounds(&self, t: &Typed, asked: &Bounds) -> Result<bool, NoMemory>
+        ensures { IfOk result (λ met. met ≡ has_bounds_as self.now.flow (typed t.now) asked.now) }
+    {
+        if self.bounds_meet(asked, &own(t))? {
+            return Ok(true);
+        }
+        self.bounds_meet(asked, &based(t))
+    }
+
     /// Whether the bounds of an expression, without a base or with one, are entailed to lie around those that it is asked for
     /// as a value of a type.
     pub fn is_met(&self, t: &Typed, to: &CType) -> Result<bool, NoMemory>
@@ -145,12 +155,7 @@ impl Scope {
     {
         match asked_for(t, to) {
             None => Ok(true),
-            Some(asked) => {
-                if self.bounds_meet(&asked, &own(t))? {
-                    return Ok(true);
-                }
-                self.bounds_meet(&asked, &based(t))
-            }
+            Some(asked) => self.has_bounds(t, &asked),
         }
     }
 }

@@ -4,7 +4,8 @@ ghost use Rattle.std.specs.Prelude.{◌≡◌, ◌<◌, ◌≤◌, ℕ, ◌++◌
 ghost use Rattle.bounds_flow.specs.Conditions.{AreBoundsBelow};
 ghost use Rattle.pointer_modes.specs.Types.{CType as TypeTree, ctype as ctype_of};
 ghost use Rattle.region_typing_rules.specs.Scopes.{Scope as ScopeTree};
-ghost use Rattle.region_typing_rules.specs.Knowing.{outside_of};
+ghost use Rattle.bounds_flow.specs.Flows.{entered};
+ghost use Rattle.region_typing_rules.specs.Knowing.{knowing, outside_of};
 ghost use Rattle.region_typing_rules.specs.Statements.{with_local};
 ghost use Rattle.region_typing_scope.specs.Declaring.{last_declared};
 ghost use Rattle.region_typing_scope.specs.Views.{scope as scope_of, visible as visible_of};
@@ -52,6 +53,18 @@ impl Scope {
     {
         let last = self.locals.len() as u32 - 1;
         self.flow.enter(last, bounds)
+    }
+
+    /// A local has these bounds at its declaration, or none.
+    pub fn give_bounds(&mut self, local: u32, bounds: Option<Bounds>) -> Result<(), NoMemory>
+        requires below { AreBoundsBelow self.old.flow.vars bounds }
+        requires there { local < length self.old.locals.items }
+        ensures known { OnOk result (scope_of self.new ≡ knowing (entered local bounds (scope_of self.old).flow) (scope_of self.old)) }
+        ensures seen { OnOk result (self.new.visible.items ≡ self.old.visible.items) }
+        ensures locals { OnOk result (self.new.locals.items ≡ self.old.locals.items) }
+        ensures size { OnOk result (self.new.flow.vars ≡ self.old.flow.vars) }
+    {
+        self.flow.enter(local, bounds)
     }
 
     /// Where a block begins that begins here.

@@ -6,5 +6,5 @@ use Rattle.built_forms.proofs.items.built_parameters.Goals as goal
 
 pub returns-in-Listed : goal.returns-in-Listed
 returns-in-Listed c =
-    seen built.built_member parameter c.as_slice.result.now c.in-Listed.parameters.items c.all_built.result c.all_built.ensures c.as_slice.ensures.value
-    ∙ ap (λ p. built.built_parameters built.built_member (parameters p)) (sym c.in-Listed.is)
+    seen built.built_parameter parameter c.as_slice.result.now c.in-Listed.parameters.items c.all_built.result c.all_built.ensures c.as_slice.ensures.value
+    ∙ ap (λ p. built.built_parameters built.built_parameter (parameters p)) (sym c.in-Listed.is)

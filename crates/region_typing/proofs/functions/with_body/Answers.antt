@@ -3,7 +3,7 @@ use Rattle.ckc_text.specs.Places.{place_at}
 use Rattle.ckc_tree.specs.Items as trees
 use Rattle.ckc_core.specs.Core.{function}
 use Rattle.region_typing_scope.specs.Views.{scope, signature}
-use Rattle.region_typing.specs.Parameters.{variable}
+use Rattle.region_typing.specs.Parameters.{parameter}
 use Rattle.region_typing_scope.proofs.Going.{goes_on, refused}
 use Rattle.region_typing.specs.Items.{walk}
 use Rattle.region_typing.proofs.Bodies.{function_body_parts, bodies_more, scope_kept}
@@ -13,11 +13,11 @@ use Rattle.region_typing.proofs.functions.with_body.Goals as goal
 pub returns-in_err-built : goal.returns-in_err-built
 returns-in_err-built c =
     let broken = rw c.as_slice-written.ensures.value at c.in_err-built.ensures in
-    rw (function_body_parts (place_at c.args.context.now) (walk c.args.walk.now) (signature c.args.f.now) (map variable c.args.parameters.now) (trees.body c.args.body.now)) (refused _ c.from_residual.result c.from_residual.ensures.1 broken)
+    rw (function_body_parts (place_at c.args.context.now) (walk c.args.walk.now) (signature c.args.f.now) (map parameter c.args.parameters.now) (trees.body c.args.body.now)) (refused _ c.from_residual.result c.from_residual.ensures.1 broken)
 
 pub returns : goal.returns
 returns c =
     let passes = rw c.as_slice-written.ensures.value at c.in_ok-built.ensures in
-    rw (function_body_parts (place_at c.args.context.now) (walk c.args.walk.now) (signature c.args.f.now) (map variable c.args.parameters.now) (trees.body c.args.body.now))
+    rw (function_body_parts (place_at c.args.context.now) (walk c.args.walk.now) (signature c.args.f.now) (map parameter c.args.parameters.now) (trees.body c.args.body.now))
     (goes_on _ passes (last _ _ _ _ _ _ c.needs.result c.is_checked-checked.ensures c.needs.ensures
-    (bodies_more (walk c.args.walk.now) (scope c.body_of.new.scope) c.args.walk.now.bodies.items c.push.new.self.items (record { name = c.args.f.now.name; function = c.in_ok-built.built }) (scope_kept (place_at c.args.context.now) (scope c.args.walk.now.scope) (signature c.args.f.now) (map variable c.args.parameters.now) (trees.statement_list c.args.body.now.statements.items) (function c.in_ok-built.built) (scope c.body_of.new.scope) passes.so) c.in_ok-push.ensures.items)))
+    (bodies_more (walk c.args.walk.now) (scope c.body_of.new.scope) c.args.walk.now.bodies.items c.push.new.self.items (record { name = c.args.f.now.name; function = c.in_ok-built.built }) (scope_kept (place_at c.args.context.now) (scope c.args.walk.now.scope) (signature c.args.f.now) (map parameter c.args.parameters.now) (trees.statement_list c.args.body.now.statements.items) (function c.in_ok-built.built) (scope c.body_of.new.scope) passes.so) c.in_ok-push.ensures.items)))

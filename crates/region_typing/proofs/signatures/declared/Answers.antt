@@ -11,4 +11,5 @@ returns-in_err-parameters c = goes_on _ c.in_ok-result.ensures (refused _ c.from
 pub returns : goal.returns
 returns c =
     let types = rw c.as_slice.ensures.value at c.in_ok-types_of.ensures in
-    goes_on _ c.in_ok-result.ensures (goes_on _ c.in_ok-parameters.ensures.types (record { so = rw (types, c.in_ok-copy.ensures.same) refl }))
+    let bounds = rw c.as_slice-2.ensures.value at c.in_ok-bounds_of.ensures in
+    goes_on _ c.in_ok-result.ensures (goes_on _ c.in_ok-parameters.ensures.types (record { so = rw (types, bounds, c.in_ok-copy.ensures.same) refl }))

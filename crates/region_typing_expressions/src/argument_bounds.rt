@@ -1,0 +1,208 @@
+// The bounds that the arguments of a call are asked for.
+
+ghost use Rattle.std.specs.Prelude.{◌≡◌, None, length, map, slice_index_or, IfOk};
+ghost use Rattle.pointer_modes.specs.Types.{ctype as ctype_of};
+ghost use Rattle.region_typing_rules.specs.Expressions.{argument_meets as argument_meets_in, at_call as at_call_in, pointers_for as pointers_in, terms_for as terms_in};
+ghost use Rattle.region_typing_scope.specs.Answering.{Answers};
+ghost use Rattle.region_typing_scope.specs.Typed.{typed as inline_typed};
+ghost use Rattle.region_typing_scope.specs.Views.{scope as scope_of, signature};
+ghost use Rattle.region_typing_expressions.specs.Calls.{argument};
+ghost use Rattle.region_typing_expressions.specs.ArgumentBounds.{first_unmet as first_unmet_in, first_unmet_of, is_unasked as is_unasked_in, pointer_for as pointer_for_in, term_for as term_for_in, term_of as term_of_in, unless_unmet as unless_unmet_at};
+
+use crate::calls::Argument;
+use bounds_exprs::term::{Bounds, Term};
+use ckc_text::code::Code;
+use ckc_text::fault::NoMemory;
+use ckc_text::place::Span;
+use pointer_modes::ctype::CType;
+use region_typing_flow::conditions::is_null;
+use region_typing_flow::readings::{local_term, pointer, pointer_local, term};
+use region_typing_scope::context::Context;
+use region_typing_scope::refusals::{CheckError, refusal};
+use region_typing_scope::scope::Scope;
+use region_typing_scope::signature::Signature;
+use region_typing_scope::typed::Typed;
+
+// What stands for each parameter at a call: the term of its argument, and the local pointer that this is.
+#[derive(Drop)]
+struct Passed {
+    terms: Vec<Option<Term>>,
+    pointers: Vec<Option<u32>>,
+}
+
+// The term of an argument.
+fn term_of(locals: &[CType], t: &Typed) -> Option<Term>
+    ensures { result ≡ term_of_in (map ctype_of locals.now) (inline_typed t.now) }
+{
+    match t {
+        Typed::Value { value, .. } => term(locals, value),
+        Typed::Local { local, .. } => local_term(locals, *local),
+        Typed::Cell { .. } | Typed::Array { .. } | Typed::Struct { .. } => None,
+    }
+}
+
+// The term that stands for a parameter of a type.
+fn term_for(locals: &[CType], t: &Typed, to: &CType) -> Option<Term>
+    ensures { result ≡ term_for_in (map ctype_of locals.now) (inline_typed t.now) (ctype_of to.now) }
+{
+    match to {
+        CType::Int => term_of(locals, t),
+        CType::Char | CType::Struct(_) | CType::Pointer(..) => None,
+    }
+}
+
+// The local pointer that stands for a parameter.
+fn pointer_for(locals: &[CType], t: &Typed) -> Option<u32>
+    ensures { result ≡ pointer_for_in (map ctype_of locals.now) (inline_typed t.now) }
+{
+    match t {
+        Typed::Value { value, .. } => pointer_local(locals, value),
+        Typed::Local { local, .. } => pointer(locals, *local),
+        Typed::Cell { .. } | Typed::Array { .. } | Typed::Struct { .. } => None,
+    }
+}
+
+// The terms that stand for the parameters.
+fn terms_for(
+    context: &Context,
+    locals: &[CType],
+    arguments: &[Argument],
+    types: &[CType],
+) -> Result<Vec<Option<Term>>, NoMemory>
+    requires { length arguments.now ≡ length types.now }
+    ensures { IfOk result (λ terms. terms.items ≡ terms_in (map ctype_of locals.now) (map argument arguments.now) (map ctype_of types.now)) }
+{
+    let mut terms = Vec::new(context.alloc());
+    for i in 0..arguments.len() {
+        terms.push(term_for(locals, &arguments[i].typed, &types[i]))?;
+    }
+    Ok(terms)
+}
+
+// The local pointers that stand for the parameters.
+fn pointers_for(
+    context: &Context,
+    locals: &[CType],
+    arguments: &[Argument],
+) -> Result<Vec<Option<u32>>, NoMemory>
+    ensures { IfOk result (λ pointers. pointers.items ≡ pointers_in (map ctype_of locals.now) (map argument arguments.now)) }
+{
+    let mut pointers = Vec::new(context.alloc());
+    for a in arguments {
+        pointers.push(pointer_for(locals, &a.typed))?;
+    }
+    Ok(pointers)
+}
+
+// The pointer at an index, where there is one.
+fn pointer_at(pointers: &[Option<u32>], index: usize) -> Option<u32>
+    ensures { result ≡ slice_index_or pointers.now index None }
+{
+    if index < pointers.len() {
+        pointers[index]
+    } else {
+        None
+    }
+}
+
+// The bounds of a parameter over what stands for the parameters.
+fn at_call(passed: &Passed, b: &Bounds) -> Option<Bounds>
+    ensures { result ≡ at_call_in passed.now.terms.items passed.now.pointers.items b.now }
+{
+    let ends = b.subst_all(passed.terms.as_slice());
+    match b.base {
+        None => ends,
+        Some(p) => match (pointer_at(passed.pointers.as_slice(), p as usize), ends) {
+            (Some(base), Some(Bounds { lo, hi, .. })) => Some(Bounds {
+                base: Some(base),
+                lo,
+                hi,
+            }),
+            _ => None,
+        },
+    }
+}
+
+// Whether an argument is asked for no bounds: null isn't, nor is a struct.
+fn is_unasked(t: &Typed) -> bool
+    ensures { result ≡ is_unasked_in (inline_typed t.now) }
+{
+    match t {
+        Typed::Value { zero, value, .. } => *zero || is_null(value),
+        Typed::Local { .. } | Typed::Cell { .. } | Typed::Array { .. } => false,
+        Typed::Struct { .. } => true,
+    }
+}
+
+// Whether the bounds of an argument meet those that are declared for its parameter, or those of its type.
+fn argument_meets(
+    scope: &Scope,
+    passed: &Passed,
+    t: &Typed,
+    to: &CType,
+    declared: Option<Bounds>,
+) -> Result<bool, NoMemory>
+    ensures { IfOk result (λ met. met ≡ argument_meets_in scope.now.flow passed.now.terms.items passed.now.pointers.items (inline_typed t.now) (ctype_of to.now) declared) }
+{
+    match declared {
+        None => scope.is_met(t, to),
+        Some(b) => {
+            if is_unasked(t) {
+                return Ok(true);
+            }
+            match at_call(passed, &b) {
+                None => Ok(false),
+                Some(asked) => scope.has_bounds(t, &asked),
+            }
+        }
+    }
+}
+
+// Where the first argument stands whose bounds aren't met, by what stands for the parameters.
+fn first_unmet_by(
+    scope: &Scope,
+    passed: &Passed,
+    f: &Signature,
+    arguments: &[Argument],
+) -> Result<Option<Span>, NoMemory>
+    requires { length arguments.now ≡ length f.now.parameters.items }
+    ensures { IfOk result (λ unmet. unmet ≡ first_unmet_in scope.now.flow passed.now.terms.items passed.now.pointers.items (map argument arguments.now) (signature f.now).parameters (signature f.now).bounds) }
+{
+    let types = f.parameters.as_slice();
+    for i in 0..arguments.len() {
+        let argument = &arguments[i];
+        let declared = f.bounds_of(i);
+        if !argument_meets(scope, passed, &argument.typed, &types[i], declared)? {
+            return Ok(Some(argument.span));
+        }
+    }
+    Ok(None)
+}
+
+/// Where the first argument of a call stands whose bounds aren't met.
+pub fn first_unmet(
+    context: &Context,
+    scope: &Scope,
+    f: &Signature,
+    arguments: &[Argument],
+) -> Result<Option<Span>, NoMemory>
+    requires { length arguments.now ≡ length f.now.parameters.items }
+    ensures { IfOk result (λ unmet. unmet ≡ first_unmet_of (scope_of scope.now) (signature f.now) (map argument arguments.now)) }
+{
+    let locals = scope.locals.as_slice();
+    let passed = Passed {
+        terms: terms_for(context, locals, arguments, f.parameters.as_slice())?,
+        pointers: pointers_for(context, locals, arguments)?,
+    };
+    first_unmet_by(scope, &passed, f, arguments)
+}
+
+/// Refuses an argument whose bounds aren't met, where there is one.
+pub fn unless_unmet(unmet: Option<Span>) -> Result<(), CheckError>
+    ensures { Answers (λ x. x) (unless_unmet_at unmet) result }
+{
+    match unmet {
+        None => Ok(()),
+        Some(span) => Err(refusal(Code::E17, span)),
+    }
+}
