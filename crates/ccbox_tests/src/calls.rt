@@ -136,32 +136,89 @@ const BEFORE_BOUNDED: &str =
 
 const BEHIND: &str = "\nreturn 0; }\n";
 
-// Whether the run of a program with this between its front and its end prints this.
-fn pieces_print(alloc: Global, front: &str, middle: &str, end: &str, expected: &str) -> bool {
+// What stands at file level before functions whose parameters have bounds.
+const BEFORE_FUNCTIONS: &str =
+    "int a _Checked[10] = {0, 1, 2, 3, 4, 5, 6, 7, 8, 9}; char c _Checked[4] = {'a', 'b', 'c'}; struct s { int x; char y; }; struct s v _Checked[3]; struct r { array_ptr<int> p; int n; }; struct r z; int g = 5; int h = 3; ptr<int> q; array_ptr<int> w; array_ptr<int> at(void) { return a + 3; }";
+
+// What stands before and behind a list of parameters.
+const BEFORE_LIST: &str = " int id(int x) { return x; }\nint f(\n";
+
+const BEHIND_LIST: &str = ") { return 0; }\nint main(void) { return 0; }\n";
+
+// Functions whose parameters have bounds, and the front of a `main` with the numbers of `BEFORE_BOUNDED`.
+const BEFORE_ARGUMENTS: &str =
+    " int last(array_ptr<int> p : count(n), int n) { return p[n - 1]; } int later(int n, array_ptr<int> p : count(n)) { return p[n - 1]; } int half(array_ptr<int> p : count(n - 2), int n) { return p[n - 3]; } int more(array_ptr<int> p : count(n + 1), int n) { return p[n]; } int words(array_ptr<int> p : byte_count(n * sizeof(int)), int n) { return p[n - 1]; } int text(array_ptr<char> p : byte_count(n), int n) { return p[n - 1]; } int three(array_ptr<int> p : count(3)) { return p[2]; } int near(array_ptr<int> p : bounds(p - 1, p + 1)) { return p[-1]; } int slice(array_ptr<int> p : bounds(p + k, p + n), int k, int n) { return p[k]; } int pair(int n, int m, array_ptr<int> p : count(n), array_ptr<int> r : count(m)) { return p[n - 1] * 10 + r[m - 1]; } int within(array_ptr<int> b : count(n), array_ptr<int> p : bounds(b, b + n), int n) { return *p; } int ahead(array_ptr<int> p : bounds(b, b + 2), array_ptr<int> b : count(2)) { return *p; } int from(ptr<int> b, array_ptr<int> p : bounds(b, b + 1)) { return *p; } int any(array_ptr<int> p : bounds(unknown)) { return p == a; } int one(ptr<int> p, array_ptr<int> r : count(1)) { return *p + *r; }\nint main(void) { int n = g; int m = h; int i = 0;\n";
+
+// What stands between a list of parameters and the statements of its function, behind these, and behind the arguments
+// of its call.
+const BEFORE_BODY: &str = ") { int i = 0;\n";
+
+const BEFORE_CALL: &str =
+    "\nreturn 0; }\nint main(void) { array_ptr<int> e : count(10) = a; return f(";
+
+const BEHIND_CALL: &str = "); }\n";
+
+// Whether the run of a program of these pieces prints this.
+fn pieces_print(alloc: Global, pieces: &[&str], expected: &str) -> bool {
     let mut source = String::new(alloc);
-    add(&mut source, front);
-    add(&mut source, middle);
-    add(&mut source, end);
+    for piece in pieces {
+        add(&mut source, piece);
+    }
     run_prints(alloc, source.as_str(), expected, false)
 }
 
 /// Whether the run of a program that returns this value from its second line prints this.
 pub fn value_prints(alloc: Global, value: &str, expected: &str) -> bool {
-    pieces_print(alloc, "int main(void) {\nreturn ", value, "; }\n", expected)
+    pieces_print(
+        alloc,
+        &["int main(void) {\nreturn ", value, "; }\n"],
+        expected,
+    )
 }
 
 /// Whether the run of a program with these statements in its third line prints this.
 pub fn statements_print(alloc: Global, statements: &str, expected: &str) -> bool {
-    pieces_print(alloc, BEFORE, statements, BEHIND, expected)
+    pieces_print(alloc, &[BEFORE, statements, BEHIND], expected)
 }
 
 /// Whether the run of a program with arrays and these statements in its third line prints this.
 pub fn elements_print(alloc: Global, statements: &str, expected: &str) -> bool {
-    pieces_print(alloc, BEFORE_ELEMENTS, statements, BEHIND, expected)
+    pieces_print(alloc, &[BEFORE_ELEMENTS, statements, BEHIND], expected)
 }
 
 /// Whether the run of a program with arrays, numbers of which nothing is known, and these statements in its third line
 /// prints this.
 pub fn bounded_print(alloc: Global, statements: &str, expected: &str) -> bool {
-    pieces_print(alloc, BEFORE_BOUNDED, statements, BEHIND, expected)
+    pieces_print(alloc, &[BEFORE_BOUNDED, statements, BEHIND], expected)
+}
+
+/// Whether the run of a program prints this that has a function with these parameters, in its third line.
+pub fn parameters_print(alloc: Global, list: &str, expected: &str) -> bool {
+    let pieces = [BEFORE_FUNCTIONS, BEFORE_LIST, list, BEHIND_LIST];
+    pieces_print(alloc, &pieces, expected)
+}
+
+/// Whether the run of a program with functions whose parameters have bounds, numbers of which nothing is known, and these
+/// statements in its third line prints this.
+pub fn arguments_print(alloc: Global, statements: &str, expected: &str) -> bool {
+    let pieces = [BEFORE_FUNCTIONS, BEFORE_ARGUMENTS, statements, BEHIND];
+    pieces_print(alloc, &pieces, expected)
+}
+
+/// Whether the run of a program prints this that calls a function: a row has the list of its parameters, the arguments, and
+/// the statements in the third line.
+pub fn body_prints(alloc: Global, row: &str, expected: &str) -> bool {
+    let (list, row) = field(row);
+    let (arguments, statements) = field(row);
+    let pieces = [
+        BEFORE_FUNCTIONS,
+        "\nint f(",
+        list,
+        BEFORE_BODY,
+        statements,
+        BEFORE_CALL,
+        arguments,
+        BEHIND_CALL,
+    ];
+    pieces_print(alloc, &pieces, expected)
 }

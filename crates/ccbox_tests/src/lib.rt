@@ -36,6 +36,8 @@ mod memories;
 #[cfg(test)]
 mod options;
 #[cfg(test)]
+mod parameters;
+#[cfg(test)]
 mod places;
 #[cfg(test)]
 mod printing;

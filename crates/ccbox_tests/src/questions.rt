@@ -3,7 +3,8 @@
 use crate::actors::gives_all;
 use crate::acts::is_act;
 use crate::calls::{
-    bounded_print, call_prints, elements_print, run_prints, statements_print, value_prints,
+    arguments_print, body_prints, bounded_print, call_prints, elements_print, parameters_print,
+    run_prints, statements_print, value_prints,
 };
 use crate::lines::is_number;
 use crate::shapes::has_shape;
@@ -40,6 +41,13 @@ pub enum Question {
     Elements,
     /// What the run of a program prints that has arrays, numbers of which nothing is known, and these statements.
     Bounded,
+    /// What the run of a program prints that has a function with these parameters.
+    Parameters,
+    /// What the run of a program prints that has functions whose parameters have bounds, and these statements.
+    Arguments,
+    /// What the run of a program prints that calls a function; the case has its parameters, the arguments, and the
+    /// statements of its body.
+    Body,
     /// What a call prints; the case has the words, the acts and the source.
     Call,
 }
@@ -59,6 +67,9 @@ pub fn is_answer(alloc: Global, question: Question, case: &str, expected: &str) 
         Question::Statements => statements_print(alloc, case, expected),
         Question::Elements => elements_print(alloc, case, expected),
         Question::Bounded => bounded_print(alloc, case, expected),
+        Question::Parameters => parameters_print(alloc, case, expected),
+        Question::Arguments => arguments_print(alloc, case, expected),
+        Question::Body => body_prints(alloc, case, expected),
         Question::Call => call_prints(alloc, case, expected),
     }
 }

@@ -11,6 +11,7 @@ use crate::limits::limits;
 use crate::listings::{listings, printed_listings};
 use crate::memories::memories_and_layouts;
 use crate::options::options;
+use crate::parameters::parameters;
 use crate::printing::printing;
 use crate::recordings::keeps_acts;
 use crate::rows::expect;
@@ -38,6 +39,7 @@ fn programs(rt: HostRuntime) -> Result<(), Fail> {
     dumps(alloc)?;
     arrays(alloc)?;
     bounded(alloc)?;
+    parameters(alloc)?;
     limits(alloc)?;
     options(alloc)
 }
