@@ -10,7 +10,7 @@ use Rattle.ckc_tree.specs.Statements as s
 use Rattle.ckc_tree.specs.Statements.{Initializer, Declarator, Declaration, Assignment, ForInitial, Statement, Statements}
 use Rattle.ckc_tree.specs.Items as i
 use Rattle.ckc_tree.specs.Items.{Member, ResultForm, Parameters, Body, Function, Item, Tree}
-use Rattle.built_forms.specs.Built.{built_type, is_number_type, built_expression, built_expressions, built_bounds, optional, built_initializer, built_declarator, built_variable, built_declaration, built_assignment, built_initial, built_statement, built_statements, built_member, built_parameter, is_number_parameter, built_parameters, built_result, is_number_result, built_body, built_of_kind, built_item, is_built}
+use Rattle.built_forms.specs.Built.{built_type, is_number_type, built_expression, built_expressions, built_bounds, optional, built_initializer, built_declarator, built_variable, built_declaration, built_assignment, built_initial, built_statement, built_statements, built_member, built_parameter, is_number_parameter, built_parameters, built_result, is_number_result, built_body, built_result_bounds, built_of_kind, built_item, is_built}
 use Rattle.ckc_tree.specs.declared.item.FunctionKind.{FunctionKind}
 use Rattle.ckc_tree.specs.declared.item.FunctionKind.TheVariants as function_kinds
 use Rattle.ckc_tree.specs.Numbers.{Numbers, number_type, number_expression, number_expressions, number_bounds, number_initializer, number_declarator, number_declaration, number_assignment, number_initial, number_statement, number_statements, number_member, number_result, number_parameters, number_body, number_function, number_item, numbered}
@@ -152,6 +152,11 @@ module _ (of : Numbers) where
   body_same None = refl
   body_same (Some b) = statements_same b.statements
 
+  result_bounds_same : (kind : FunctionKind) (b : Option Bounds) → built_result_bounds kind (option_map (number_bounds of) b) ≡ built_result_bounds kind b
+  result_bounds_same function_kinds.Trusted b = bounds_same b
+  result_bounds_same function_kinds.Tainted b = is_none_same (number_bounds of) b
+  result_bounds_same function_kinds.Callback b = is_none_same (number_bounds of) b
+
   kind_same : (kind : FunctionKind) (f : Function) → built_of_kind kind (number_function of f) ≡ built_of_kind kind f
   kind_same function_kinds.Trusted f = rw (result_same f.result, parameters_same built_parameter listed_same f.parameters, body_same f.body) refl
   kind_same function_kinds.Tainted f = rw (number_result_same f.result, parameters_same is_number_parameter number_parameters_same f.parameters, is_none_same (number_body of) f.body) refl
@@ -161,7 +166,7 @@ module _ (of : Numbers) where
   item_same (i.RegionItem region span) = refl
   item_same (i.StructureItem d) = rw (members_same d.members) refl
   item_same (i.GlobalItem g) = rw (type_same g.base, variables_same g.declarators) refl
-  item_same (i.FunctionItem f) = rw (is_none_same (number_bounds of) f.bounds, kind_same f.kind f) refl
+  item_same (i.FunctionItem f) = rw (result_bounds_same f.kind f.bounds, kind_same f.kind f) refl
 
   items_same : (xs : List Item) → list_all built_item (map (number_item of) xs) ≡ list_all built_item xs
   items_same [] = refl

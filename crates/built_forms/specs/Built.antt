@@ -169,9 +169,14 @@ built_of_kind function_kinds.Trusted f = built_result f.result && (built_paramet
 built_of_kind function_kinds.Tainted f = is_number_result f.result && (f.stars == 0 && (built_parameters is_number_parameter f.parameters && is_none f.body))
 built_of_kind function_kinds.Callback f = false
 
--- the result has no bounds
+-- the result of a trusted function may have bounds
+abbrev pub built_result_bounds : FunctionKind → Option Bounds → Bool
+built_result_bounds function_kinds.Trusted bounds = optional built_bounds bounds
+built_result_bounds function_kinds.Tainted bounds = is_none bounds
+built_result_bounds function_kinds.Callback bounds = is_none bounds
+
 abbrev pub built_function : Function → Bool
-built_function f = is_none f.bounds && built_of_kind f.kind f
+built_function f = built_result_bounds f.kind f.bounds && built_of_kind f.kind f
 
 abbrev pub built_item : Item → Bool
 built_item (i.RegionItem region span) = true

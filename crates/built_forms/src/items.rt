@@ -2,11 +2,14 @@
 
 ghost use Rattle.std.specs.Prelude.{◌≡◌};
 ghost use Rattle.std.specs.List.{list_all};
+ghost use Rattle.std.specs.Option.{option_map};
+ghost use Rattle.ckc_tree.specs.Expressions.{bounds};
 ghost use Rattle.ckc_tree.specs.Items.{member, parameter, parameters as parameters_of, result_form, function, structure as structure_of, global as global_of, StructureItem, GlobalItem, item, tree};
 ghost use Rattle.built_forms.specs.Built as built;
 
 use crate::expressions::{built_type, is_number_type};
 use crate::statements::{built_block, built_optional_bounds, built_variables};
+use ckc_tree::expr::BoundsText;
 use ckc_tree::item::{
     Function, FunctionKind, Global, Item, Member, Parameter, Parameters, Program, ResultForm,
     Structure,
@@ -116,10 +119,20 @@ fn built_tainted(written: &Function) -> bool
         && written.body.is_none()
 }
 
+// Whether the bounds of a function's result have only forms that are built: that of a trusted function may have bounds.
+fn built_result_bounds(kind: FunctionKind, written: &Option<BoundsText>) -> bool
+    ensures { result ≡ built.built_result_bounds kind (option_map bounds written.now) }
+{
+    match kind {
+        FunctionKind::Trusted => built_optional_bounds(written),
+        FunctionKind::Tainted | FunctionKind::Callback => written.is_none(),
+    }
+}
+
 fn built_function(written: &Function) -> bool
     ensures { result ≡ built.built_function (function written.now) }
 {
-    if written.bounds.is_some() {
+    if !built_result_bounds(written.kind, &written.bounds) {
         return false;
     }
     match written.kind {

@@ -25,7 +25,7 @@ use Rattle.region_typing_rules.specs.Readings.{against, from_base, based_bounds}
 use Rattle.region_typing_rules.specs.Verdicts.{picked}
 use Rattle.region_typing_rules.specs.Scopes.{Scope}
 use Rattle.region_typing_rules.specs.Typed as typed
-use Rattle.region_typing_rules.specs.Typed.{Frame, HasBounds, HasElements, AreSumBounds, HasType, HaveTypes, HasPlace, IsSimple, IsStatement, AreStatements}
+use Rattle.region_typing_rules.specs.Typed.{Frame, HasBounds, HasCallBounds, HasElements, AreSumBounds, HasType, HaveTypes, HasPlace, terms_of, IsSimple, IsStatement, AreStatements}
 
 -- ---- the constants of bounds
 
@@ -123,6 +123,11 @@ sum_constants types e direction i p b h beside (typed.based base) = h
 sum_constants types e direction i p b h beside (typed.beside {d = d} based) = beside d based
 sum_constants types e direction i p b h beside (typed.moved {c = c} {q = q} none is moved) = moved_within (against direction c) p.bounds q moved
 
+-- the bounds of a call are those of its type, or have the constants of terms
+call_constants : (structs : List Structure) (locals : List CType) (terms : List (Option Term)) (t : CType) (declared : Option Bounds) (b : Option PointerBounds) → HasCallBounds structs locals terms t declared b → AreConstants b
+call_constants structs locals terms t declared b (typed.by_type told) = noted_constants structs t b told
+call_constants structs locals terms _ _ _ (typed.by_result at size some limited none ints) = record { low = limited.low; high = limited.high }
+
 -- the bounds at a node of an expression
 constants : {g : Frame} {locals : List CType} {here : Scope} {t : CType} (e : core.Expression) → HasType g locals here e t → AreConstants (bounds_of e)
 constants _ (typed.word ok) = tt
@@ -150,7 +155,7 @@ constants _ (typed.order a from_a b from_b) = tt
 constants _ (typed.both a b) = tt
 constants _ (typed.either a b) = tt
 constants _ (typed.low_byte e) = tt
-constants {g = g} {t = t} (core.Call callee arguments b) (typed.call there listed asked told) = noted_constants g.structs t b told
+constants {g = g} {here = here} {t = t} (core.Call callee arguments b) (typed.call {ts = ts} {r = r} there listed asked told) = call_constants g.structs here.locals (terms_of here.locals arguments ts) t r b told
 constants _ typed.next_input = tt
 
 -- ---- checks
@@ -247,16 +252,16 @@ sized_simple n _ (typed.print e) = sized_expression n _ e
 sized_simple n _ (typed.put_byte e) = sized_expression n _ e
 
 mutual
-  sized_statement : (n : ℕ) {g : Frame} {locals : List CType} {result : Option CType} {loop : Bool} (x : core.Statement) → IsStatement g locals result loop x → SizedStatement n (statement x)
+  sized_statement : (n : ℕ) {g : Frame} {locals : List CType} {result : Option CType} {bounds : Option Bounds} {loop : Bool} (x : core.Statement) → IsStatement g locals result bounds loop x → SizedStatement n (statement x)
   sized_statement n _ (typed.simple x) = sized_simple n _ x
   sized_statement n _ (typed.block xs) = sized_statements n _ xs
   sized_statement n _ (typed.choice e x y) = (sized_expression n _ e, sized_statement n _ x, sized_statement n _ y)
   sized_statement n _ (typed.repeat e x y) = (sized_expression n _ e, sized_statement n _ x, sized_statement n _ y)
-  sized_statement n _ (typed.returned same e) = sized_expression n _ e
+  sized_statement n _ (typed.returned same e asked) = sized_expression n _ e
   sized_statement n _ (typed.returned_nothing same) = tt
   sized_statement n _ typed.broken = tt
   sized_statement n _ typed.continued = tt
 
-  pub sized_statements : (n : ℕ) {g : Frame} {locals : List CType} {result : Option CType} {loop : Bool} (xs : core.Statements) → AreStatements g locals result loop xs → SizedStatements n (statements xs)
+  pub sized_statements : (n : ℕ) {g : Frame} {locals : List CType} {result : Option CType} {bounds : Option Bounds} {loop : Bool} (xs : core.Statements) → AreStatements g locals result bounds loop xs → SizedStatements n (statements xs)
   sized_statements n _ typed.no_more = tt
   sized_statements n _ (typed.then_more first others) = (sized_statement n _ first, sized_statements n _ others)

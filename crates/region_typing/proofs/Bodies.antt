@@ -18,12 +18,12 @@ use Rattle.ckc_core.specs.declared.program.Function as code_function
 use Rattle.ckc_core.specs.declared.program.Stmt.{Stmt}
 use Rattle.ckc_core.specs.Core as core
 use Rattle.region_typing_rules.specs.Verdicts.{Stop, Broken, Nameless, Verdict, Passes, Stops, passing, needs, picked}
-use Rattle.region_typing_rules.specs.Scopes.{Scope, Signature, Visible, function_named}
+use Rattle.region_typing_rules.specs.Scopes.{Scope, Signature, Visible, WrittenBounds, bounds_in, function_named}
 use Rattle.region_typing_rules.specs.Expressions.{Places, is_tainted}
 use Rattle.region_typing_rules.specs.Statements.{statements, is_unchecked, with_local}
 use Rattle.bounds_flow.specs.Flows.{Knowledge, at_entry}
 use Rattle.region_typing_rules.specs.Knowing.{all_declared, knowing}
-use Rattle.region_typing_rules.specs.Items.{Parameter, Walk, with_parameters, with_bounds, variables_in, inside, core_function, function_body, listed, parameter_types, result_type, signature_of, agrees, all_scalar, scalar_result, with_function, is_defined, function_rules, function}
+use Rattle.region_typing_rules.specs.Items.{Parameter, Walk, with_parameters, with_bounds, variables_in, inside, core_function, function_body, listed, parameter_types, result_type, signature_of, agrees, all_scalar, scalar_result, with_function, is_defined, function_rules, function, bounds_of_result, first_changed_in, without_change}
 use Rattle.region_typing_scope.specs.declared.scope as code
 use Rattle.region_typing_scope.specs.declared.signature.Signature as code_signature
 use Rattle.region_typing_scope.specs.Views.{scope, signature}
@@ -33,7 +33,7 @@ use Rattle.region_typing_scope.specs.Locals.{Grows}
 use Rattle.region_typing_statements.specs.Walks.{Walks}
 use Rattle.region_typing.specs.declared.prototype as code_prototype
 use Rattle.region_typing.specs.declared.walk as code_walk
-use Rattle.region_typing.specs.Items.{defined, Outside, body_core, kept_rules, behind_declaration}
+use Rattle.region_typing.specs.Items.{defined, Outside, body_core, heading_of, kept_rules, behind_declaration}
 use Rattle.region_typing.specs.Signatures.{declared_function}
 use Rattle.region_typing_statements.proofs.Verdicts.{same_behind, in_parts}
 use Rattle.region_typing_scope.proofs.Steps.{parts_at, no_parts}
@@ -53,14 +53,15 @@ pub for_parameters : (n : ℕ) (body : Statements) → n ≤ 16 → n ≤ variab
 for_parameters n body few = (limited_so 256 (n + all_declared body) (nat_lt 256 (n + all_declared body)) refl).1 n (omega arith) (omega arith)
 
 -- what is known where its body begins
-pub entered : (f : Signature) (ps : List code_prototype.TypedParameter.TypedParameter) (body : Statements) (n : ℕ) (g mid with_locals new : Scope) → n ≡ variables_in (length ps) body
-    → mid ≡ record g { locals = []; visible = []; result = f.result; in_loop = false; outside = 0; flow = at_entry n; breaks = None; continues = None } → with_locals ≡ with_parameters (map parameter ps) mid
-    → new ≡ knowing (with_bounds 0 (map parameter ps) with_locals.flow) with_locals → new ≡ inside f (map parameter ps) body g
-entered f ps body n g mid with_locals new count start added is =
+pub entered : (f : Signature) (ps : List code_prototype.TypedParameter.TypedParameter) (body : Statements) (n : ℕ) (g mid with_locals with_bounds_too new : Scope) → n ≡ variables_in (length ps) body
+    → mid ≡ record g { locals = []; visible = []; result = f.result; result_bounds = None; in_loop = false; outside = 0; flow = at_entry n; breaks = None; continues = None } → with_locals ≡ with_parameters (map parameter ps) mid
+    → with_bounds_too ≡ knowing (with_bounds 0 (map parameter ps) with_locals.flow) with_locals → new ≡ record with_bounds_too { result_bounds = bounds_in f.result_bounds } → new ≡ inside f (map parameter ps) body g
+entered f ps body n g mid with_locals with_bounds_too new count start added bounded is =
     let all : n ≡ variables_in (length (map parameter ps)) body = count ∙ ap (λ (k : ℕ). variables_in k body) (sym (length-map ps parameter)) in
     is
-    ∙ ap (λ (h : Scope). knowing (with_bounds 0 (map parameter ps) h.flow) h)
-    (added ∙ ap (with_parameters (map parameter ps)) (start ∙ ap (λ (k : ℕ). record g { locals = []; visible = []; result = f.result; in_loop = false; outside = 0; flow = at_entry k; breaks = None; continues = None }) all))
+    ∙ ap (λ (h : Scope). record h { result_bounds = bounds_in f.result_bounds }) bounded
+    ∙ ap (λ (h : Scope). record (knowing (with_bounds 0 (map parameter ps) h.flow) h) { result_bounds = bounds_in f.result_bounds })
+    (added ∙ ap (with_parameters (map parameter ps)) (start ∙ ap (λ (k : ℕ). record g { locals = []; visible = []; result = f.result; result_bounds = None; in_loop = false; outside = 0; flow = at_entry k; breaks = None; continues = None }) all))
 
 -- ---- a function is left
 
@@ -77,15 +78,15 @@ parameters_added (p ∷ ps) g = let rest = parameters_added ps (with_local p.nam
 
 -- a scope in which no function is walked
 abbrev pub left_scope : Scope → Scope
-left_scope g = record g { locals = []; visible = []; result = None; in_loop = false; outside = 0; flow = at_entry 0; breaks = None; continues = None }
+left_scope g = record g { locals = []; visible = []; result = None; result_bounds = None; in_loop = false; outside = 0; flow = at_entry 0; breaks = None; continues = None }
 
 -- what was known before a function is known behind it
 pub left_function : (f : Signature) (ps : List Parameter) (body : Statements) (old entered walked new : code.Scope.Scope) → Outside (scope old) → scope entered ≡ inside f ps body (scope old) → Grows entered walked → scope new ≡ left_scope (scope walked) → scope new ≡ scope old
 left_function f ps body old entered walked new outside inside_is grows known =
-    let start : Scope = record (scope old) { locals = []; visible = []; result = f.result; in_loop = false; outside = 0; flow = at_entry (variables_in (length ps) body); breaks = None; continues = None } in
+    let start : Scope = record (scope old) { locals = []; visible = []; result = f.result; result_bounds = None; in_loop = false; outside = 0; flow = at_entry (variables_in (length ps) body); breaks = None; continues = None } in
     let added = parameters_added ps start in
     known
-    ∙ ap left_scope (grows.file ∙ ap (λ (g : Scope). record g { locals = grows.types; visible = grows.names; in_loop = grows.loop; outside = grows.outside; flow = grows.flow; breaks = grows.breaks; continues = grows.continues }) (inside_is ∙ ap (knowing (with_bounds 0 ps (with_parameters ps start).flow)) added.same))
+    ∙ ap left_scope (grows.file ∙ ap (λ (g : Scope). record g { locals = grows.types; visible = grows.names; in_loop = grows.loop; outside = grows.outside; flow = grows.flow; breaks = grows.breaks; continues = grows.continues }) (inside_is ∙ ap (λ (h : Scope). record (knowing (with_bounds 0 ps (with_parameters ps start).flow) h) { result_bounds = bounds_in f.result_bounds }) added.same))
     ∙ sym outside
 
 -- the core of a function whose statements break no rule
@@ -100,43 +101,62 @@ function_body_parts at w f ps b = sym (in_parts (statements at (inside f ps b.st
 
 -- ---- a declaration, its body, and its rules
 
-declared_on : {B : Type 0} (v : Verdict (Option CType)) (w : Verdict (List Parameter)) (of : Option CType → List Parameter → Signature) (next : Signature × List Parameter → Verdict B)
-    → passing v (λ r. passing w (λ ps. next (of r ps, ps))) ≡ passing (passing v (λ r. passing w (λ ps. Passes (of r ps, ps)))) next
-declared_on (Stops stop) w of next = refl
-declared_on (Passes r) (Stops stop) of next = refl
-declared_on (Passes r) (Passes ps) of next = refl
+declared_on : {B : Type 0} (v : Verdict (Option CType)) (w : Verdict (List Parameter)) (u : Option CType → Verdict WrittenBounds) (of : Option CType → List Parameter → WrittenBounds → Signature) (next : Signature × List Parameter → Verdict B)
+    → passing v (λ r. passing w (λ ps. passing (u r) (λ b. next (of r ps b, ps)))) ≡ passing (passing v (λ r. passing (passing {B = List Parameter × WrittenBounds} w (λ ps. passing (u r) (λ b. Passes (ps, b)))) (λ h. Passes (of r h.0 h.1, h.0)))) next
+declared_on (Stops stop) w u of next = refl
+declared_on (Passes r) (Stops stop) u of next = refl
+declared_on (Passes r) (Passes ps) u of next = by (u r)
+  where
+    by : (o : Verdict WrittenBounds) → passing o (λ b. next (of r ps b, ps)) ≡ passing (passing (passing {B = List Parameter × WrittenBounds} o (λ b. Passes (ps, b))) (λ h. Passes (of r h.0 h.1, h.0))) next
+    by (Passes b) = refl
+    by (Stops stop) = refl
 
-rules_parts : (fits body marked on : Bool) (span : Span) (w : Walk) → needs fits E13 span (needs body E10 span (needs marked E15 span (needs on E15 span (Passes w)))) ≡ passing (needs fits E13 span (needs body E10 span (needs marked E15 span (needs on E15 span (Passes tt))))) (λ (x : Unit {0}). Passes w)
-rules_parts false body marked on span w = refl
-rules_parts true false marked on span w = refl
-rules_parts true true false on span w = refl
-rules_parts true true true false span w = refl
-rules_parts true true true true span w = refl
+rules_parts : (fits body : Bool) (changed : Option Span) (marked on : Bool) (span : Span) (w : Walk)
+    → needs fits E13 span (needs body E10 span (without_change changed (needs marked E15 span (needs on E15 span (Passes w))))) ≡ passing (needs fits E13 span (needs body E10 span (without_change changed (needs marked E15 span (needs on E15 span (Passes tt)))))) (λ (x : Unit {0}). Passes w)
+rules_parts false body changed marked on span w = refl
+rules_parts true false changed marked on span w = refl
+rules_parts true true (Some at) marked on span w = refl
+rules_parts true true None false on span w = refl
+rules_parts true true None true false span w = refl
+rules_parts true true None true true span w = refl
+
+-- where a declared function changes what the bounds of its result name
+abbrev pub declared_changed : Scope → i.Function → ℕ → Signature × List Parameter → Option Span
+declared_changed g d name x = first_changed_in (with_function (function_named g.functions name) x.0 g) x.0 x.1 d.body
+
+-- whether its declaration agrees with the first one, and has scalars
+abbrev pub declared_fits : Scope → ℕ → Signature × List Parameter → Bool
+declared_fits g name x = agrees (function_named g.functions name) x.0 && (all_scalar x.0.parameters && scalar_result x.0.result)
 
 -- a function by its declaration, its body and its rules
 pub function_parts : (at : Places) (all : List Item) (w : Walk) (d : i.Function)
     → function at all w d
     ≡ needs (is_some (function_named w.scope.functions d.name.number) || nat_lt (length w.scope.functions) 4096) E08 d.span
     (passing (declared_function w.scope d) (λ x. passing (function_body at (record w { scope = with_function (function_named w.scope.functions d.name.number) x.0 w.scope }) x.0 x.1 d.body)
-    (λ v. passing (kept_rules all d (agrees (function_named w.scope.functions d.name.number) x.0 && (all_scalar x.0.parameters && scalar_result x.0.result)) v.scope) (λ u. Passes v))))
+    (λ v. passing (kept_rules all d (declared_fits w.scope d.name.number x) (declared_changed w.scope d d.name.number x) v.scope) (λ u. Passes v))))
 function_parts at all w d =
     let known = function_named w.scope.functions d.name.number in
-    let behind = λ (x : Signature × List Parameter). passing (function_body at (record w { scope = with_function known x.0 w.scope }) x.0 x.1 d.body) (λ v. function_rules all d x.0 known v) in
-    let judged = λ (x : Signature × List Parameter). passing (function_body at (record w { scope = with_function known x.0 w.scope }) x.0 x.1 d.body) (λ v. passing (kept_rules all d (agrees known x.0 && (all_scalar x.0.parameters && scalar_result x.0.result)) v.scope) (λ u. Passes v)) in
+    let here = λ (x : Signature × List Parameter). function_body at (record w { scope = with_function known x.0 w.scope }) x.0 x.1 d.body in
+    let asked = λ (x : Signature × List Parameter) (v : Walk). function_rules all d x.0 known (declared_changed w.scope d d.name.number x) v in
+    let kept = λ (x : Signature × List Parameter) (v : Walk). passing (kept_rules all d (declared_fits w.scope d.name.number x) (declared_changed w.scope d d.name.number x) v.scope) (λ u. Passes v) in
     ap (λ v. needs (is_some known || nat_lt (length w.scope.functions) 4096) E08 d.span v)
-    (declared_on (result_type w.scope d.result d.stars) (parameter_types w.scope (listed d.parameters) (listed d.parameters) []) (λ r ps. signature_of d r ps) behind
-    ∙ same_behind (declared_function w.scope d) behind judged
-    (λ x. same_behind (function_body at (record w { scope = with_function known x.0 w.scope }) x.0 x.1 d.body) (λ v. function_rules all d x.0 known v) (λ v. passing (kept_rules all d (agrees known x.0 && (all_scalar x.0.parameters && scalar_result x.0.result)) v.scope) (λ u. Passes v))
-    (λ v. rules_parts (agrees known x.0 && (all_scalar x.0.parameters && scalar_result x.0.result)) (picked (is_tainted d.kind) true (is_defined all d.name.number)) (not (is_unchecked d.mark)) (not v.scope.is_off) d.span v)))
+    (declared_on (result_type w.scope d.result d.stars) (parameter_types w.scope (listed d.parameters) (listed d.parameters) []) (λ r. bounds_of_result w.scope (listed d.parameters) r d.bounds) (λ r ps b. signature_of d r ps b) (λ x. passing (here x) (asked x))
+    ∙ same_behind (declared_function w.scope d) (λ x. passing (here x) (asked x)) (λ x. passing (here x) (kept x))
+    (λ x. same_behind (here x) (asked x) (kept x)
+    (λ v. rules_parts (declared_fits w.scope d.name.number x) (picked (is_tainted d.kind) true (is_defined all d.name.number)) (declared_changed w.scope d d.name.number x) (not (is_unchecked d.mark)) (not v.scope.is_off) d.span v)))
 
-named_so : (v : Verdict (Option CType)) (w : Verdict (List Parameter)) (of : Option CType → List Parameter → Signature) (name : ℕ) (x : Signature × List Parameter) → ((r : Option CType) (ps : List Parameter) → (of r ps).name ≡ name) → passing v (λ r. passing w (λ ps. Passes (of r ps, ps))) ≡ Passes x → x.0.name ≡ name
+named_so : (v : Verdict (Option CType)) (w : Option CType → Verdict (List Parameter × WrittenBounds)) (of : Option CType → List Parameter → WrittenBounds → Signature) (name : ℕ) (x : Signature × List Parameter)
+    → ((r : Option CType) (ps : List Parameter) (b : WrittenBounds) → (of r ps b).name ≡ name) → passing v (λ r. passing (w r) (λ h. Passes (of r h.0 h.1, h.0))) ≡ Passes x → x.0.name ≡ name
 named_so (Stops stop) w of name x named is = absurd (cc)
-named_so (Passes r) (Stops stop) of name x named is = absurd (cc)
-named_so (Passes r) (Passes ps) of name x named is = let same : (of r ps, ps) ≡ x = cc in ap (λ (y : Signature × List Parameter). y.0.name) (sym same) ∙ named r ps
+named_so (Passes r) w of name x named is = by (w r) is
+  where
+    by : (o : Verdict (List Parameter × WrittenBounds)) → passing {B = Signature × List Parameter} o (λ h. Passes (of r h.0 h.1, h.0)) ≡ Passes x → x.0.name ≡ name
+    by (Stops stop) same = absurd (cc)
+    by (Passes h) same = let both : (of r h.0 h.1, h.0) ≡ x = cc in ap (λ (y : Signature × List Parameter). y.0.name) (sym both) ∙ named r h.0 h.1
 
 -- a declared function has the name that is written
 pub declared_name : (g : Scope) (d : i.Function) (x : Signature × List Parameter) → declared_function g d ≡ Passes x → x.0.name ≡ d.name.number
-declared_name g d x is = named_so (result_type g d.result d.stars) (parameter_types g (listed d.parameters) (listed d.parameters) []) (λ r ps. signature_of d r ps) d.name.number x (λ r ps. refl) is
+declared_name g d x is = named_so (result_type g d.result d.stars) (λ r. heading_of g (listed d.parameters) r d.bounds) (λ r ps b. signature_of d r ps b) d.name.number x (λ r ps b. refl) is
 
 -- a body in which a rule is broken
 broken_body : (at : Places) (f : Signature) (ps : List Parameter) (body : Statements) (g : Scope) (h : Scope) (stop : Stop) → h ≡ inside f ps body g → statements at h body ≡ Stops stop → body_core at g f ps body ≡ Stops stop
@@ -204,18 +224,18 @@ checked_once false off span = refl
 
 -- behind a declaration, by the name that is written
 pub function_walk : {new : Walk} {r : Result (Unit {0}) CheckError} (at : Places) (all : List Item) (w : Walk) (d : i.Function) (x : Signature × List Parameter) → declared_function w.scope d ≡ Passes x → Answers {C = Unit {0}} (λ u. new) (behind_declaration at all w d x) r
-    → Answers {C = Unit {0}} (λ u. new) (passing (declared_function w.scope d) (λ y. passing (function_body at (record w { scope = with_function (function_named w.scope.functions d.name.number) y.0 w.scope }) y.0 y.1 d.body) (λ v. passing (kept_rules all d (agrees (function_named w.scope.functions d.name.number) y.0 && (all_scalar y.0.parameters && scalar_result y.0.result)) v.scope) (λ u. Passes v)))) r
+    → Answers {C = Unit {0}} (λ u. new) (passing (declared_function w.scope d) (λ y. passing (function_body at (record w { scope = with_function (function_named w.scope.functions d.name.number) y.0 w.scope }) y.0 y.1 d.body) (λ v. passing (kept_rules all d (declared_fits w.scope d.name.number y) (declared_changed w.scope d d.name.number y) v.scope) (λ u. Passes v)))) r
 function_walk {new = new} {r = r} at all w d x first rest =
     let named = declared_name w.scope d x first in
     rw first
-    (subst (λ name. Answers {C = Unit {0}} (λ u. new) (passing (function_body at (record w { scope = with_function (function_named w.scope.functions name) x.0 w.scope }) x.0 x.1 d.body) (λ v. passing (kept_rules all d (agrees (function_named w.scope.functions name) x.0 && (all_scalar x.0.parameters && scalar_result x.0.result)) v.scope) (λ u. Passes v))) r) named rest)
+    (subst (λ name. Answers {C = Unit {0}} (λ u. new) (passing (function_body at (record w { scope = with_function (function_named w.scope.functions name) x.0 w.scope }) x.0 x.1 d.body) (λ v. passing (kept_rules all d (declared_fits w.scope name x) (declared_changed w.scope d name x) v.scope) (λ u. Passes v))) r) named rest)
 
--- the scope behind a declaration
+-- the scope behind a declaration, and what its body changes
 pub behind_scope : {new : Walk} {r : Result (Unit {0}) CheckError} (at : Places) (all : List Item) (w : Walk) (d : i.Function) (x : Signature × List Parameter) (mid : Scope) → mid ≡ with_function (function_named w.scope.functions x.0.name) x.0 w.scope
-    → Answers {C = Unit {0}} (λ u. new) (passing (function_body at (record w { scope = mid }) x.0 x.1 d.body) (λ v. passing (kept_rules all d (agrees (function_named w.scope.functions x.0.name) x.0 && (all_scalar x.0.parameters && scalar_result x.0.result)) v.scope) (λ u. Passes v))) r
+    → Answers {C = Unit {0}} (λ u. new) (passing (function_body at (record w { scope = mid }) x.0 x.1 d.body) (λ v. passing (kept_rules all d (declared_fits w.scope x.0.name x) (first_changed_in mid x.0 x.1 d.body) v.scope) (λ u. Passes v))) r
     → Answers {C = Unit {0}} (λ u. new) (behind_declaration at all w d x) r
 behind_scope {new = new} {r = r} at all w d x mid known rest =
-    subst (λ (g : Scope). Answers {C = Unit {0}} (λ u. new) (passing (function_body at (record w { scope = g }) x.0 x.1 d.body) (λ v. passing (kept_rules all d (agrees (function_named w.scope.functions x.0.name) x.0 && (all_scalar x.0.parameters && scalar_result x.0.result)) v.scope) (λ u. Passes v))) r) known rest
+    subst (λ (g : Scope). Answers {C = Unit {0}} (λ u. new) (passing (function_body at (record w { scope = g }) x.0 x.1 d.body) (λ v. passing (kept_rules all d (declared_fits w.scope x.0.name x) (first_changed_in g x.0 x.1 d.body) v.scope) (λ u. Passes v))) r) known rest
 
 pub room_left : (o : Option Signature) (b : Bool) → (is_some o || b) ≡ true → o ≡ None → b ≡ true
 room_left None b some none = some

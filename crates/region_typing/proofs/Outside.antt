@@ -10,11 +10,11 @@ use Rattle.pointer_modes.specs.Types as types
 use Rattle.pointer_modes.specs.Types.{CType}
 use Rattle.ckc_core.specs.Programs.{Initial}
 use Rattle.region_typing_rules.specs.Verdicts.{Verdict, Passes, picked}
-use Rattle.region_typing_rules.specs.Scopes.{Scope, Signature, function_named}
+use Rattle.region_typing_rules.specs.Scopes.{Scope, Signature, WrittenBounds, function_named}
 use Rattle.region_typing_rules.specs.Types.{base_type, without_stars}
 use Rattle.region_typing_rules.specs.Expressions.{Places, is_tainted}
 use Rattle.region_typing_rules.specs.Statements.{is_unchecked, statements}
-use Rattle.region_typing_rules.specs.Items.{Parameter, Walk, WalkedVariable, is_struct, member_types, scalar_members, with_struct, member_names, structure, with_variable, length_of, room_for, room_for_first, initializer, variables, object_cells, with_objects, global, listed, parameter_types, result_type, agrees, all_scalar, scalar_result, with_function, inside, function_body, is_defined, function_rules, signature_of, function, is_off, item}
+use Rattle.region_typing_rules.specs.Items.{Parameter, Walk, WalkedVariable, is_struct, member_types, scalar_members, with_struct, member_names, structure, with_variable, length_of, room_for, room_for_first, initializer, variables, object_cells, with_objects, global, listed, parameter_types, result_type, agrees, all_scalar, scalar_result, with_function, inside, function_body, is_defined, function_rules, signature_of, function, is_off, item, bounds_of_result, first_changed_in, without_change}
 use Rattle.region_typing_rules.proofs.Verdicts.{Promises, passing_promises, needs_promises, anything_promised}
 use Rattle.region_typing.specs.Items.{Outside}
 
@@ -70,11 +70,16 @@ body_outside at w f ps (Some body) o =
     passing_promises (λ _. Unit {0}) OutsideBehind (statements at (inside f ps body.statements w.scope) body.statements) _ (anything_promised (statements at (inside f ps body.statements w.scope) body.statements))
     (λ x _. needs_promises OutsideBehind (not (is_unchecked body.mark || w.scope.is_off)) E15 body.span _ (λ _. o))
 
-rules_outside : (all : List Item) (d : i.Function) (f : Signature) (known : Option Signature) (w : Walk) → Outside w.scope → Promises OutsideBehind (function_rules all d f known w)
-rules_outside all d f known w o =
+change_outside : (changed : Option Span) (next : Verdict Walk) → Promises OutsideBehind next → Promises OutsideBehind (without_change changed next)
+change_outside None next h = h
+change_outside (Some at) next h = tt
+
+rules_outside : (all : List Item) (d : i.Function) (f : Signature) (known : Option Signature) (changed : Option Span) (w : Walk) → Outside w.scope → Promises OutsideBehind (function_rules all d f known changed w)
+rules_outside all d f known changed w o =
     needs_promises OutsideBehind (agrees known f && (all_scalar f.parameters && scalar_result f.result)) E13 d.span _
     (λ _. needs_promises OutsideBehind (picked (is_tainted d.kind) true (is_defined all d.name.number)) E10 d.span _
-    (λ _. needs_promises OutsideBehind (not (is_unchecked d.mark)) E15 d.span _ (λ _. needs_promises OutsideBehind (not w.scope.is_off) E15 d.span _ (λ _. o))))
+    (λ _. change_outside changed _
+    (needs_promises OutsideBehind (not (is_unchecked d.mark)) E15 d.span _ (λ _. needs_promises OutsideBehind (not w.scope.is_off) E15 d.span _ (λ _. o)))))
 
 function_outside : (at : Places) (all : List Item) (w : Walk) (d : i.Function) → Outside w.scope → Promises OutsideBehind (function at all w d)
 function_outside at all w d o =
@@ -82,9 +87,10 @@ function_outside at all w d o =
     needs_promises OutsideBehind (is_some known || nat_lt (length w.scope.functions) 4096) E08 d.span _
     (λ _. passing_promises (λ (t : Option CType). Unit {0}) OutsideBehind (result_type w.scope d.result d.stars) _ (anything_promised (result_type w.scope d.result d.stars))
     (λ t _. passing_promises (λ (ps : List Parameter). Unit {0}) OutsideBehind (parameter_types w.scope (listed d.parameters) (listed d.parameters) []) _ (anything_promised (parameter_types w.scope (listed d.parameters) (listed d.parameters) []))
-    (λ ps _. passing_promises OutsideBehind OutsideBehind (function_body at (record w { scope = with_function known (signature_of d t ps) w.scope }) (signature_of d t ps) ps d.body) _
-    (body_outside at (record w { scope = with_function known (signature_of d t ps) w.scope }) (signature_of d t ps) ps d.body (known_outside known (signature_of d t ps) w.scope o))
-    (λ x h. rules_outside all d (signature_of d t ps) known x h))))
+    (λ ps _. passing_promises (λ (b : WrittenBounds). Unit {0}) OutsideBehind (bounds_of_result w.scope (listed d.parameters) t d.bounds) _ (anything_promised (bounds_of_result w.scope (listed d.parameters) t d.bounds))
+    (λ b _. passing_promises OutsideBehind OutsideBehind (function_body at (record w { scope = with_function known (signature_of d t ps b) w.scope }) (signature_of d t ps b) ps d.body) _
+    (body_outside at (record w { scope = with_function known (signature_of d t ps b) w.scope }) (signature_of d t ps b) ps d.body (known_outside known (signature_of d t ps b) w.scope o))
+    (λ x h. rules_outside all d (signature_of d t ps b) known (first_changed_in (with_function known (signature_of d t ps b) w.scope) (signature_of d t ps b) ps d.body) x h)))))
 
 item_outside : (at : Places) (all : List Item) (w : Walk) (x : Item) → Outside w.scope → Promises OutsideBehind (item at all w x)
 item_outside at all w (i.RegionItem region span) o = ap (λ (g : Scope). record g { is_off = is_off region }) o

@@ -1,7 +1,9 @@
 -- The bounds of parameters.
-use Rattle.std.proofs.Common.{◌≡◌, ℕ, suc, ◌+◌, ◌<◌, ◌≤◌, Bool, true, false, ◌||◌, List, [], ◌∷◌, ◌++◌, length, map, drop, take, get_or, reverse, is_some, Option, Some, None, refl, ap, sym, ◌∙◌, add-one, arith, append_assoc}
+use Rattle.std.proofs.Common.{◌≡◌, ℕ, suc, ◌+◌, ◌<◌, ◌≤◌, Bool, true, false, ◌||◌, List, [], ◌∷◌, ◌++◌, length, map, drop, take, get_or, reverse, is_some, is_none, Option, Some, None, refl, ap, sym, ◌∙◌, add-one, arith, append_assoc}
 use Rattle.std.proofs.lemmas.List.{reverse-append, map-append, take-append-drop}
 use Rattle.std.proofs.lemmas.List.Elements.{All-push}
+use Rattle.ckc_text.specs.declared.place.Span.{Span}
+use Rattle.ckc_text.specs.declared.code.Code.TheVariants.{E16}
 use Rattle.ckc_tree.specs.Expressions as e
 use Rattle.ckc_tree.specs.Items.{Member}
 use Rattle.bounds_exprs.specs.declared.term.Bounds.{Bounds}
@@ -9,16 +11,18 @@ use Rattle.bounds_flow.specs.Conditions.{AreBoundsBelow}
 use Rattle.bounds_flow.specs.Flows.{Knowledge, entered}
 use Rattle.subsumption.specs.Facts.{IsBelow}
 use Rattle.pointer_modes.specs.Types.{CType, ctype}
-use Rattle.region_typing_rules.specs.Scopes.{Scope, Visible, bounds_in}
+use Rattle.region_typing_rules.specs.Scopes.{Scope, Visible, WrittenBounds, bounds_in}
 use Rattle.region_typing_rules.specs.Knowing.{knowing}
-use Rattle.region_typing_rules.specs.Items.{types_ahead, seen_parameters, among_parameters, with_bounds}
+use Rattle.region_typing_rules.specs.Verdicts.{Verdict, Passes, Stops, passing, needs}
+use Rattle.region_typing_rules.specs.DeclaredBounds.{declared_bounds}
+use Rattle.region_typing_rules.specs.Items.{types_ahead, seen_parameters, among_parameters, with_bounds, type_of_result, bounds_of_result}
 use Rattle.pointer_modes.specs.declared.ctype.CType as code_type
 use Rattle.region_typing_scope.specs.declared.visible.Visible as code_visible
 use Rattle.region_typing_scope.specs.Views.{visible}
 use Rattle.region_typing_scope.proofs.Steps.{parts_at, no_parts}
 use Rattle.region_typing.specs.declared.prototype.TypedParameter.{TypedParameter}
 use Rattle.region_typing.specs.declared.parameters.Among.{Among}
-use Rattle.region_typing.specs.Items.{bounds_written}
+use Rattle.region_typing.specs.Items.{bounds_written, result_written}
 use Rattle.region_typing.specs.Parameters.{parameter, AreOver, any_bounds, IsAmong}
 
 -- ---- the names of parameters
@@ -40,7 +44,7 @@ seen_more ps p rest local next all seen new is behind more so_far =
 
 -- ---- whether bounds are written
 
-or_true : (a b : Bool) → b ≡ true → (a || b) ≡ true
+pub or_true : (a b : Bool) → b ≡ true → (a || b) ≡ true
 or_true true b h = refl
 or_true false b h = h
 
@@ -109,3 +113,25 @@ pub known_alone : (a b g : Scope) (f : Knowledge) → b ≡ knowing f a → a �
 known_alone a b g f known same =
     let flow : b.flow ≡ f = ap (λ (h : Scope). h.flow) known in
     known ∙ ap (knowing f) same ∙ ap (λ h. knowing h g) (sym flow)
+
+-- ---- what is written for the bounds of a result
+
+kept_so : (c : Bool) (b : Bounds) (span : Span) → ◌≡◌ {A = Verdict WrittenBounds} (needs c E16 span (Passes (Some (Some b)))) (passing (needs c E16 span (Passes (Some b))) (λ kept. Passes (Some kept)))
+kept_so true b span = refl
+kept_so false b span = refl
+
+-- in the place of all parameters it is that of the result
+pub result_in_place : (g : Scope) (all : List Member) (result : Option CType) (written : Option e.Bounds) → result_written (among_parameters g all) result (length all) written ≡ bounds_of_result g all result written
+result_in_place g all result None = refl
+result_in_place g all result (Some text) = by (declared_bounds (among_parameters g all) (type_of_result result) (length all) (Some text)) refl
+  where
+    by : (v : Verdict (Option Bounds)) → declared_bounds (among_parameters g all) (type_of_result result) (length all) (Some text) ≡ v → result_written (among_parameters g all) result (length all) (Some text) ≡ bounds_of_result g all result (Some text)
+    by (Stops stop) h = rw h refl
+    by (Passes None) h = rw h refl
+    by (Passes (Some b)) h = rw h (kept_so (is_none b.base) b (e.bounds_span text))
+
+-- where there is one
+pub result_among : (g h : Scope) (all : List Member) (result : Option CType) (number : ℕ) (written : Option e.Bounds) → (is_some written ≡ true → h ≡ among_parameters g all) → number ≡ length all → result_written h result number written ≡ bounds_of_result g all result written
+result_among g h all result number None there count = refl
+result_among g h all result number (Some text) there count =
+    ap (λ k. result_written k result number (Some text)) (there refl) ∙ ap (λ n. result_written (among_parameters g all) result n (Some text)) count ∙ result_in_place g all result (Some text)

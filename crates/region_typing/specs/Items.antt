@@ -1,9 +1,10 @@
 -- Inside: what is known behind an item, as the code holds it, and steps of the walks over items.
-use Rattle.std.specs.Prelude.{◌≡◌, ℕ, Bool, true, false, not, ◌&&◌, List, [], ◌∷◌, ◌++◌, length, map, nat_lt, Option, None}
+use Rattle.std.specs.Prelude.{◌≡◌, ℕ, Bool, true, false, not, ◌&&◌, List, [], ◌∷◌, ◌++◌, length, map, nat_lt, Option, Some, None, is_none}
 use Rattle.ckc_text.specs.declared.place.Span.{Span}
-use Rattle.ckc_text.specs.declared.code.Code.TheVariants.{E08, E10, E13, E15}
+use Rattle.ckc_text.specs.declared.code.Code.TheVariants.{E08, E10, E13, E15, E16}
 use Rattle.ckc_tree.specs.Types.{TypeTree, type_span}
-use Rattle.ckc_tree.specs.Expressions.{Bounds}
+use Rattle.ckc_tree.specs.Expressions.{Bounds, bounds_span}
+use Rattle.bounds_exprs.specs.declared.term.Bounds.{Bounds as Ends}
 use Rattle.ckc_tree.specs.Items as i
 use Rattle.ckc_tree.specs.Statements.{Initializer, Declarator, Statements}
 use Rattle.pointer_modes.specs.Types as types
@@ -11,12 +12,14 @@ use Rattle.pointer_modes.specs.Types.{CType}
 use Rattle.ckc_core.specs.Core as core
 use Rattle.ckc_core.specs.Core.{object, function}
 use Rattle.region_typing_rules.specs.Verdicts.{Verdict, Passes, passing, needs, picked}
-use Rattle.region_typing_rules.specs.Scopes.{Scope, Signature, WrittenBounds, function_named}
+use Rattle.region_typing_rules.specs.Scopes.{Scope, Signature, WrittenBounds, bounds_in, function_named}
 use Rattle.region_typing_rules.specs.Types.{type_named, without_stars}
 use Rattle.region_typing_rules.specs.Expressions.{Places, is_tainted}
 use Rattle.region_typing_rules.specs.DeclaredBounds.{declared_bounds}
 use Rattle.region_typing_rules.specs.Statements.{statements, is_unchecked}
 use Rattle.region_typing_rules.specs.Items.{Parameter, Defined, Walk, among_parameters, written_as, with_variable, room_for, length_of, initializer, inside, core_function, function_body}
+use Rattle.region_typing_rules.specs.Items.{parameter_types, type_of_result, bounds_of_result, names, first_changed_in, without_change}
+use Rattle.region_typing_rules.specs.KeptParameters.{all_changed}
 use Rattle.region_typing_rules.specs.Items.{with_function, agrees, all_scalar, scalar_result, is_defined, in_checked_region}
 use Rattle.region_typing_scope.specs.Views.{scope}
 use Rattle.bounds_flow.specs.Flows.{at_entry}
@@ -33,7 +36,17 @@ walk w = record { scope = scope w.scope; objects = map object w.objects.items; t
 -- no function is walked
 abbrev pub Outside : Scope → Type 0
 Outside g =
-    g ≡ record g { locals = []; visible = []; result = None; in_loop = false; outside = 0; flow = at_entry 0; breaks = None; continues = None }
+    g ≡ record g {
+      locals = [];
+      visible = [];
+      result = None;
+      result_bounds = None;
+      in_loop = false;
+      outside = 0;
+      flow = at_entry 0;
+      breaks = None;
+      continues = None;
+    }
 
 -- a member more (E08)
 abbrev pub one_member : Scope → i.Member → List types.Member → Verdict (List types.Member)
@@ -51,6 +64,21 @@ one_parameter g all p done =
     needs (nat_lt (length done) 16) E08 (type_span p.type.base)
     (passing (type_named g p.type) (λ t. passing (bounds_written (among_parameters g all) t (length done) p.bounds) (λ b.
     Passes (done ++ record { name = p.name.number; type = t; bounds = b } ∷ []))))
+
+-- bounds that count from no pointer
+abbrev pub has_no_base : Option Ends → Bool
+has_no_base None = true
+has_no_base (Some b) = is_none b.base
+
+-- what is written for the bounds of the result of a function, which has this number (E16)
+abbrev pub result_written : Scope → Option CType → ℕ → Option Bounds → Verdict WrittenBounds
+result_written g result number None = Passes None
+result_written g result number (Some text) =
+    passing (declared_bounds g (type_of_result result) number (Some text)) (λ b. needs (has_no_base b) E16 (bounds_span text) (Passes (Some b)))
+
+-- parameters, and what is written for the bounds of the result over them
+abbrev pub heading_of : Scope → List i.Member → Option CType → Option Bounds → Verdict (List Parameter × WrittenBounds)
+heading_of g all result bounds = passing (parameter_types g all all []) (λ ps. passing (bounds_of_result g all result bounds) (λ b. Passes (ps, b)))
 
 -- a variable of a type with what it is initialised with
 pub record JudgedVariable : Type 0 where
@@ -95,16 +123,23 @@ judged_objects span (v ∷ vs) w = passing (one_object span v w) (λ x. judged_o
 abbrev pub body_core : Places → Scope → Signature → List Parameter → Statements → Verdict (core.Function × Scope)
 body_core at g f parameters body = passing (statements at (inside f parameters body g) body) (λ x. Passes (core_function f parameters x.0 x.1, g))
 
--- what is asked of a function whose body was walked (E13, E10, E15)
-abbrev pub kept_rules : List i.Item → i.Function → Bool → Scope → Verdict (Unit {0})
-kept_rules all d fits g =
+-- where a body first assigns a parameter that the bounds of its function's result name
+abbrev pub changed_in : Scope → Signature → List Parameter → Statements → Option Span
+changed_in g f parameters body =
+    all_changed (names (bounds_in f.result_bounds)) (length (inside f parameters body g).locals) (inside f parameters body g).visible body
+
+-- what is asked of a function whose body was walked (E13, E10, E29, E15)
+abbrev pub kept_rules : List i.Item → i.Function → Bool → Option Span → Scope → Verdict (Unit {0})
+kept_rules all d fits changed g =
     needs fits E13 d.span
     (needs (picked (is_tainted d.kind) true (is_defined all d.name.number)) E10 d.span
-    (needs (not (is_unchecked d.mark)) E15 d.span (in_checked_region g d.span tt)))
+    (without_change changed
+    (needs (not (is_unchecked d.mark)) E15 d.span (in_checked_region g d.span tt))))
 
 -- what is asked of a function behind its declaration
 abbrev pub behind_declaration : Places → List i.Item → Walk → i.Function → Signature × List Parameter → Verdict Walk
 behind_declaration at all w d x =
     passing (function_body at (record w { scope = with_function (function_named w.scope.functions x.0.name) x.0 w.scope }) x.0 x.1 d.body) (λ v.
     passing (kept_rules all d (agrees (function_named w.scope.functions x.0.name) x.0
-    && (all_scalar x.0.parameters && scalar_result x.0.result)) v.scope) (λ u. Passes v))
+    && (all_scalar x.0.parameters && scalar_result x.0.result))
+    (first_changed_in (with_function (function_named w.scope.functions x.0.name) x.0 w.scope) x.0 x.1 d.body) v.scope) (λ u. Passes v))

@@ -6,21 +6,20 @@ ghost use Rattle.ckc_text.specs.Places.{place_at};
 ghost use Rattle.ckc_tree.specs.Items.{result_form as result_tree, body as body_tree, statement_list};
 ghost use Rattle.pointer_modes.specs.Types.{ctype as ctype_of};
 ghost use Rattle.ckc_core.specs.Core.{function as function_of, statements_of};
-ghost use Rattle.region_typing_rules.specs.Scopes.{bounds_in as bounds_in_written};
 ghost use Rattle.region_typing_rules.specs.Knowing.{knowing};
-ghost use Rattle.region_typing_rules.specs.Items.{result_type as result_type_of, with_parameters, with_bounds, inside, function_body as function_body_of};
+ghost use Rattle.region_typing_rules.specs.Items.{result_type as result_type_of, with_parameters, with_bounds, inside, first_changed_in, function_body as function_body_of};
 ghost use Rattle.region_typing_scope.specs.Answering.{Answers};
 ghost use Rattle.region_typing_scope.specs.Views.{scope as scope_of, signature};
 ghost use Rattle.region_typing.specs.Parameters.{parameter as parameter_of, AreOver};
-ghost use Rattle.region_typing.specs.Items.{walk as walk_of, Outside, body_core};
+ghost use Rattle.region_typing.specs.Items.{walk as walk_of, Outside, body_core, changed_in};
 
 use crate::prototype::TypedParameter;
 use crate::signatures::copied_signature;
 use crate::walk::{Defined, Walk};
-use bounds_exprs::term::Bounds;
 use ckc_core::program::{Function, Stmt};
 use ckc_text::code::Code;
 use ckc_text::fault::NoMemory;
+use ckc_text::place::Span;
 use ckc_tree::item::{Block, ResultForm};
 use ckc_tree::stmt;
 use pointer_modes::ctype::CType;
@@ -28,8 +27,9 @@ use region_typing_flow::counts::variables_in;
 use region_typing_scope::context::Context;
 use region_typing_scope::refusals::{CheckError, needs};
 use region_typing_scope::scope::Scope;
-use region_typing_scope::signature::Signature;
+use region_typing_scope::signature::{Signature, bounds_in};
 use region_typing_scope::types::{base_type, copied, without_stars};
+use region_typing_statements::changes::first_change;
 use region_typing_statements::marks::is_checked;
 use region_typing_statements::statements::statements;
 
@@ -83,16 +83,6 @@ fn add_parameters(
     Ok(())
 }
 
-// The bounds that are written, where some are, and not that they are unknown.
-fn bounds_in(written: &Option<Option<Bounds>>) -> Option<Bounds>
-    ensures { result ≡ bounds_in_written written.now }
-{
-    match written {
-        None => None,
-        Some(bounds) => *bounds,
-    }
-}
-
 // The bounds that are declared for parameters, which are the first locals.
 fn add_bounds(scope: &mut Scope, parameters: &[TypedParameter]) -> Result<(), NoMemory>
     requires there { length scope.old.locals.items ≡ length parameters.now }
@@ -123,7 +113,9 @@ fn enter(
     let variables = variables_in(parameters.len() as u32, body);
     scope.enter(context, result, variables)?;
     add_parameters(context, scope, parameters)?;
-    add_bounds(scope, parameters)
+    add_bounds(scope, parameters)?;
+    scope.ask_result(bounds_in(&f.result_bounds));
+    Ok(())
 }
 
 // A function with its statements.
@@ -140,6 +132,13 @@ fn core_function(f: Signature, parameters: usize, locals: Vec<CType>, body: Vec<
     }
 }
 
+// A function with its statements, and where these first assign a parameter that the bounds of its result name.
+#[derive(Drop)]
+struct Built {
+    function: Function,
+    changed: Option<Span>,
+}
+
 // The core of a function with a body, whose locals are gone behind it.
 fn body_of(
     context: &Context,
@@ -147,57 +146,63 @@ fn body_of(
     f: &Signature,
     parameters: &[TypedParameter],
     body: &[stmt::Stmt],
-) -> Result<Function, CheckError>
+) -> Result<Built, CheckError>
     requires few { length parameters.now ≤ 16 }
     requires below { AreOver (length parameters.now) parameters.now }
     requires outside { Outside (scope_of scope.old) }
-    ensures { Answers (λ c. (function_of c, scope_of scope.new)) (body_core (place_at context.now) (scope_of scope.old) (signature f.now) (map parameter_of parameters.now) (statement_list body.now)) result }
+    ensures core { Answers (λ b. (function_of b.function, scope_of scope.new)) (body_core (place_at context.now) (scope_of scope.old) (signature f.now) (map parameter_of parameters.now) (statement_list body.now)) result }
+    ensures changed { IfOk result (λ b. b.changed ≡ changed_in (scope_of scope.old) (signature f.now) (map parameter_of parameters.now) (statement_list body.now)) }
 {
     enter(context, scope, f, parameters, body)?;
+    let changed = first_change(context, scope, body)?;
     let built = statements(context, scope, body)?;
     let heading = copied_signature(context, f)?;
     let locals = scope.exit(context)?;
-    Ok(core_function(heading, parameters.len(), locals, built))
+    let function = core_function(heading, parameters.len(), locals, built);
+    Ok(Built { function, changed })
 }
 
-// The body of a function.
+// The body of a function, and where it first assigns a parameter that the bounds of the result name.
 fn with_body(
     context: &Context,
     walk: &mut Walk,
     f: &Signature,
     parameters: &[TypedParameter],
     body: &Block,
-) -> Result<(), CheckError>
+) -> Result<Option<Span>, CheckError>
     requires few { length parameters.now ≤ 16 }
     requires below { AreOver (length parameters.now) parameters.now }
     requires outside { Outside (scope_of walk.old.scope) }
-    ensures { Answers (λ _. walk_of walk.new) (function_body_of (place_at context.now) (walk_of walk.old) (signature f.now) (map parameter_of parameters.now) (Some (body_tree body.now))) result }
+    ensures core { Answers (λ _. walk_of walk.new) (function_body_of (place_at context.now) (walk_of walk.old) (signature f.now) (map parameter_of parameters.now) (Some (body_tree body.now))) result }
+    ensures changed { IfOk result (λ changed. changed ≡ first_changed_in (scope_of walk.old.scope) (signature f.now) (map parameter_of parameters.now) (Some (body_tree body.now))) }
 {
     let checked = is_checked(&walk.scope, body.mark);
     let written = body.statements.as_slice();
     let built = body_of(context, &mut walk.scope, f, parameters, written)?;
     walk.bodies.push(Defined {
         name: f.name,
-        function: built,
+        function: built.function,
     })?;
-    needs(checked, Code::E15, body.span)
+    needs(checked, Code::E15, body.span)?;
+    Ok(built.changed)
 }
 
-/// The body of a function, if it has one.
+/// The body of a function, if it has one, and where it first assigns a parameter that the bounds of the result name.
 pub fn function_body(
     context: &Context,
     walk: &mut Walk,
     f: &Signature,
     parameters: &[TypedParameter],
     body: &Option<Block>,
-) -> Result<(), CheckError>
+) -> Result<Option<Span>, CheckError>
     requires few { length parameters.now ≤ 16 }
     requires below { AreOver (length parameters.now) parameters.now }
     requires outside { Outside (scope_of walk.old.scope) }
-    ensures { Answers (λ _. walk_of walk.new) (function_body_of (place_at context.now) (walk_of walk.old) (signature f.now) (map parameter_of parameters.now) (option_map body_tree body.now)) result }
+    ensures core { Answers (λ _. walk_of walk.new) (function_body_of (place_at context.now) (walk_of walk.old) (signature f.now) (map parameter_of parameters.now) (option_map body_tree body.now)) result }
+    ensures changed { IfOk result (λ changed. changed ≡ first_changed_in (scope_of walk.old.scope) (signature f.now) (map parameter_of parameters.now) (option_map body_tree body.now)) }
 {
     match body {
-        None => Ok(()),
+        None => Ok(None),
         Some(body) => with_body(context, walk, f, parameters, body),
     }
 }

@@ -21,6 +21,7 @@ use crate::signatures::{agrees, declare, declared, is_scalar_signature};
 use crate::structures::structure;
 use crate::walk::Walk;
 use ckc_text::code::Code;
+use ckc_text::place::Span;
 use ckc_tree::item::{Function, FunctionKind, Item, Region};
 use region_typing_scope::context::Context;
 use region_typing_scope::refusals::{CheckError, needs};
@@ -49,12 +50,18 @@ fn fits(scope: &Scope, f: &Signature) -> bool
 }
 
 // The rules of a function whose body was walked.
-fn keep_rules(listing: &Listing, scope: &Scope, d: &Function, fits: bool) -> Result<(), CheckError>
-    ensures { Answers (λ x. x) (kept_rules (map item_tree listing.now.items.now) (function_tree d.now) fits (scope_of scope.now)) result }
+fn keep_rules(
+    listing: &Listing,
+    scope: &Scope,
+    d: &Function,
+    fits: bool,
+    changed: Option<Span>,
+) -> Result<(), CheckError>
+    ensures { Answers (λ x. x) (kept_rules (map item_tree listing.now.items.now) (function_tree d.now) fits changed (scope_of scope.now)) result }
 {
     let has_body = has_body(listing, d);
     let is_checked = is_checked(scope, d.mark);
-    keep_function_rules(fits, has_body, is_checked, d.span)
+    keep_function_rules(fits, has_body, changed, is_checked, d.span)
 }
 
 // Whether a function is known, or there is room for one more.
@@ -79,8 +86,8 @@ fn with_prototype(
     let suits = fits(&walk.scope, &known.signature);
     declare(context, &mut walk.scope, &known.signature)?;
     let parameters = known.parameters.as_slice();
-    function_body(context, walk, &known.signature, parameters, &d.body)?;
-    keep_rules(listing, &walk.scope, d, suits)
+    let changed = function_body(context, walk, &known.signature, parameters, &d.body)?;
+    keep_rules(listing, &walk.scope, d, suits, changed)
 }
 
 // A function.

@@ -1,6 +1,6 @@
-// Parameters of functions, with their bounds.
+// Parameters of functions with their bounds, and the bounds of results over them.
 
-ghost use Rattle.std.specs.Prelude.{◌≡◌, ◌≤◌, ◌+◌, ℕ, true, [], List, length, map, reverse, is_some, IfOk, OnOk};
+ghost use Rattle.std.specs.Prelude.{◌≡◌, ◌≤◌, ◌+◌, ◌||◌, ℕ, true, [], List, length, map, reverse, is_some, IfOk, OnOk};
 ghost use Rattle.std.specs.Option.{option_map};
 ghost use Rattle.ckc_tree.specs.Types.{type_name as type_name_of};
 ghost use Rattle.ckc_tree.specs.Expressions.{bounds as bounds_tree};
@@ -9,14 +9,15 @@ ghost use Rattle.pointer_modes.specs.Types.{ctype as ctype_of};
 ghost use Rattle.bounds_flow.specs.Conditions.{AreBoundsBelow};
 ghost use Rattle.region_typing_rules.specs.Scopes.{bounds_in};
 ghost use Rattle.region_typing_rules.specs.Types.{type_named as type_named_of};
-ghost use Rattle.region_typing_rules.specs.Items.{listed as listed_of, type_ahead as type_ahead_of, types_ahead as types_ahead_of, seen_parameters as seen_parameters_of, among_parameters as among_parameters_of, parameter_types as parameter_types_of};
+ghost use Rattle.region_typing_rules.specs.Items.{listed as listed_of, type_ahead as type_ahead_of, types_ahead as types_ahead_of, seen_parameters as seen_parameters_of, among_parameters as among_parameters_of, parameter_types as parameter_types_of, type_of_result};
+ghost use Rattle.region_typing_rules.specs.DeclaredBounds.{declared_bounds as declared_bounds_of};
 ghost use Rattle.region_typing_scope.specs.Answering.{Answers};
 ghost use Rattle.region_typing_scope.specs.Views.{scope as scope_of, visible as visible_of};
 ghost use Rattle.region_typing_bounds.specs.Views.{place as place_view};
-ghost use Rattle.region_typing.specs.Parameters.{parameter as parameter_of, AreOver, any_bounds as any_bounds_of, IsAmong};
-ghost use Rattle.region_typing.specs.Items.{bounds_written, one_parameter};
+ghost use Rattle.region_typing.specs.Parameters.{parameter as parameter_of, heading as heading_view, AreOver, any_bounds as any_bounds_of, IsAmong};
+ghost use Rattle.region_typing.specs.Items.{bounds_written, one_parameter, has_no_base as has_no_base_of, result_written, heading_of};
 
-use crate::prototype::TypedParameter;
+use crate::prototype::{Heading, TypedParameter};
 use bounds_exprs::term::Bounds;
 use ckc_text::code::Code;
 use ckc_text::fault::NoMemory;
@@ -62,6 +63,16 @@ fn any_bounds(written: &[Parameter]) -> bool
         }
     }
     false
+}
+
+// Whether the parameters are asked for in bounds: in those of the result, or in those of one of them.
+fn is_asked(all: &[Parameter], bounds: &Option<BoundsText>) -> bool
+    ensures { result ≡ (is_some (option_map bounds_tree bounds.now) || any_bounds_of (map parameter_tree all.now)) }
+{
+    match bounds {
+        None => any_bounds(all),
+        Some(_) => true,
+    }
 }
 
 // What bounds may know of the type of a parameter: one that breaks a rule has no place in them, and is refused later.
@@ -112,16 +123,17 @@ fn seen_parameters(context: &Context, written: &[Parameter]) -> Result<Vec<Visib
     Ok(visible)
 }
 
-// All parameters as they are visible in bounds; none where no bounds are written.
+// All parameters as they are visible in bounds; none where these aren't asked for.
 fn among_parameters(
     context: &Context,
     scope: &Scope,
     written: &[Parameter],
+    asked: bool,
 ) -> Result<Among, NoMemory>
-    ensures known { IfOk result (λ a. any_bounds_of (map parameter_tree written.now) ≡ true → IsAmong (scope_of scope.now) (map parameter_tree written.now) a) }
+    ensures known { IfOk result (λ a. asked ≡ true → IsAmong (scope_of scope.now) (map parameter_tree written.now) a) }
     ensures few { IfOk result (λ a. length a.types.items ≤ length written.now) }
 {
-    if any_bounds(written) {
+    if asked {
         let types = types_ahead(context, scope, written)?;
         let visible = seen_parameters(context, written)?;
         return Ok(Among { types, visible });
@@ -180,26 +192,98 @@ fn push_parameter(
     Ok(())
 }
 
-/// Parameters with their types and their bounds.
-pub fn parameter_types(
+// Parameters with their types and their bounds, in the place of all where bounds are written for one.
+fn parameter_types(
+    context: &Context,
+    place: &Place,
+    all: &[Parameter],
+) -> Result<Vec<TypedParameter>, CheckError>
+    requires { length place.now.locals.now ≤ length all.now }
+    ensures types { (any_bounds_of (map parameter_tree all.now) ≡ true → place_view place.now ≡ among_parameters_of (scope_of place.now.scope.now) (map parameter_tree all.now)) → Answers (λ v. map parameter_of v.items) (parameter_types_of (scope_of place.now.scope.now) (map parameter_tree all.now) (map parameter_tree all.now) []) result }
+    ensures few { IfOk result (λ v. length v.items ≤ 16) }
+    ensures each { IfOk result (λ v. length v.items ≡ length all.now) }
+    ensures below { IfOk result (λ v. AreOver (length v.items) v.items) }
+{
+    let mut parameters = Vec::new(context.alloc());
+    for parameter in all {
+        push_parameter(context, place, parameter, &mut parameters)?;
+    }
+    Ok(parameters)
+}
+
+// The bounds that are written for the result of a function, which has this number, in a place.
+fn bounds_in_place(
+    context: &Context,
+    place: &Place,
+    result_type: &Option<CType>,
+    number: u32,
+    written: &Option<BoundsText>,
+) -> Result<Option<Bounds>, CheckError>
+    ensures { Answers (λ b. b) (declared_bounds_of (place_view place.now) (type_of_result (option_map ctype_of result_type.now)) number (option_map bounds_tree written.now)) result }
+{
+    match result_type {
+        None => bounds_at(context, place, &CType::Int, number, written),
+        Some(t) => bounds_at(context, place, t, number, written),
+    }
+}
+
+// Whether bounds count from no pointer.
+fn has_no_base(bounds: &Option<Bounds>) -> bool
+    ensures { result ≡ has_no_base_of bounds.now }
+{
+    match bounds {
+        None => true,
+        Some(b) => b.base.is_none(),
+    }
+}
+
+// What is written for the bounds of the result of a function, which has this number, in a place.
+fn result_bounds(
+    context: &Context,
+    place: &Place,
+    result_type: &Option<CType>,
+    number: u32,
+    written: &Option<BoundsText>,
+) -> Result<Option<Option<Bounds>>, CheckError>
+    ensures { Answers (λ b. b) (result_written (place_view place.now) (option_map ctype_of result_type.now) number (option_map bounds_tree written.now)) result }
+{
+    let bounds = bounds_in_place(context, place, result_type, number, written)?;
+    match written {
+        None => Ok(None),
+        Some(text) => {
+            needs(has_no_base(&bounds), Code::E16, text.span())?;
+            Ok(Some(bounds))
+        }
+    }
+}
+
+/// Parameters with their types and their bounds, and the bounds of the result, all over the parameters.
+///
+/// # Errors
+///
+/// E08 at a parameter too many, what its type and its bounds break, and then what the bounds of the result break, which count
+/// from no pointer (E16).
+pub fn heading(
     context: &Context,
     scope: &Scope,
     written: &Parameters,
-) -> Result<Vec<TypedParameter>, CheckError>
-    ensures types { Answers (λ v. map parameter_of v.items) (parameter_types_of (scope_of scope.now) (listed_of (parameters_tree written.now)) (listed_of (parameters_tree written.now)) []) result }
-    ensures few { IfOk result (λ v. length v.items ≤ 16) }
-    ensures below { IfOk result (λ v. AreOver (length v.items) v.items) }
+    result_type: &Option<CType>,
+    bounds: &Option<BoundsText>,
+) -> Result<Heading, CheckError>
+    ensures known { Answers heading_view (heading_of (scope_of scope.now) (listed_of (parameters_tree written.now)) (option_map ctype_of result_type.now) (option_map bounds_tree bounds.now)) result }
+    ensures few { IfOk result (λ h. length h.parameters.items ≤ 16) }
+    ensures below { IfOk result (λ h. AreOver (length h.parameters.items) h.parameters.items) }
 {
     let all = listed(written);
-    let among = among_parameters(context, scope, all)?;
+    let asked = is_asked(all, bounds);
+    let among = among_parameters(context, scope, all, asked)?;
     let place = Place {
         scope,
         locals: among.types.as_slice(),
         visible: among.visible.as_slice(),
     };
-    let mut parameters = Vec::new(context.alloc());
-    for parameter in all {
-        push_parameter(context, &place, parameter, &mut parameters)?;
-    }
-    Ok(parameters)
+    let parameters = parameter_types(context, &place, all)?;
+    let number = parameters.len() as u32;
+    let bounds = result_bounds(context, &place, result_type, number, bounds)?;
+    Ok(Heading { parameters, bounds })
 }

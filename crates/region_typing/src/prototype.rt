@@ -20,6 +20,14 @@ pub struct TypedParameter {
     pub bounds: Option<Option<Bounds>>,
 }
 
+/// The parameters of a function, and what is written for the bounds of its result: nothing, that they are unknown, or bounds
+/// over the parameters.
+#[derive(Drop)]
+pub struct Heading {
+    pub parameters: Vec<TypedParameter>,
+    pub bounds: Option<Option<Bounds>>,
+}
+
 /// A declaration of a function: its signature, and its parameters with their names.
 #[derive(Drop)]
 pub struct Prototype {

@@ -12,8 +12,8 @@ ghost use Rattle.region_typing.specs.Parameters.{parameter as parameter_of};
 ghost use Rattle.region_typing.specs.Signatures.{declared as declared_view, declared_function};
 
 use crate::functions::{copied_result, result_type};
-use crate::parameters::parameter_types;
-use crate::prototype::{Prototype, TypedParameter};
+use crate::parameters::heading;
+use crate::prototype::{Heading, Prototype, TypedParameter};
 use bounds_exprs::term::Bounds;
 use ckc_text::fault::NoMemory;
 use ckc_tree::item::{Function, FunctionKind};
@@ -21,7 +21,7 @@ use pointer_modes::ctype::CType;
 use region_typing_scope::context::Context;
 use region_typing_scope::refusals::CheckError;
 use region_typing_scope::scope::Scope;
-use region_typing_scope::signature::{Signature, all_same_written, copied_bounds};
+use region_typing_scope::signature::{Signature, all_same_written, copied_bounds, same_written};
 use region_typing_scope::types::{copied, is_scalar, same_type};
 
 fn same_types(a: &[CType], b: &[CType]) -> bool
@@ -69,7 +69,8 @@ pub fn agrees(scope: &Scope, f: &Signature) -> bool
             same_kind(known.kind, f.kind)
                 && (same_types(known.parameters.as_slice(), f.parameters.as_slice())
                     && (same_result(&known.result, &f.result)
-                        && all_same_written(known.bounds.as_slice(), f.bounds.as_slice())))
+                        && (all_same_written(known.bounds.as_slice(), f.bounds.as_slice())
+                            && same_written(&known.result_bounds, &f.result_bounds))))
         }
     }
 }
@@ -140,7 +141,13 @@ pub fn declared(context: &Context, scope: &Scope, d: &Function) -> Result<Protot
     ensures { Answers declared_view (declared_function (scope_of scope.now) (function_tree d.now)) result }
 {
     let result = result_type(context, scope, &d.result, d.stars)?;
-    let parameters = parameter_types(context, scope, &d.parameters)?;
+    let Heading { parameters, bounds } = heading(
+        context,
+        scope,
+        &d.parameters,
+        &result,
+        &d.bounds,
+    )?;
     let signature = Signature {
         name: d.name.number,
         text: d.name.name.copy(context.alloc())?,
@@ -148,6 +155,7 @@ pub fn declared(context: &Context, scope: &Scope, d: &Function) -> Result<Protot
         parameters: types_of(context, parameters.as_slice())?,
         bounds: bounds_of(context, parameters.as_slice())?,
         result,
+        result_bounds: bounds,
     };
     Ok(Prototype {
         signature,
@@ -166,6 +174,7 @@ pub fn copied_signature(context: &Context, f: &Signature) -> Result<Signature, N
         parameters: copied_types(context, f.parameters.as_slice())?,
         bounds: copied_bounds(context, f.bounds.as_slice())?,
         result: copied_result(context, &f.result)?,
+        result_bounds: f.result_bounds,
     })
 }
 

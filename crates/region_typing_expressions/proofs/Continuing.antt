@@ -16,7 +16,7 @@ use Rattle.region_typing_rules.specs.Types.{is_number}
 use Rattle.region_typing_rules.specs.Expressions.{Places, Typed, Value, AStruct, ForNothing, ForArray, For, GivesNothing, number_of, converted, site_at, first_of, writes}
 use Rattle.region_typing_rules.specs.Expressions.{is_single, is_row, is_single_value, lacks_bounds, argument_meets, arguments_as, arguments_met, call_of, declared_callee, pointers_for, terms_for}
 use Rattle.region_typing_rules.specs.Statements.{updated, set_to, store}
-use Rattle.region_typing_expressions.specs.ArgumentBounds.{first_unmet, first_unmet_of, unless_unmet}
+use Rattle.region_typing_expressions.specs.ArgumentBounds.{first_unmet, first_unmet_of, result_bounds_of, unless_unmet}
 use Rattle.region_typing_expressions.specs.Calls.{only_number, converted_call}
 use Rattle.region_typing_expressions.specs.Targets.{target_of, updated_target}
 use Rattle.region_typing_scope.specs.Entailing.{fitted}
@@ -85,6 +85,6 @@ values_met f terms pointers arguments types bounds (Stops stop) next = refl
 
 -- a call whose arguments convert, and whose bounds are met
 pub converted_parts : (s : Scope) (f : Signature) (arguments : List (Typed × Span)) (site : Site) → converted_call s f arguments site
-    ≡ passing (arguments_as arguments f.parameters) (λ values. passing (unless_unmet (first_unmet_of s f arguments)) (λ (u : Unit {0}). Passes (call_of s.structs f.result (declared_callee s f site) values site)))
+    ≡ passing (arguments_as arguments f.parameters) (λ values. passing (unless_unmet (first_unmet_of s f arguments)) (λ (u : Unit {0}). Passes (call_of s.structs f.result (result_bounds_of s f arguments) (declared_callee s f site) values site)))
 converted_parts s f arguments site =
-    values_met s.flow (terms_for s.locals arguments f.parameters) (pointers_for s.locals arguments) arguments f.parameters f.bounds (arguments_as arguments f.parameters) (λ values. Passes (call_of s.structs f.result (declared_callee s f site) values site))
+    values_met s.flow (terms_for s.locals arguments f.parameters) (pointers_for s.locals arguments) arguments f.parameters f.bounds (arguments_as arguments f.parameters) (λ values. Passes (call_of s.structs f.result (result_bounds_of s f arguments) (declared_callee s f site) values site))

@@ -1,4 +1,4 @@
--- Inside: the bounds that the arguments of a call are asked for, as the code asks for them.
+-- Inside: the bounds that the arguments of a call are asked for, as the code asks for them, and those of its result.
 use Rattle.std.specs.Prelude.{ℕ, Bool, true, ◌||◌, List, [], ◌∷◌, Option, Some, None}
 use Rattle.ckc_text.specs.declared.place.Span.{Span}
 use Rattle.ckc_text.specs.declared.code.Code.TheVariants.{E17}
@@ -9,7 +9,7 @@ use Rattle.pointer_modes.specs.Types.{CType, Int, Char, Struct, Pointer}
 use Rattle.region_typing_rules.specs.Verdicts.{Verdict, Passes, breaks, picked}
 use Rattle.region_typing_rules.specs.Scopes.{Scope, Signature, WrittenBounds, bounds_in}
 use Rattle.region_typing_rules.specs.Readings.{is_null, pointer_local, term}
-use Rattle.region_typing_rules.specs.Expressions.{Typed, Value, AStruct, argument_meets, pointers_for, terms_for}
+use Rattle.region_typing_rules.specs.Expressions.{Typed, Value, AStruct, argument_meets, pointers_for, result_at, terms_for}
 
 -- the term of an argument, and that of one for a parameter of a type
 abbrev pub term_of : List CType → Typed → Option Term
@@ -53,6 +53,10 @@ first_unmet f terms pointers (argument ∷ arguments) (type ∷ types) bounds =
 abbrev pub first_unmet_of : Scope → Signature → List (Typed × Span) → Option Span
 first_unmet_of s f arguments =
     first_unmet s.flow (terms_for s.locals arguments f.parameters) (pointers_for s.locals arguments) arguments f.parameters f.bounds
+
+-- the bounds that are declared for the result of a call, over what stands for the parameters
+abbrev pub result_bounds_of : Scope → Signature → List (Typed × Span) → Option Bounds
+result_bounds_of s f arguments = result_at (terms_for s.locals arguments f.parameters) (bounds_in f.result_bounds)
 
 -- where bounds aren't met (E17)
 abbrev pub unless_unmet : Option Span → Verdict (Unit {0})

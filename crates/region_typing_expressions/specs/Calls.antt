@@ -11,6 +11,7 @@ use Rattle.pointer_modes.specs.Types.{Int, ctype}
 use Rattle.ckc_core.specs.Core.{expression, statement}
 use Rattle.region_typing_rules.specs.Expressions.{Places, Typed, Called, Gives, GivesNothing, converted, arguments_as, arguments_met, pointers_for, terms_for}
 use Rattle.region_typing_rules.specs.Expressions.{declared_callee, call_of, all_typed, called as called_in, site_at}
+use Rattle.region_typing_expressions.specs.ArgumentBounds.{result_bounds_of}
 use Rattle.region_typing_expressions.specs.declared.calls.Called as code
 use Rattle.region_typing_expressions.specs.declared.calls.Called.TheVariants as calls
 use Rattle.region_typing_expressions.specs.declared.calls.Argument as code_argument
@@ -35,7 +36,7 @@ abbrev pub converted_call : Scope → Signature → List (Typed × Span) → Sit
 converted_call s f arguments site =
     passing (arguments_as arguments f.parameters) (λ values.
     arguments_met s.flow (terms_for s.locals arguments f.parameters) (pointers_for s.locals arguments) arguments f.parameters f.bounds
-    (Passes (call_of s.structs f.result (declared_callee s f site) values site)))
+    (Passes (call_of s.structs f.result (result_bounds_of s f arguments) (declared_callee s f site) values site)))
 
 -- a call of a function by its name, with what its arguments are
 abbrev pub called_with : Places → Scope → ℕ → Expressions → Span → Verdict Called

@@ -1,13 +1,13 @@
-// The bounds that the arguments of a call are asked for.
+// The bounds that the arguments of a call are asked for, and those of its result.
 
 ghost use Rattle.std.specs.Prelude.{◌≡◌, None, length, map, slice_index_or, IfOk};
 ghost use Rattle.pointer_modes.specs.Types.{ctype as ctype_of};
-ghost use Rattle.region_typing_rules.specs.Expressions.{argument_meets as argument_meets_in, at_call as at_call_in, pointers_for as pointers_in, terms_for as terms_in};
+ghost use Rattle.region_typing_rules.specs.Expressions.{argument_meets as argument_meets_in, at_call as at_call_in, pointers_for as pointers_in, result_at as result_at_in, terms_for as terms_in};
 ghost use Rattle.region_typing_scope.specs.Answering.{Answers};
 ghost use Rattle.region_typing_scope.specs.Typed.{typed as inline_typed};
 ghost use Rattle.region_typing_scope.specs.Views.{scope as scope_of, signature};
 ghost use Rattle.region_typing_expressions.specs.Calls.{argument};
-ghost use Rattle.region_typing_expressions.specs.ArgumentBounds.{first_unmet as first_unmet_in, first_unmet_of, is_unasked as is_unasked_in, pointer_for as pointer_for_in, term_for as term_for_in, term_of as term_of_in, unless_unmet as unless_unmet_at};
+ghost use Rattle.region_typing_expressions.specs.ArgumentBounds.{first_unmet as first_unmet_in, first_unmet_of, result_bounds_of, is_unasked as is_unasked_in, pointer_for as pointer_for_in, term_for as term_for_in, term_of as term_of_in, unless_unmet as unless_unmet_at};
 
 use crate::calls::Argument;
 use bounds_exprs::term::{Bounds, Term};
@@ -20,7 +20,7 @@ use region_typing_flow::readings::{local_term, pointer, pointer_local, term};
 use region_typing_scope::context::Context;
 use region_typing_scope::refusals::{CheckError, refusal};
 use region_typing_scope::scope::Scope;
-use region_typing_scope::signature::Signature;
+use region_typing_scope::signature::{Signature, bounds_in};
 use region_typing_scope::typed::Typed;
 
 // What stands for each parameter at a call: the term of its argument, and the local pointer that this is.
@@ -28,6 +28,14 @@ use region_typing_scope::typed::Typed;
 struct Passed {
     terms: Vec<Option<Term>>,
     pointers: Vec<Option<u32>>,
+}
+
+/// The bounds at a call: where the first argument stands whose bounds aren't met, and the bounds that are declared for its
+/// result, over what stands for the parameters.
+#[derive(Drop)]
+pub struct BoundsAtCall {
+    pub unmet: Option<Span>,
+    pub result: Option<Bounds>,
 }
 
 // The term of an argument.
@@ -123,8 +131,8 @@ fn at_call(passed: &Passed, b: &Bounds) -> Option<Bounds>
     }
 }
 
-// Whether an argument is asked for no bounds: null isn't, nor is a struct.
-fn is_unasked(t: &Typed) -> bool
+/// Whether what is given is asked for no bounds: null isn't, nor is a struct.
+pub fn is_unasked(t: &Typed) -> bool
     ensures { result ≡ is_unasked_in (inline_typed t.now) }
 {
     match t {
@@ -179,22 +187,36 @@ fn first_unmet_by(
     Ok(None)
 }
 
-/// Where the first argument of a call stands whose bounds aren't met.
-pub fn first_unmet(
+// The bounds of a result over what stands for the parameters; none where something doesn't stand there.
+fn result_at(terms: &[Option<Term>], bounds: Option<Bounds>) -> Option<Bounds>
+    ensures { result ≡ result_at_in terms.now bounds }
+{
+    match bounds {
+        None => None,
+        Some(b) => b.subst_all(terms),
+    }
+}
+
+/// The bounds at a call of a function.
+pub fn bounds_at_call(
     context: &Context,
     scope: &Scope,
     f: &Signature,
     arguments: &[Argument],
-) -> Result<Option<Span>, NoMemory>
+) -> Result<BoundsAtCall, NoMemory>
     requires { length arguments.now ≡ length f.now.parameters.items }
-    ensures { IfOk result (λ unmet. unmet ≡ first_unmet_of (scope_of scope.now) (signature f.now) (map argument arguments.now)) }
+    ensures unmet { IfOk result (λ at_call. at_call.unmet ≡ first_unmet_of (scope_of scope.now) (signature f.now) (map argument arguments.now)) }
+    ensures bounds { IfOk result (λ at_call. at_call.result ≡ result_bounds_of (scope_of scope.now) (signature f.now) (map argument arguments.now)) }
 {
     let locals = scope.locals.as_slice();
     let passed = Passed {
         terms: terms_for(context, locals, arguments, f.parameters.as_slice())?,
         pointers: pointers_for(context, locals, arguments)?,
     };
-    first_unmet_by(scope, &passed, f, arguments)
+    let unmet = first_unmet_by(scope, &passed, f, arguments)?;
+    let declared = bounds_in(&f.result_bounds);
+    let result = result_at(passed.terms.as_slice(), declared);
+    Ok(BoundsAtCall { unmet, result })
 }
 
 /// Refuses an argument whose bounds aren't met, where there is one.

@@ -4,7 +4,7 @@ ghost use Rattle.std.specs.Prelude.{◌≡◌, length, map, IfOk};
 ghost use Rattle.std.specs.Option.{option_map};
 ghost use Rattle.pointer_modes.specs.Types.{ctype as ctype_of};
 ghost use Rattle.ckc_core.specs.Core.{expression, arguments_of, Print, PutByte};
-ghost use Rattle.region_typing_rules.specs.Expressions.{with_result as with_result_of, arguments_as as arguments_in, predefined_call as predefined_in, writes, callee_of as callee_in, declared_callee as declared_callee_in, call_of as call_in, is_checked_argument as checked_argument, without_checked as without_checked_in, crossing as crossing_in, declared_call as declared_in, called as called_in};
+ghost use Rattle.region_typing_rules.specs.Expressions.{with_result as with_result_of, arguments_as as arguments_in, predefined_call as predefined_in, writes, callee_of as callee_in, declared_callee as declared_callee_in, call_bounds as call_bounds_in, call_of as call_in, is_checked_argument as checked_argument, without_checked as without_checked_in, crossing as crossing_in, declared_call as declared_in, called as called_in};
 ghost use Rattle.region_typing_rules.specs.Scopes.{function_named};
 ghost use Rattle.region_typing_scope.specs.Views.{scope as scope_of, signature};
 ghost use Rattle.region_typing_scope.specs.Answering.{Answers};
@@ -13,13 +13,14 @@ ghost use Rattle.region_typing_scope.specs.Typed.{typed as inline_typed};
 ghost use Rattle.region_typing_scope.specs.OnHeap.{typed};
 ghost use Rattle.region_typing_expressions.specs.Calls.{argument, called as called_as, converted_call, only_number};
 
-use crate::argument_bounds::{first_unmet, unless_unmet};
-use ckc_core::program::{Call, Callee, Expr, Site, Stmt};
+use crate::argument_bounds::{bounds_at_call, unless_unmet};
+use bounds_exprs::term::Bounds;
+use ckc_core::program::{Call, Callee, Expr, PointerBounds, Site, Stmt};
 use ckc_names_rules::given::Given;
 use ckc_text::code::Code;
 use ckc_text::fault::NoMemory;
 use ckc_text::place::Span;
-use pointer_modes::ctype::CType;
+use pointer_modes::ctype::{CType, Kind};
 use pointer_modes::structs::Structs;
 use region_typing_scope::bounds::bounds_at;
 use region_typing_scope::context::Context;
@@ -156,20 +157,44 @@ fn declared_callee(scope: &Scope, f: &Signature, site: Site) -> Callee
     callee_of(import, scope.side_number(import, f.name), site)
 }
 
+// The bounds of a call: those that are declared for its result, or those of its type.
+fn call_bounds(
+    structs: &Structs,
+    t: &CType,
+    declared: Option<Bounds>,
+    site: Site,
+) -> Option<PointerBounds>
+    ensures { result ≡ call_bounds_in structs.now (ctype_of t.now) declared site }
+{
+    match t {
+        CType::Pointer(_, Kind::Array, target) => match declared {
+            None => bounds_at(structs, t, site),
+            Some(bounds) => Some(PointerBounds {
+                bounds,
+                size: structs.size_of(target),
+                site,
+            }),
+        },
+        CType::Pointer(_, Kind::One | Kind::Nt, _) => bounds_at(structs, t, site),
+        CType::Int | CType::Char | CType::Struct(_) => bounds_at(structs, t, site),
+    }
+}
+
 // A call as a value, or as a statement where it has no result.
 #[tactic(auto, using(ckc_core::proofs::Rows::call_value))]
 fn call_of(
     context: &Context,
     structs: &Structs,
     result_type: &Option<CType>,
+    declared: Option<Bounds>,
     call: Call,
     site: Site,
 ) -> Result<Called, NoMemory>
-    ensures { IfOk result (λ c. called_as c ≡ call_in structs.now (option_map ctype_of result_type.now) call.callee (arguments_of call.arguments.items) site) }
+    ensures { IfOk result (λ c. called_as c ≡ call_in structs.now (option_map ctype_of result_type.now) declared call.callee (arguments_of call.arguments.items) site) }
 {
     match result_type {
         Some(t) => {
-            let bounds = bounds_at(structs, t, site);
+            let bounds = call_bounds(structs, t, declared, site);
             let value = context.boxed(Expr::Call { call, bounds })?;
             let ctype = copied(context, t)?;
             Ok(Called::Gives { ctype, value })
@@ -230,13 +255,13 @@ fn call_with(
     requires { length arguments.items ≡ length f.now.parameters.items }
     ensures { Answers called_as (converted_call (scope_of scope.now) (signature f.now) (map argument arguments.items) site) result }
 {
-    let unmet = first_unmet(context, scope, f, arguments.as_slice())?;
+    let asked = bounds_at_call(context, scope, f, arguments.as_slice())?;
     let types = f.parameters.as_slice();
     let arguments = arguments_as(context, VecDeque::from_vec(arguments), types)?;
-    unless_unmet(unmet)?;
+    unless_unmet(asked.unmet)?;
     let callee = declared_callee(scope, f, site);
     let call = Call { callee, arguments };
-    Ok(call_of(context, &scope.structs, &f.result, call, site)?)
+    Ok(call_of(context, &scope.structs, &f.result, asked.result, call, site)?)
 }
 
 // A call of a declared function.

@@ -1,7 +1,7 @@
 // What an expression or an assignment is by the rules of types, where the names around it are known.
 #![tactic(auto)]
 
-mod argument_bounds;
+pub mod argument_bounds;
 pub mod assignments;
 pub mod calls;
 mod equality;

@@ -6,7 +6,7 @@ use Rattle.ckc_text.specs.declared.place.Span.{Span}
 use Rattle.subsumption.specs.ClosedTables.{ClosedTable}
 use Rattle.bounds_exprs.specs.declared.term.Bounds.{Bounds}
 use Rattle.bounds_exprs.specs.declared.term.Term.{Term}
-use Rattle.bounds_exprs.specs.Changes.{filled_in, raised_term}
+use Rattle.bounds_exprs.specs.Changes.{ends_filled_in, filled_in, raised_term}
 use Rattle.bounds_exprs.specs.Normal.{is_same}
 use Rattle.bounds_exprs.specs.Terms.{is_within, term_limit, within_limit}
 use Rattle.pointer_modes.specs.Types.{CType, Int, Char, Struct, Pointer, Structure}
@@ -14,10 +14,12 @@ use Rattle.bounds_flow.specs.Conditions.{AreEndsBelow, IsFlow}
 use Rattle.bounds_flow.specs.Settling.{bounds_find, ends_find, Finding, Meets, WasLost, Falls}
 use Rattle.bounds_flow_meaning.specs.Holding.{AreInts, IsInt}
 use Rattle.bounds_flow_meaning.proofs.AllSteps.{flows_hold}
+use Rattle.bounds_flow_meaning.proofs.Validity.{between_parts}
 use Rattle.ckc_core.specs.Core as core
 use Rattle.region_typing_rules.specs.Scopes.{Scope}
 use Rattle.region_typing_rules.specs.Readings.{based_bounds, is_null, own_bounds}
 use Rattle.region_typing_rules.specs.Expressions.{AStruct, Typed, Value, at_call, is_met, meets, meets_all, term_for, terms_for}
+use Rattle.region_typing_rules.specs.KnownIsSo.{AreLimited}
 use Rattle.region_typing_rules.specs.Typed as typed
 use Rattle.region_typing_rules.specs.Typed.{IsAsked, IsAskedAt, LeadsTo}
 use Rattle.region_typing_rules.proofs.Alike.{alike_here}
@@ -70,6 +72,28 @@ limited_int types var c u int h = by (is_within term_limit c) h
     by true q = let same : record { var = var; plus = c } ≡ u = cc in subst (IsInt types) (ap (λ (t : Term). t.var) same) int
     by false q = absurd (cc)
 
+limited_plus : (var : Option ℕ) (c : ℤ) (u : Term) → within_limit var c ≡ Some u → is_within term_limit u.plus ≡ true
+limited_plus var c u h = by (is_within term_limit c) refl h
+  where
+    by : (test : Bool) → is_within term_limit c ≡ test → cond test (Some (record { var = var; plus = c })) None ≡ Some u → is_within term_limit u.plus ≡ true
+    by true e q = let same : record { var = var; plus = c } ≡ u = cc in subst (λ (t : Term). is_within term_limit t.plus ≡ true) same e
+    by false e q = absurd (cc)
+
+module _ (terms : List (Option Term)) where
+  raised_limited : (o : Option Term) (c : ℤ) (u : Term) → raised_term o c ≡ Some u → is_within term_limit u.plus ≡ true
+  raised_limited None c u h = absurd (let none : None ≡ Some u = h in cc)
+  raised_limited (Some w) c u h = limited_plus w.var (c +ℤ w.plus) u h
+
+  filled_limited : (o : Option ℕ) (c : ℤ) (u : Term) → filled_in terms (record { var = o; plus = c }) ≡ Some u → is_within term_limit u.plus ≡ true
+  filled_limited None c u h = limited_plus None c u h
+  filled_limited (Some x) c u h = raised_limited (slice_index_or terms x None) c u h
+
+-- bounds of a result over what stands for the parameters
+pub record IsResultAt (types : List CType) (b d : Bounds) : Type 0 where
+  pub base : d.base ≡ b.base
+  pub limited : AreLimited d
+  pub ints : AreInts types d
+
 module _ (types : List CType) (terms : List (Option Term)) (are : AreTerms types terms) where
   raised_int : (x : ℕ) (o : Option Term) (c : ℤ) (u : Term) → slice_index_or terms x None ≡ o → raised_term o c ≡ Some u → IsInt types u.var
   raised_int x None c u e h = absurd (let none : None ≡ Some u = h in cc)
@@ -84,10 +108,19 @@ module _ (types : List CType) (terms : List (Option Term)) (are : AreTerms types
       let at = at_call_parts terms pointers b d h in
       record { lo = filled_by b.lo.var b.lo.plus d.lo at.lo; hi = filled_by b.hi.var b.hi.plus d.hi at.hi }
 
+  pub result_at_so : (b d : Bounds) → ends_filled_in terms b ≡ Some d → IsResultAt types b d
+  result_at_so b d h =
+      let p = between_parts b.base (filled_in terms b.lo) (filled_in terms b.hi) d h in
+      record {
+        base = p.base;
+        limited = record { low = filled_limited terms b.lo.var b.lo.plus d.lo p.lo; high = filled_limited terms b.hi.var b.hi.plus d.hi p.hi };
+        ints = record { lo = filled_by b.lo.var b.lo.plus d.lo p.lo; hi = filled_by b.hi.var b.hi.plus d.hi p.hi };
+      }
+
 -- ---- what is asked
 
 module _ (structs : List Structure) (s : Scope) (flow : IsFlow s.flow) (few : length s.locals ≤ s.flow.vars) where
-  ends_below : (d : Bounds) → AreInts s.locals d → AreEndsBelow s.flow.vars d
+  pub ends_below : (d : Bounds) → AreInts s.locals d → AreEndsBelow s.flow.vars d
   ends_below d ints = record { lo = int_below s.locals s.flow.vars d.lo.var few ints.lo; hi = int_below s.locals s.flow.vars d.hi.var few ints.hi }
 
   leads : (b d : Bounds) → AreEndsBelow s.flow.vars b → AreInts s.locals d → MeetsEnds s.flow.facts d b → LeadsTo structs s b d
@@ -100,7 +133,7 @@ module _ (structs : List Structure) (s : Scope) (flow : IsFlow s.flow) (few : le
     pub own : (b : Bounds) → own_bounds value ≡ Some b → AreEndsBelow s.flow.vars b
     pub based : (b : Bounds) → based_bounds value ≡ Some b → AreEndsBelow s.flow.vars b
 
-  asked_so : (value : core.Expression) (d : Bounds) → HasEndsBelow value → AreInts s.locals d → meets s.flow value (Some d) ≡ true → IsAsked structs s value d
+  pub asked_so : (value : core.Expression) (d : Bounds) → HasEndsBelow value → AreInts s.locals d → meets s.flow value (Some d) ≡ true → IsAsked structs s value d
   asked_so value d below ints met =
       let first = is_met (bounds_find s.flow.facts d (own_bounds value)) in
       let second = is_met (bounds_find s.flow.facts d (based_bounds value)) in

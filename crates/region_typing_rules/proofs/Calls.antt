@@ -114,6 +114,17 @@ module _ (structs : List Structure) (terms : List (Option Term)) (pointers : Lis
       carried structs d b l l caller callee grows (local_alike l)
       (stay_ends (target_size structs l.type) d b caller.locals callee.locals (same_base b d at) (sym (filled_value terms caller.locals callee.locals hold b.lo d.lo at.lo)) (sym (filled_value terms caller.locals callee.locals hold b.hi d.hi at.hi))) h
 
+-- and what is valid with the bounds of a result in the function that was called is so in the caller with these
+module _ (structs : List Structure) (terms : List (Option Term)) (caller callee : State) (hold : HoldTerms terms caller.locals callee.locals) where
+  pub result_valid : (b d : Bounds) (l : Local) → b.base ≡ None → ends_filled_in terms b ≡ Some d → Grows (shapes callee.blocks) (shapes caller.blocks) → IsValid structs (Some b) l callee → IsValid structs (Some d) l caller
+  result_valid b d l none is grows h =
+      let p = between_parts b.base (filled_in terms b.lo) (filled_in terms b.hi) d is in
+      carried structs b d l l callee caller grows (local_alike l)
+      (stay_ends (target_size structs l.type) b d callee.locals caller.locals (same_base p.base) (filled_value terms caller.locals callee.locals hold b.lo d.lo p.lo) (filled_value terms caller.locals callee.locals hold b.hi d.hi p.hi)) h
+    where
+      same_base : d.base ≡ b.base → (block byte : ℕ) → base_byte d.base caller.locals block byte ≡ base_byte b.base callee.locals block byte
+      same_base e block byte = ap (λ o. base_byte o caller.locals block byte) (e ∙ none) ∙ sym (ap (λ o. base_byte o callee.locals block byte) none)
+
 -- ---- what is passed
 
 -- an argument of a type, as its function takes it
@@ -230,6 +241,13 @@ AreEntered structs bs s = (x : ℕ) (b : Bounds) (l : Local) → slice_get bs x 
 pub entered_later : (structs : List Structure) (bs : List (Option Bounds)) (s u : State) → Grows (shapes s.blocks) (shapes u.blocks) → u.locals ≡ s.locals → AreEntered structs bs s → AreEntered structs bs u
 entered_later structs bs s u grows same h x b l is there = grown_valid structs (Some b) l s u grows same (h x b l is (subst (λ ls. slice_get ls x ≡ Some l) same there))
 
+-- a pointer is valid with the bounds that it is asked for, where what it is given is so
+pub asked_valid : (structs : List Structure) (here : Scope) (s : State) → IsKnown structs here s → HasLocals here.locals s → (m : Mode) (t : CType) (e : core.Expression) (v : Value) (d : Bounds) → IsAsked structs here e d → (is_null e ≡ true → v ≡ Null) → AreGivenAt structs (Pointer m kinds.Array t) e v s
+    → IsValid structs (Some d) (record { type = Pointer m kinds.Array t; value = v }) s
+asked_valid structs here s known has m t e v d (typed.null is) null given = null_valid structs (Some d) (record { type = Pointer m kinds.Array t; value = v }) s (null (ap is_null is))
+asked_valid structs here s known has m t e v d (typed.own {b = b} is leads) null given = leads s has known _ (subst (λ o. IsGivenIf structs (Pointer m kinds.Array t) o v s) is given.0).0
+asked_valid structs here s known has m t e v d (typed.based {b = b} is leads) null given = leads s has known _ (subst (λ o. IsGivenIf structs (Pointer m kinds.Array t) o v s) is given.1).0
+
 -- where the arguments are passed, the function is entered so
 module _ (structs : List Structure) (here : Scope) (s : State) (known : IsKnown structs here s) (has : HasLocals here.locals s) (locals : List CType) (parameters : ℕ) (arguments : Arguments) (vs : List Value) (bs : List (Option Bounds))
     (rows : HaveRows (take parameters locals) bs) (passed : ArePassed structs (length here.locals) here.locals (take parameters locals) arguments vs s) where
@@ -248,7 +266,7 @@ module _ (structs : List Structure) (here : Scope) (s : State) (known : IsKnown 
   local_of : (x : ℕ) (c : CType) (v : Value) → slice_get (take parameters locals) x ≡ Some c → slice_get vs x ≡ Some v → slice_get callee.locals x ≡ Some (record { type = c; value = v })
   local_of x c v t e = entered_local locals vs x c v (take_there parameters locals x c t) e
 
-  hold : HoldTerms terms s.locals callee.locals
+  pub hold : HoldTerms terms s.locals callee.locals
   hold x t is =
       let it = terms_hold structs (length here.locals) here.locals s good has arguments (take parameters locals) vs x t is passed in
       record { number = it.number; local = record { type = Int; value = Number it.number }; is = it.is; there = local_of x Int (Number it.number) it.type it.value; holds = refl }
@@ -258,18 +276,12 @@ module _ (structs : List Structure) (here : Scope) (s : State) (known : IsKnown 
       let it = pointers_hold structs (length here.locals) here.locals s good has arguments (take parameters locals) vs p k is passed in
       record { there = it.there; here = record { type = it.type; value = it.value }; found = it.found; holds = local_of p it.type it.value it.typed it.passed; same = it.same }
 
-  -- an argument is valid in the caller with the bounds that it is asked for
-  asked_valid : (m : Mode) (t : CType) (e : core.Expression) (v : Value) (d : Bounds) → IsAsked structs here e d → (is_null e ≡ true → v ≡ Null) → AreGivenAt structs (Pointer m kinds.Array t) e v s → IsValid structs (Some d) (record { type = Pointer m kinds.Array t; value = v }) s
-  asked_valid m t e v d (typed.null is) null given = null_valid structs (Some d) (record { type = Pointer m kinds.Array t; value = v }) s (null (ap is_null is))
-  asked_valid m t e v d (typed.own {b = b} is leads) null given = leads s has known _ (subst (λ o. IsGivenIf structs (Pointer m kinds.Array t) o v s) is given.0).0
-  asked_valid m t e v d (typed.based {b = b} is leads) null given = leads s has known _ (subst (λ o. IsGivenIf structs (Pointer m kinds.Array t) o v s) is given.1).0
-
   -- and in the function that is called, with those of its parameter
   argument_valid : (m : Mode) (t : CType) (e : core.Expression) (v : Value) (b : Bounds) → typed.IsAskedAt structs here terms pointers e (Some b) → IsPassed structs (length here.locals) here.locals (Pointer m kinds.Array t) e v s → IsValid structs (Some b) (record { type = Pointer m kinds.Array t; value = v }) callee
   argument_valid m t e v b (inl is) h = null_valid structs (Some b) (record { type = Pointer m kinds.Array t; value = v }) callee (h.null (ap is_null is))
   argument_valid m t e v b (inr (d, at, asked)) h =
       entered_valid structs terms pointers s callee hold point b d (record { type = Pointer m kinds.Array t; value = v }) at (local_grows (shapes s.blocks))
-      (asked_valid m t e v d asked h.null (h.given s (alike_here (length here.locals) s)))
+      (asked_valid structs here s known has m t e v d asked h.null (h.given s (alike_here (length here.locals) s)))
 
   pub entered : AreAsked structs here terms pointers arguments bs → AreEntered structs bs callee
   entered asked x b l is there =

@@ -174,7 +174,7 @@ module _ (frame : Frame) (types : List CType) (all_scalar : AllByRecursion IsSca
 
   -- what is known of the file where a walk stands
   pub knows_here : (g : Scope) → IsWalk vars g → KnowsFile frame g → Reaching g → Knows frame types g
-  knows_here g w file reaches = knows_from frame types all_scalar g file w.between.flow (pointers_known g w) (few_vars g w) reaches
+  knows_here g w file reaches = knows_from frame types all_scalar g file w.between.flow (pointers_known g w) (few_vars g w) w.result reaches
 
   IsAssigned : Scope → Assignment → core.Statement → Type 0
   IsAssigned g a x = IsAssignment g (target_of a) x × (Reaching g → IsSimple frame types g x)

@@ -13,7 +13,7 @@ use Rattle.bounds_flow.specs.Pointers.{no_pointer}
 use Rattle.bounds_flow.specs.Flows.{Knowledge, at_entry, entered, held_at}
 use Rattle.bounds_flow.specs.Conditions.{AreBoundsBelow}
 use Rattle.bounds_flow.proofs.FlowSteps.{are_kept}
-use Rattle.bounds_flow_meaning.specs.Holding.{Fits, HaveTypes, IsValid, target_size, types_of}
+use Rattle.bounds_flow_meaning.specs.Holding.{AreInts, Fits, HaveTypes, IsValid, target_size, types_of}
 use Rattle.bounds_flow_meaning.specs.Laws.{MayDeclare}
 use Rattle.bounds_flow_meaning.proofs.AllSteps.{flows_hold}
 use Rattle.bounds_flow_meaning.proofs.Steps.{entries_fit}
@@ -80,13 +80,14 @@ with_entry vars (p ∷ ps) g few e =
     let more : length (with_local p.name p.type None g).locals ≤ vars = omega (arith, few, longer) in
     with_entry vars ps (with_local p.name p.type None g) (omega (arith, few, longer)) (record { walk = walk_local vars p.name p.type None g (none_comes vars g.structs g.locals p.type) e.walk more; free = local_open vars p.name p.type g e.walk e.free })
 
-entry : (vars : ℕ) (g : Scope) → vars ≤ 4096 → g.locals ≡ [] → g.flow ≡ at_entry vars → g.outside ≡ 0 → g.breaks ≡ None → g.continues ≡ None → IsEntry vars g
-entry vars g few locals flow outside breaks continues = record {
+entry : (vars : ℕ) (g : Scope) → vars ≤ 4096 → g.locals ≡ [] → g.flow ≡ at_entry vars → g.result_bounds ≡ None → g.outside ≡ 0 → g.breaks ≡ None → g.continues ≡ None → IsEntry vars g
+entry vars g few locals flow bounds outside breaks continues = record {
   walk = record {
     between = subst (IsBetween vars) (sym flow) (entry_between vars few);
     few = (let e = ap length locals in omega (arith, e));
     beyond = λ p far. none p;
     declared = λ p b e. absurd (let q : None ≡ Some b = sym (none p) ∙ e in cc);
+    result = λ b e. absurd (let q : None ≡ Some b = sym bounds ∙ e in cc);
     outside = omega (arith, outside);
     breaks = subst (λ o. AreBetween vars g.outside g.flow o) (sym breaks) tt;
     continues = subst (λ o. AreBetween vars g.outside g.flow o) (sym continues) tt;
@@ -103,7 +104,7 @@ before_entry f ps body g few =
     let vars = variables_in (length ps) body in
     let low : vars ≤ 256 = limited_few 256 n (nat_lt 256 n) refl in
     let room : length ps ≤ vars = limited_more 256 n (length ps) (nat_lt 256 n) (omega (arith, few)) (omega arith) in
-    with_entry vars ps _ (omega (arith, room)) (entry vars _ (omega (arith, low)) refl refl refl refl refl)
+    with_entry vars ps _ (omega (arith, room)) (entry vars _ (omega (arith, low)) refl refl refl refl refl refl)
 
 -- ---- bounds of parameters
 
@@ -126,13 +127,14 @@ continues_alone [] g = refl
 continues_alone (p ∷ ps) g = continues_alone ps (with_local p.name p.type None g)
 
 -- a scope whose flow is another one
-walk_between : (vars : ℕ) (g : Scope) (f : Knowledge) → IsBetween vars f → ((p : ℕ) → length g.locals ≤ p → declared_at f p ≡ None) → ((p : ℕ) (b : Bounds) → declared_at f p ≡ Some b → IsDeclared g.structs g.locals p b)
-    → g.breaks ≡ None → g.continues ≡ None → IsWalk vars g → IsWalk vars (knowing f g)
-walk_between vars g f between beyond declared breaks continues w = record {
+walk_between : (vars : ℕ) (g : Scope) (f : Knowledge) (r : Option Bounds) → IsBetween vars f → ((p : ℕ) → length g.locals ≤ p → declared_at f p ≡ None) → ((p : ℕ) (b : Bounds) → declared_at f p ≡ Some b → IsDeclared g.structs g.locals p b)
+    → ((b : Bounds) → r ≡ Some b → AreInts g.locals b) → g.breaks ≡ None → g.continues ≡ None → IsWalk vars g → IsWalk vars (record (knowing f g) { result_bounds = r })
+walk_between vars g f r between beyond declared result breaks continues w = record {
   between = between;
   few = w.few;
   beyond = beyond;
   declared = declared;
+  result = result;
   outside = w.outside;
   breaks = subst (λ o. AreBetween vars g.outside f o) (sym breaks) tt;
   continues = subst (λ o. AreBetween vars g.outside f o) (sym continues) tt;
@@ -228,8 +230,8 @@ pub record IsInside (vars : ℕ) (structs : List Structure) (bs : List (Option B
   pub walk : IsWalk vars g
   pub free : (s : State) → HaveTypes s.locals → HasLocals g.locals s → AreEntered structs bs s → IsKnown structs g s
 
-pub inside_entry : (structs : List Structure) (f : Signature) (ps : List Parameter) (body : Statements) (g : Scope) → length ps ≤ 16 → AreFormed g.structs (map (λ (p : Parameter). p.type) ps) ps → IsInside (variables_in (length ps) body) structs (all_bounds ps) (inside f ps body g)
-inside_entry structs f ps body g few formed =
+pub inside_entry : (structs : List Structure) (f : Signature) (ps : List Parameter) (body : Statements) (g : Scope) → length ps ≤ 16 → AreFormed g.structs (map (λ (p : Parameter). p.type) ps) ps → ((b : Bounds) → bounds_in f.result_bounds ≡ Some b → AreInts (map (λ (p : Parameter). p.type) ps) b) → IsInside (variables_in (length ps) body) structs (all_bounds ps) (inside f ps body g)
+inside_entry structs f ps body g few formed result =
     let n = length ps + all_declared body in
     let vars = variables_in (length ps) body in
     let base = before_bounds f ps body g in
@@ -241,7 +243,7 @@ inside_entry structs f ps body g few formed =
     let first : IsEntered vars base base.flow = record { between = e.walk.between; beyond = e.walk.beyond; declared = e.walk.declared } in
     let it = all_entered vars base e.walk.few 0 ps base.flow many are first in
     record {
-      walk = walk_between vars base (with_bounds 0 ps base.flow) it.between it.beyond it.declared (breaks_alone ps _) (continues_alone ps _) e.walk;
+      walk = walk_between vars base (with_bounds 0 ps base.flow) (bounds_in f.result_bounds) it.between it.beyond it.declared (λ b e. subst (λ ts. AreInts ts b) (sym locals) (result b e)) (breaks_alone ps _) (continues_alone ps _) e.walk;
       free = λ s good has entered z alike.
           let has_z = has_alike base.locals s z alike has in
           all_fit vars base e.walk.few structs 0 ps base.flow z many are first has_z

@@ -52,12 +52,12 @@ use Rattle.region_typing_rules.specs.Verdicts.{Verdict, Passes, Stops, passing, 
 use Rattle.region_typing_rules.specs.Scopes.{Scope, Signature, WrittenBounds, bounds_in, Named, Local, Object, Array, Nothing, named, function_named, members_named}
 use Rattle.region_typing_rules.specs.Types.{type_named, is_number, is_pointer, are_comparable, kind_converts, pointer_converts, converts}
 use Rattle.region_typing_rules.specs.Readings.{constant, against, sum_bounds, own_bounds, from_base, based_bounds, is_null, is_pointer_type, pointer_local, term}
-use Rattle.region_typing_rules.specs.Expressions.{Places, OfLocal, OfCell, Standing, ForNothing, ForArray, For, Typed, Value, AStruct, Called, Gives, GivesNothing, site_at, bounds_by, bounds_at, noted_if, with_bounds, one_element, sum_node, bounded, number, at_place, in_force, local_typed, name_typed, member_place, member_from, offset_among, member_at, dotted, with_elements, first_element, pointed_by, arrowed, pointed_at, dereferenced, checked_at, pointer_to, address, number_of, scalar_of, unary_typed, is_row, is_single_value, lacks_bounds, without_ptr, two_numbers, two_scalars, operator_along, summed, sum_typed, as_pointer, equated_values, equated, have_one_base, are_related, ordered_values, ordered, arithmetic, binary_typed, element_at, indexed, is_met, in_type, asked_as, asked_of, meets, bounds_met, converted, arguments_as, arguments_met, is_import, side_number, callee_of, call_of, first_of, writes, predefined_call, called, with_result, constant_typed, typed, all_typed, call_typed, argument_meets, at_call, meets_all, pointer_for, pointers_for, term_for, terms_for}
+use Rattle.region_typing_rules.specs.Expressions.{Places, OfLocal, OfCell, Standing, ForNothing, ForArray, For, Typed, Value, AStruct, Called, Gives, GivesNothing, site_at, bounds_by, bounds_at, noted_if, with_bounds, one_element, sum_node, bounded, number, at_place, in_force, local_typed, name_typed, member_place, member_from, offset_among, member_at, dotted, with_elements, first_element, pointed_by, arrowed, pointed_at, dereferenced, checked_at, pointer_to, address, number_of, scalar_of, unary_typed, is_row, is_single_value, lacks_bounds, without_ptr, two_numbers, two_scalars, operator_along, summed, sum_typed, as_pointer, equated_values, equated, have_one_base, are_related, ordered_values, ordered, arithmetic, binary_typed, element_at, indexed, is_met, in_type, asked_as, asked_of, meets, bounds_met, converted, arguments_as, arguments_met, is_import, side_number, callee_of, call_of, first_of, writes, predefined_call, called, with_result, constant_typed, typed, all_typed, call_typed, argument_meets, at_call, meets_all, pointer_for, pointers_for, term_for, terms_for, call_bounds, result_at}
 use Rattle.region_typing_rules.specs.Typed as rules
-use Rattle.region_typing_rules.specs.Typed.{Frame, AreAsked, HaveRows, IsAskedAt, IsCallee, pointers_of, term_of, terms_of, HasBounds, AreSumBounds, CountsFrom, HasElements, IsInForce, LeadsToOne, HasType, HaveTypes, HasPlace, IsSimple, IsScalar, IsScalarResult, IsNumberResult}
+use Rattle.region_typing_rules.specs.Typed.{Frame, AreAsked, AreOfResult, HasCallBounds, HasResultBounds, HaveRows, IsAsked, IsAskedAt, IsCallee, IsReturned, pointers_of, term_of, terms_of, HasBounds, AreSumBounds, CountsFrom, HasElements, IsInForce, LeadsToOne, HasType, HaveTypes, HasPlace, IsSimple, IsScalar, IsScalarResult, IsNumberResult}
 use Rattle.region_typing_rules.proofs.Values.{member_row}
 use Rattle.region_typing_rules.proofs.Verdicts.{Promises, passing_promises, needs_promises, anything_promised, Extends}
-use Rattle.region_typing_rules.proofs.Known.{IsKnown, IsKnownResult, size_kept, bounds_kept}
+use Rattle.region_typing_rules.proofs.Known.{IsKnown, IsKnownResult, IsSizedResult, size_kept, bounds_kept}
 use Rattle.region_typing_rules.proofs.KnownTypes.{IsKnownTyped, typed_known}
 use Rattle.region_typing_rules.proofs.Signatures.{named_has}
 use Rattle.region_typing_rules.proofs.Knowledge.{IsNumberType, IsTrusted, IsTainted, Knows, array_sized, StandsFor, name_stands, crossing_promises, HasMember, IfMember, member_there, member_slot}
@@ -65,7 +65,10 @@ use Rattle.region_typing_rules.proofs.SameTypes.{mode_equal, same_equal}
 use Rattle.region_typing_rules.proofs.Elements.{based_has_base}
 use Rattle.region_typing_rules.proofs.Sizes.{size_fits}
 use Rattle.region_typing_rules.proofs.Alike.{alike_here}
-use Rattle.region_typing_rules.proofs.Asked.{AreTerms, HasEndsBelow, are_terms, asked_at}
+use Rattle.region_typing_rules.specs.Statements.{result_meets}
+use Rattle.bounds_exprs.specs.Changes.{ends_filled_in}
+use Rattle.bounds_flow_meaning.specs.Holding.{AreInts}
+use Rattle.region_typing_rules.proofs.Asked.{AreTerms, HasEndsBelow, are_terms, asked_at, asked_so, ends_below, result_at_so}
 use Rattle.bounds_exprs.specs.declared.term.Term.{Term}
 use Rattle.region_typing_rules.proofs.Told.{null_is}
 
@@ -728,7 +731,7 @@ module _ (g : Frame) (types : List CType) (s : Scope) where
       same_type t u q = cc
 
   -- what converted a value
-  abbrev IsConverted : Typed → CType → core.Expression → Type 0
+  abbrev pub IsConverted : Typed → CType → core.Expression → Type 0
   IsConverted (Value type zero value place) t v = (converts type zero t ≡ true) × (v ≡ in_type t (zero && is_number type) value)
   IsConverted (AStruct number place) t v = ⊥
 
@@ -754,23 +757,19 @@ module _ (g : Frame) (types : List CType) (s : Scope) where
   scalar_result None h = tt
   scalar_result (Some t) h = number_scalar t h
 
-  call_fits : (structs : List Structure) (callee : Callee) (ts : List CType) (result : Option CType) (values : core.Arguments) (site : Site) → Extends structs g.structs → IsKnownResult structs result → (bs : List (Option Bounds)) → IsCallee g callee ts bs result → HaveTypes g types s values ts
-      → AreAsked g.structs s (terms_of s.locals values ts) (pointers_of s.locals values) values bs → IsScalarResult result → FitsCall (call_of structs result callee values site)
-  call_fits structs callee ts None values site ext known bs is h asked scalar = rules.call_alone is h asked
-  call_fits structs callee ts (Some t) values site ext known bs is h asked scalar =
-      let kept = bounds_kept structs g.structs t site ext known in
-      (rules.call is h asked (site, kept), (scalar, subst (λ b. HasNode g.structs s.flow.vars t (core.Call callee values b)) (sym kept) (node_with g.structs s.flow.vars t site (core.Call callee values) (record { own = λ o. refl; none = refl; based = λ vars p b below e. absurd (cc) }))))
-
-  trusted_callee : (number : ℕ) (f : Signature) → IsTrusted g number f → IsCallee g (callees.Trusted number) f.parameters (map bounds_in f.bounds) f.result
+  trusted_callee : (number : ℕ) (f : Signature) → IsTrusted g number f → IsCallee g (callees.Trusted number) f.parameters (map bounds_in f.bounds) f.result (bounds_in f.result_bounds)
   trusted_callee number f is =
       let bs = map bounds_in f.bounds in
-      subst (λ result. IsCallee g (callees.Trusted number) f.parameters bs result) is.result
-      (subst (λ ts. IsCallee g (callees.Trusted number) ts bs is.function.result) is.parameters (rules.trusted is.found is.bounds (subst (λ ts. HaveRows ts bs) (sym is.parameters) is.rows)))
+      let r = bounds_in f.result_bounds in
+      subst (λ result. IsCallee g (callees.Trusted number) f.parameters bs result r) is.result
+      (subst (λ ts. IsCallee g (callees.Trusted number) ts bs is.function.result r) is.parameters
+      (rules.trusted is.found is.bounds is.told (subst (λ ts. HaveRows ts bs) (sym is.parameters) is.rows)
+      (subst (λ ts. HasResultBounds ts is.function.result r) (sym is.parameters) (subst (λ result. HasResultBounds f.parameters result r) (sym is.result) is.sound))))
 
-  tainted_callee : (number : ℕ) (f : Signature) (site : Site) → IsTainted g number f → IsCallee g (callees.Tainted number site) (replicate (length f.parameters) Int) [] f.result
+  tainted_callee : (number : ℕ) (f : Signature) (site : Site) → IsTainted g number f → IsCallee g (callees.Tainted number site) (replicate (length f.parameters) Int) [] f.result None
   tainted_callee number f site is =
-      subst (λ result. IsCallee g (callees.Tainted number site) (replicate (length f.parameters) Int) [] result) is.result
-      (subst (λ n. IsCallee g (callees.Tainted number site) (replicate n Int) [] is.import.result) is.parameters
+      subst (λ result. IsCallee g (callees.Tainted number site) (replicate (length f.parameters) Int) [] result None) is.result
+      (subst (λ n. IsCallee g (callees.Tainted number site) (replicate n Int) [] is.import.result None) is.parameters
       (rules.tainted is.found (subst IsNumberResult (sym is.result) is.number_result)))
 
   with_result_promises : (c : Called) (span : Span) → FitsCall c → Promises Fits (with_result c span)
@@ -852,7 +851,7 @@ module _ (g : Frame) (types : List CType) (s : Scope) where
     in_type_typed (Pointer m k t) type zero value number h typed node met = null_or zero type m k t value number h typed node met
 
     -- a value that converts has the type where its bounds meet those that are asked for
-    so_converted : {A : Type 0} (Q : A → Type 0) (a : Typed) (to : CType) (span : Span) (next : core.Expression → Verdict A) → Fits a → ((v : core.Expression) → IsConverted a to v → (AreMet a to → HasType g types s v to) → Promises Q (next v)) → Promises Q (converted a to span next)
+    pub so_converted : {A : Type 0} (Q : A → Type 0) (a : Typed) (to : CType) (span : Span) (next : core.Expression → Verdict A) → Fits a → ((v : core.Expression) → IsConverted a to v → (AreMet a to → HasType g types s v to) → Promises Q (next v)) → Promises Q (converted a to span next)
     so_converted Q (Value type zero value place) to span next h more =
         needs_promises Q (converts type zero to) E13 span (next (in_type to (zero && is_number type) value)) (λ c. more (in_type to (zero && is_number type) value) (c, refl) (in_type_typed to type zero value h.is_number c h.has_type h.node))
     so_converted Q (AStruct number place) to span next h more = tt
@@ -997,6 +996,101 @@ module _ (g : Frame) (types : List CType) (s : Scope) where
         same_type : (t u : CType) → Some t ≡ Some u → t ≡ u
         same_type t u q = cc
 
+    -- ---- what a call gives
+
+    -- a value that is returned
+    type_met_by : (r : Option Bounds) (t : Typed) (type : CType) → result_meets s.flow r t type ≡ true → AreMet t type
+    type_met_by None (Value u zero value place) type met = met
+    type_met_by (Some b) (Value u zero value place) type met = ⊎_elim (first zero) (λ both. second zero (and_parts (meets s.flow value (asked_of u type)) (meets s.flow value (Some b)) both).0) (or_cases zero (meets s.flow value (asked_of u type) && meets s.flow value (Some b)) met)
+      where
+        first : (z : Bool) → z ≡ true → (z || meets s.flow value (asked_of u type)) ≡ true
+        first z e = rw e refl
+
+        second : (z : Bool) → meets s.flow value (asked_of u type) ≡ true → (z || meets s.flow value (asked_of u type)) ≡ true
+        second true e = refl
+        second false e = e
+    type_met_by r (AStruct number place) type met = tt
+
+    pub result_type_met : (r : Option Bounds) (t : Typed) (type : CType) → result_meets s.flow r t type ≡ true → AreMet t type
+    result_type_met = type_met_by
+
+    row_returned : (b : Bounds) (m : Mode) (u type : CType) (zero : Bool) (value v : core.Expression) (place : Standing) → AreInts s.locals b → Fits (Value type zero value place) → IsConverted (Value type zero value place) (Pointer m kinds.Array u) v
+        → result_meets s.flow (Some b) (Value type zero value place) (Pointer m kinds.Array u) ≡ true → IsAsked g.structs s v b
+    row_returned b m u type zero value v place ints h is met = by (zero && is_number type) refl
+      where
+        passed : (z : Bool) → zero ≡ z → (zero && is_number type) ≡ false → v ≡ value → IsAsked g.structs s v b
+        passed true e unlike same = absurd (let int = h.is_number e in let none = rw (e, int) at unlike in cc)
+        passed false e unlike same =
+            let found : pointer_converts type kinds.Array (Pointer m kinds.Array u) ≡ true = rw e at is.0 in
+            let both : (meets s.flow value (asked_of type (Pointer m kinds.Array u)) && meets s.flow value (Some b)) ≡ true = rw e at met in
+            subst (λ e. IsAsked g.structs s e b) (sym same) (asked_so g.structs s knows.flow knows.few value b (row_below type m u value found h.node) ints (and_parts (meets s.flow value (asked_of type (Pointer m kinds.Array u))) (meets s.flow value (Some b)) both).1)
+
+        by : (test : Bool) → (zero && is_number type) ≡ test → IsAsked g.structs s v b
+        by true e = rules.null (is.1 ∙ ap (λ test. as_pointer test value) e)
+        by false e = passed zero refl e (is.1 ∙ ap (λ test. as_pointer test value) e)
+
+    pub result_asked : (r : Option Bounds) (t : Typed) (type : CType) (v : core.Expression) → ((b : Bounds) → r ≡ Some b → AreInts s.locals b) → Fits t → IsConverted t type v → result_meets s.flow r t type ≡ true → IsReturned g.structs s v type r
+    result_asked r t Int v ints h is met = tt
+    result_asked r t Char v ints h is met = tt
+    result_asked r t (Struct n) v ints h is met = tt
+    result_asked r t (Pointer m kinds.One u) v ints h is met = tt
+    result_asked r t (Pointer m kinds.Nt u) v ints h is met = tt
+    result_asked None t (Pointer m kinds.Array u) v ints h is met = tt
+    result_asked (Some b) (Value type zero value place) (Pointer m kinds.Array u) v ints h is met = row_returned b m u type zero value v place (ints b refl) h is met
+    result_asked (Some b) (AStruct number place) (Pointer m kinds.Array u) v ints h is met = absurd is
+
+    -- the bounds of a call, and what is at its node
+    record IsCalledWith (terms : List (Option Term)) (t : CType) (r : Option Bounds) (callee : Callee) (values : core.Arguments) (b : Option PointerBounds) : Type 0 where
+      bounds : HasCallBounds g.structs s.locals terms t r b
+      node : HasNode g.structs s.flow.vars t (core.Call callee values b)
+
+    by_its_type : (terms : List (Option Term)) (t : CType) (r : Option Bounds) (callee : Callee) (values : core.Arguments) (site : Site) → IsKnown s.structs t → IsCalledWith terms t r callee values (bounds_at s.structs t site)
+    by_its_type terms t r callee values site known =
+        let kept = bounds_kept s.structs g.structs t site knows.file.structs known in
+        record {
+          bounds = rules.by_type (site, kept);
+          node = subst (λ b. HasNode g.structs s.flow.vars t (core.Call callee values b)) (sym kept) (node_with g.structs s.flow.vars t site (core.Call callee values) (record { own = λ o. refl; none = refl; based = λ vars p b below e. absurd (cc) }));
+        }
+
+    row_called : (terms : List (Option Term)) (m : Mode) (u : CType) (b : Bounds) (ts : List CType) (callee : Callee) (values : core.Arguments) (site : Site) → AreTerms s.locals terms → IsKnown s.structs u → 0 < size_of s.structs u → AreOfResult ts (Some (Pointer m kinds.Array u)) b → (o : Option Bounds) → ends_filled_in terms b ≡ o
+        → IsCalledWith terms (Pointer m kinds.Array u) (Some b) callee values (call_bounds s.structs (Pointer m kinds.Array u) o site)
+    row_called terms m u b ts callee values site are known some sound None e = by_its_type terms (Pointer m kinds.Array u) (Some b) callee values site known
+    row_called terms m u b ts callee values site are known some sound (Some d) e =
+        let at = result_at_so s.locals terms are b d e in
+        let size = size_kept s.structs g.structs u knows.file.structs known in
+        let some' : 0 < size_of g.structs u = subst (λ n. 0 < n) size some in
+        record {
+          bounds = rules.by_result e size some' at.limited (at.base ∙ sound.base) at.ints;
+          node = record { own = record { size = size; some = some'; below = ends_below g.structs s knows.flow knows.few d at.ints }; based = λ c q. absurd (cc) };
+        }
+
+    call_with : (terms : List (Option Term)) (t : CType) (r : Option Bounds) (ts : List CType) (callee : Callee) (values : core.Arguments) (site : Site) → AreTerms s.locals terms → IsKnown s.structs t → IsSizedResult s.structs (Some t) r → HasResultBounds ts (Some t) r
+        → IsCalledWith terms t r callee values (call_bounds s.structs t (result_at terms r) site)
+    call_with terms Int r ts callee values site are known sized sound = by_its_type terms Int r callee values site known
+    call_with terms Char r ts callee values site are known sized sound = by_its_type terms Char r callee values site known
+    call_with terms (Struct n) r ts callee values site are known sized sound = by_its_type terms (Struct n) r callee values site known
+    call_with terms (Pointer m kinds.One u) r ts callee values site are known sized sound = by_its_type terms (Pointer m kinds.One u) r callee values site known
+    call_with terms (Pointer m kinds.Nt u) r ts callee values site are known sized sound = by_its_type terms (Pointer m kinds.Nt u) r callee values site known
+    call_with terms (Pointer m kinds.Array u) None ts callee values site are known sized sound = by_its_type terms (Pointer m kinds.Array u) None callee values site known
+    call_with terms (Pointer m kinds.Array u) (Some b) ts callee values site are known sized sound = row_called terms m u b ts callee values site are known sized (sound b refl) (ends_filled_in terms b) refl
+
+    -- a call of a trusted function
+    trusted_fits : (callee : Callee) (ts : List CType) (bs : List (Option Bounds)) (result : Option CType) (r : Option Bounds) (values : core.Arguments) (site : Site) → IsKnownResult s.structs result → IsSizedResult s.structs result r → HasResultBounds ts result r → IsCallee g callee ts bs result r → HaveTypes g types s values ts
+        → AreAsked g.structs s (terms_of s.locals values ts) (pointers_of s.locals values) values bs → IsScalarResult result → AreTerms s.locals (terms_of s.locals values ts) → FitsCall (call_of s.structs result (result_at (terms_of s.locals values ts) r) callee values site)
+    trusted_fits callee ts bs None r values site known sized sound is h asked scalar are = rules.call_alone is h asked
+    trusted_fits callee ts bs (Some t) r values site known sized sound is h asked scalar are =
+        let it = call_with (terms_of s.locals values ts) t r ts callee values site are known sized sound in
+        (rules.call is h asked it.bounds, (scalar, it.node))
+
+    -- of a tainted one
+    tainted_fits : (callee : Callee) (ts : List CType) (result : Option CType) (o : Option Bounds) (values : core.Arguments) (site : Site) → IsNumberResult result → IsCallee g callee ts [] result None → HaveTypes g types s values ts
+        → AreAsked g.structs s (terms_of s.locals values ts) (pointers_of s.locals values) values [] → FitsCall (call_of s.structs result o callee values site)
+    tainted_fits callee ts None o values site number is h asked = rules.call_alone is h asked
+    tainted_fits callee ts (Some Int) o values site number is h asked = (rules.call is h asked (rules.by_type (site, refl)), (refl, tt))
+    tainted_fits callee ts (Some Char) o values site number is h asked = (rules.call is h asked (rules.by_type (site, refl)), (refl, tt))
+    tainted_fits callee ts (Some (Struct n)) o values site number is h asked = absurd (cc)
+    tainted_fits callee ts (Some (Pointer m k t)) o values site number is h asked = absurd (cc)
+
     -- nothing is asked where no parameter has bounds
     none_asked : (terms : List (Option Term)) (pointers : List (Option ℕ)) (values : core.Arguments) → AreAsked g.structs s terms pointers values []
     none_asked terms pointers core.Done = tt
@@ -1075,24 +1169,32 @@ module _ (g : Frame) (types : List CType) (s : Scope) where
     result_known : (name : ℕ) (f : Signature) → function_named s.functions name ≡ Some f → IsKnownResult s.structs f.result
     result_known name f found = named_has (λ (x : Signature). IsKnownResult s.structs x.result) s.functions name f knows.file.closed.of_functions found
 
+    result_sized : (name : ℕ) (f : Signature) → function_named s.functions name ≡ Some f → IsSizedResult s.structs f.result (bounds_in f.result_bounds)
+    result_sized name f found = named_has (λ (x : Signature). IsSizedResult s.structs x.result (bounds_in x.result_bounds)) s.functions name f knows.file.closed.of_results found
+
     side_fits : (name : ℕ) (f : Signature) (arguments : List (Typed × Span)) (site : Site) (values : core.Arguments) (side : Bool) → is_import f ≡ side → function_named s.functions name ≡ Some f → AllFit arguments → HaveConverted arguments f.parameters values
-        → AllMet (terms_for s.locals arguments f.parameters) (pointers_for s.locals arguments) arguments f.parameters f.bounds → FitsCall (call_of s.structs f.result (callee_of side (side_number side s.functions f.name 0) site) values site)
+        → AllMet (terms_for s.locals arguments f.parameters) (pointers_for s.locals arguments) arguments f.parameters f.bounds
+        → FitsCall (call_of s.structs f.result (result_at (terms_for s.locals arguments f.parameters) (bounds_in f.result_bounds)) (callee_of side (side_number side s.functions f.name 0) site) values site)
     side_fits name f arguments site values true e found all h met =
         let number = side_number true s.functions f.name 0 in
         let is = knows.file.tainted name f found e in
-        call_fits s.structs (callees.Tainted number site) (replicate (length f.parameters) Int) f.result values site knows.file.structs (result_known name f found) [] (tainted_callee number f site is)
+        tainted_fits (callees.Tainted number site) (replicate (length f.parameters) Int) f.result (result_at (terms_for s.locals arguments f.parameters) (bounds_in f.result_bounds)) values site is.number_result (tainted_callee number f site is)
         (crossing (h.0 (types_met (terms_for s.locals arguments f.parameters) (pointers_for s.locals arguments) arguments f.parameters f.bounds is.rows met)) is.numbers)
-        (none_asked _ _ values) (scalar_result f.result is.number_result)
+        (none_asked _ _ values)
     side_fits name f arguments site values false e found all h met =
         let number = side_number false s.functions f.name 0 in
         let is = knows.file.trusted name f found e in
         let terms = terms_for s.locals arguments f.parameters in
         let pointers = pointers_for s.locals arguments in
+        let r = bounds_in f.result_bounds in
         let asked = all_asked terms pointers (are_terms s.locals arguments f.parameters) arguments f.parameters f.bounds values is.rows all h.1 met in
-        call_fits s.structs (callees.Trusted number) f.parameters f.result values site knows.file.structs (result_known name f found) (map bounds_in f.bounds) (trusted_callee number f is)
+        let same = terms_same arguments f.parameters values h.1 in
+        subst (λ ts. FitsCall (call_of s.structs f.result (result_at ts r) (callees.Trusted number) values site)) (sym same)
+        (trusted_fits (callees.Trusted number) f.parameters (map bounds_in f.bounds) f.result r values site (result_known name f found) (result_sized name f found) is.sound (trusted_callee number f is)
         (h.0 (types_met terms pointers arguments f.parameters f.bounds is.rows met))
-        (subst (λ ts. AreAsked g.structs s ts (pointers_of s.locals values) values (map bounds_in f.bounds)) (terms_same arguments f.parameters values h.1)
+        (subst (λ ts. AreAsked g.structs s ts (pointers_of s.locals values) values (map bounds_in f.bounds)) same
         (subst (λ ps. AreAsked g.structs s terms ps values (map bounds_in f.bounds)) (pointers_same arguments f.parameters values all h.1) asked)) is.scalar
+        (subst (AreTerms s.locals) same (are_terms s.locals arguments f.parameters)))
 
     called_promises : (o : Option Signature) (name : ℕ) (arguments : List (Typed × Span)) (site : Site) (span : Span) → function_named s.functions name ≡ o → AllFit arguments → Promises FitsCall (called s o name arguments site span)
     called_promises None name arguments site span e all = predefined_promises s.given name arguments span all

@@ -18,7 +18,7 @@ use Rattle.bounds_exprs.specs.declared.term.Term.{Term}
 use Rattle.bounds_flow.specs.declared.held.Held.{Held}
 use Rattle.bounds_flow.specs.Flows.{held_at}
 use Rattle.ckc_core.specs.Bounds.{base_byte, term_value}
-use Rattle.bounds_flow_meaning.specs.Holding.{AreDeclared, HasSize, HaveTypes, IsInt, IsValid, target_size, types_of}
+use Rattle.bounds_flow_meaning.specs.Holding.{AreDeclared, AreInts, HasSize, HaveTypes, IsInt, IsValid, target_size, types_of}
 use Rattle.bounds_flow_meaning.proofs.Sums.{variables_are_bases}
 use Rattle.bounds_flow_meaning.proofs.Validity.{alike_here as local_alike, carried, grown_valid, grows_here, stay_ends}
 use Rattle.region_typing_rules.specs.Verdicts.{picked}
@@ -163,6 +163,12 @@ module _ (structs declared : List Structure) (types : List CType) (u v : State) 
   valid_alike p b l d h =
       carried structs b b l l u v (subst (λ x. Grows (shapes u.blocks) (shapes x)) (sym alike.blocks) (grows_here (shapes u.blocks))) (local_alike l)
       (stay_ends (target_size structs l.type) b b u.locals v.locals (same_base b.base (λ q e. let it = d.base q e in (d.mode, it.0, d.element, it.1))) (same_term b.lo d.ints.lo) (same_term b.hi d.ints.hi)) h
+
+  -- bounds that count from no pointer
+  pub free_alike : (b : Bounds) (l : Local) → b.base ≡ None → AreInts types b → IsValid structs (Some b) l u → IsValid structs (Some b) l v
+  free_alike b l none ints h =
+      carried structs b b l l u v (subst (λ x. Grows (shapes u.blocks) (shapes x)) (sym alike.blocks) (grows_here (shapes u.blocks))) (local_alike l)
+      (stay_ends (target_size structs l.type) b b u.locals v.locals (same_base b.base (λ q e. absurd (let found : None ≡ Some q = sym none ∙ e in cc))) (same_term b.lo ints.lo) (same_term b.hi ints.hi)) h
 
   -- of the pointers of a flow in which such bounds are declared
   pub declared_alike : (held : List Held) → ((p : ℕ) (b : Bounds) → (held_at held p).declared ≡ Some b → IsDeclared declared types p b) → AreDeclared structs held u → AreDeclared structs held v

@@ -34,6 +34,7 @@ pub record Grows (before after : Scope) : Type 0 where
   pub functions : before.functions ≡ after.functions
   pub variables : before.variables ≡ after.variables
   pub result : before.result ≡ after.result
+  pub asked : before.result_bounds ≡ after.result_bounds
   pub loop : before.in_loop ≡ after.in_loop
   pub locals : Extends before.locals after.locals
   pub scalars : AllByRecursion IsScalar before.locals → AllByRecursion IsScalar after.locals
@@ -42,7 +43,7 @@ pub record Grows (before after : Scope) : Type 0 where
   pub closed : IsClosed before → IsClosed after
 
 pub stays : (g : Scope) → Grows g g
-stays g = record { tags = refl; structs = refl; functions = refl; variables = refl; result = refl; loop = refl; locals = λ k x h. h; scalars = λ h. h; size = refl; few = λ h. h; closed = λ h. h }
+stays g = record { tags = refl; structs = refl; functions = refl; variables = refl; result = refl; asked = refl; loop = refl; locals = λ k x h. h; scalars = λ h. h; size = refl; few = λ h. h; closed = λ h. h }
 
 pub grows_further : (a b c : Scope) → Grows a b → Grows b c → Grows a c
 grows_further a b c h h' = record {
@@ -51,6 +52,7 @@ grows_further a b c h h' = record {
   functions = h.functions ∙ h'.functions;
   variables = h.variables ∙ h'.variables;
   result = h.result ∙ h'.result;
+  asked = h.asked ∙ h'.asked;
   loop = h.loop ∙ h'.loop;
   locals = λ k x e. h'.locals k x (h.locals k x e);
   scalars = λ all. h'.scalars (h.scalars all);
@@ -61,7 +63,7 @@ grows_further a b c h h' = record {
 
 -- where something else is known of as many variables
 pub knowing_grows : (f : Knowledge) (g : Scope) → f.vars ≡ g.flow.vars → Grows g (knowing f g)
-knowing_grows f g e = record { tags = refl; structs = refl; functions = refl; variables = refl; result = refl; loop = refl; locals = λ k x h. h; scalars = λ h. h; size = sym e; few = λ h. subst (λ n. length g.locals ≤ n) (sym e) h; closed = λ h. h }
+knowing_grows f g e = record { tags = refl; structs = refl; functions = refl; variables = refl; result = refl; asked = refl; loop = refl; locals = λ k x h. h; scalars = λ h. h; size = sym e; few = λ h. subst (λ n. length g.locals ≤ n) (sym e) h; closed = λ h. h }
 
 -- behind something that grew, where something else is known
 pub knows_further : (f : Knowledge) (g h : Scope) → f.vars ≡ g.flow.vars → Grows g h → Grows g (knowing f h)
@@ -78,13 +80,13 @@ pub cut_grows : (g : Scope) → Grows g (cut g)
 cut_grows g = knowing_grows (cut_off g.flow) g refl
 
 pub broken_grows : (g : Scope) → Grows g (broken g)
-broken_grows g = record { tags = refl; structs = refl; functions = refl; variables = refl; result = refl; loop = refl; locals = λ k x h. h; scalars = λ h. h; size = refl; few = λ h. h; closed = λ h. h }
+broken_grows g = record { tags = refl; structs = refl; functions = refl; variables = refl; result = refl; asked = refl; loop = refl; locals = λ k x h. h; scalars = λ h. h; size = refl; few = λ h. h; closed = λ h. h }
 
 pub continued_grows : (g : Scope) → Grows g (continued g)
-continued_grows g = record { tags = refl; structs = refl; functions = refl; variables = refl; result = refl; loop = refl; locals = λ k x h. h; scalars = λ h. h; size = refl; few = λ h. h; closed = λ h. h }
+continued_grows g = record { tags = refl; structs = refl; functions = refl; variables = refl; result = refl; asked = refl; loop = refl; locals = λ k x h. h; scalars = λ h. h; size = refl; few = λ h. h; closed = λ h. h }
 
 pub head_grows : (body : Statement) (step : Option Assignment) (g : Scope) → Grows g (at_loop body step g)
-head_grows body step g = record { tags = refl; structs = refl; functions = refl; variables = refl; result = refl; loop = refl; locals = λ k x h. h; scalars = λ h. h; size = refl; few = λ h. h; closed = λ h. h }
+head_grows body step g = record { tags = refl; structs = refl; functions = refl; variables = refl; result = refl; asked = refl; loop = refl; locals = λ k x h. h; scalars = λ h. h; size = refl; few = λ h. h; closed = λ h. h }
 
 -- what is known of the file is known behind it
 pub file_known : (g : Frame) (a b : Scope) → Grows a b → KnowsFile g a → KnowsFile g b
@@ -110,7 +112,7 @@ known_append structs [] t h all = (h, tt)
 known_append structs (u ∷ ts) t h all = (all.0, known_append structs ts t h all.1)
 
 pub local_closed : (name : ℕ) (t : CType) (b : Option Bounds) (g : Scope) → IsKnown g.structs t → IsClosed g → IsClosed (with_local name t b g)
-local_closed name t b g h c = record { tagged = c.tagged; of_members = c.of_members; of_functions = c.of_functions; of_variables = c.of_variables; of_locals = known_append g.structs g.locals t h c.of_locals }
+local_closed name t b g h c = record { tagged = c.tagged; of_members = c.of_members; of_functions = c.of_functions; of_results = c.of_results; of_variables = c.of_variables; of_locals = known_append g.structs g.locals t h c.of_locals }
 
 -- a type that a scope knows, where each of its tags has a struct
 abbrev pub IsNamedIn : Scope → CType → Type 0
@@ -122,19 +124,19 @@ named_further a b t h named few =
     subst (λ x. IsKnown x t) h.structs (named before)
 
 pub local_grows : (name : ℕ) (t : CType) (b : Option Bounds) (g : Scope) → IsScalar t → length g.locals < g.flow.vars → IsNamedIn g t → Grows g (with_local name t b g)
-local_grows name t b g h low named = record { size = refl; tags = refl; structs = refl; functions = refl; variables = refl; result = refl; loop = refl; locals = extends_append g.locals (t ∷ []); scalars = scalars_append g.locals t h; few = λ n. omega (arith, length-append g.locals (t ∷ [])); closed = λ c. local_closed name t b g (named c.tagged) c }
+local_grows name t b g h low named = record { size = refl; tags = refl; structs = refl; functions = refl; variables = refl; result = refl; asked = refl; loop = refl; locals = extends_append g.locals (t ∷ []); scalars = scalars_append g.locals t h; few = λ n. omega (arith, length-append g.locals (t ∷ [])); closed = λ c. local_closed name t b g (named c.tagged) c }
 
 -- behind a block
 pub block_grows : (g inside : Scope) → Grows g inside → Grows g (behind_block g inside)
 block_grows g inside h =
     let size = outside_size (length g.locals) inside inside.flow in
-    record { tags = h.tags; structs = h.structs; functions = h.functions; variables = h.variables; result = h.result; loop = refl; locals = h.locals; scalars = h.scalars; size = h.size ∙ sym size; few = λ n. subst (λ v. length inside.locals ≤ v) (sym size) (h.few n); closed = h.closed }
+    record { tags = h.tags; structs = h.structs; functions = h.functions; variables = h.variables; result = h.result; asked = h.asked; loop = refl; locals = h.locals; scalars = h.scalars; size = h.size ∙ sym size; few = λ n. subst (λ v. length inside.locals ≤ v) (sym size) (h.few n); closed = h.closed }
 
 -- behind the body of a loop, which isn't in it
 pub loop_grows : (g inside : Scope) → Grows (in_loop g) inside → Grows g (behind_block g inside)
 loop_grows g inside h =
     let size = outside_size (length g.locals) inside inside.flow in
-    record { tags = h.tags; structs = h.structs; functions = h.functions; variables = h.variables; result = h.result; loop = refl; locals = h.locals; scalars = h.scalars; size = h.size ∙ sym size; few = λ n. subst (λ v. length inside.locals ≤ v) (sym size) (h.few n); closed = h.closed }
+    record { tags = h.tags; structs = h.structs; functions = h.functions; variables = h.variables; result = h.result; asked = h.asked; loop = refl; locals = h.locals; scalars = h.scalars; size = h.size ∙ sym size; few = λ n. subst (λ v. length inside.locals ≤ v) (sym size) (h.few n); closed = h.closed }
 
 -- behind branches
 pub branch_grows : (g : Scope) (c : core.Expression) (inside : Scope) → Grows (when c true g) inside → Grows g (behind_branch g c inside)
@@ -160,13 +162,13 @@ turns_grow g body step c inside h =
     let head = at_loop body step g in
     let grown = loop_grows (when c true head) inside h in
     let whole = grows_further g head _ (head_grows body step g) (grows_further head (when c true head) _ (when_grows c true head) grown) in
-    record { tags = whole.tags; structs = whole.structs; functions = whole.functions; variables = whole.variables; result = whole.result; loop = refl; locals = whole.locals; scalars = whole.scalars; size = whole.size; few = whole.few; closed = whole.closed }
+    record { tags = whole.tags; structs = whole.structs; functions = whole.functions; variables = whole.variables; result = whole.result; asked = whole.asked; loop = refl; locals = whole.locals; scalars = whole.scalars; size = whole.size; few = whole.few; closed = whole.closed }
 
 pub behind_grows : (g : Scope) (body : Statement) (step : Option Assignment) (c : core.Expression) (inside : Scope) → Grows g inside → Grows g (behind_loop g (at_loop body step g) c inside)
 behind_grows g body step c inside h =
     let head = at_loop body step g in
     let size = others_size inside.breaks (told g.locals c false head.flow) ∙ told_size g.locals c false head.flow in
-    record { tags = h.tags; structs = h.structs; functions = h.functions; variables = h.variables; result = h.result; loop = refl; locals = h.locals; scalars = h.scalars; size = sym size; few = λ n. subst (λ v. length inside.locals ≤ v) (sym h.size ∙ sym size) (h.few n); closed = h.closed }
+    record { tags = h.tags; structs = h.structs; functions = h.functions; variables = h.variables; result = h.result; asked = h.asked; loop = refl; locals = h.locals; scalars = h.scalars; size = sym size; few = λ n. subst (λ v. length inside.locals ≤ v) (sym h.size ∙ sym size) (h.few n); closed = h.closed }
 
 pub step_grows : (g : Scope) (body : Statement) (step : Option Assignment) (c : core.Expression) (inside : Scope) → Grows (in_loop (when c true (at_loop body step g))) inside → Grows g (before_step g inside)
 step_grows g body step c inside h =

@@ -1,5 +1,5 @@
 -- Functions, and items that break no rule, lead from a walk as it should be to another one.
-use Rattle.std.proofs.Common.{◌≡◌, ℕ, suc, ◌+◌, ◌*◌, ◌≤◌, Bool, true, false, List, [], ◌∷◌, ◌++◌, map, take, length, Option, Some, None, refl, sym, ap, ◌∙◌, subst, append_assoc, ⊎_elim, arith}
+use Rattle.std.proofs.Common.{◌≡◌, ℕ, ◌<◌, suc, ◌+◌, ◌*◌, ◌≤◌, Bool, true, false, List, [], ◌∷◌, ◌++◌, map, take, length, Option, Some, None, refl, sym, ap, ◌∙◌, subst, append_assoc, ⊎_elim, arith}
 use Rattle.std.specs.Prelude.{◌==◌, bytes_eq, nat_lt, not, ◌&&◌, ◌||◌, is_some, is_none}
 use Rattle.std.specs.List.{AllByRecursion, list_all, list_any}
 use Rattle.std.proofs.lemmas.Bool.Decides.{nat_tests}
@@ -15,24 +15,28 @@ use Rattle.ckc_tree.specs.Items as i
 use Rattle.ckc_names_rules.specs.Given as names
 use Rattle.ckc_names_rules.specs.Naming as naming
 use Rattle.ckc_names_rules.specs.Naming.{is_int_type, is_int, takes_nothing, is_main_function, is_main}
-use Rattle.built_forms.specs.Built.{is_number_result, is_number_parameter, built_parameters, built_of_kind, built_function, built_item}
+use Rattle.built_forms.specs.Built.{is_number_result, is_number_parameter, built_parameters, built_result_bounds, built_of_kind, built_function, built_item}
 use Rattle.ckc_tree.specs.Items.{Item}
 use Rattle.ckc_tree.specs.Heights.{◌beside◌, statements_reach, optional_bounds_reach, result_reach, parameters_reach, optional_body_reach, item_reach, items_reach}
-use Rattle.pointer_modes.specs.Types.{CType, Int, Structure}
+use Rattle.bounds_exprs.specs.declared.term.Bounds.{Bounds}
+use Rattle.pointer_modes.specs.declared.ctype.Kind.TheVariants as kinds
+use Rattle.pointer_modes.specs.Types.{CType, Int, Char, Struct, Pointer, Structure}
+use Rattle.pointer_modes.specs.Layout.{size_of}
+use Rattle.ckc_text.specs.declared.place.Span.{Span}
 use Rattle.ckc_core.specs.Core as core
 use Rattle.ckc_core.specs.Stacks.{statements_stack}
 use Rattle.region_typing_rules.specs.Verdicts.{Verdict, Passes, Stops, passing, picked}
-use Rattle.region_typing_rules.specs.Scopes.{Scope, Signature, bounds_in, function_named}
+use Rattle.region_typing_rules.specs.Scopes.{Scope, Signature, WrittenBounds, bounds_in, function_named}
 use Rattle.region_typing_rules.specs.Types.{base_type, without_stars}
 use Rattle.region_typing_rules.specs.Expressions.{Places, is_import, is_tainted}
 use Rattle.region_typing_rules.specs.Statements.{statements, with_local, is_unchecked}
 use Rattle.bounds_flow.specs.Flows.{at_entry}
-use Rattle.region_typing_rules.specs.Knowing.{all_declared}
+use Rattle.region_typing_rules.specs.Knowing.{all_declared, knowing}
 use Rattle.region_typing_rules.specs.Items as items
-use Rattle.region_typing_rules.specs.Items.{Walk, scalar_members, structure, variables, global, listed, parameter_types, result_type, with_function, with_parameters, variables_in, inside, core_function, function_body, is_defined, agrees, all_scalar, scalar_result, function_rules, signature_of, function, item, Parameter, with_bounds}
-use Rattle.region_typing_rules.specs.Typed.{Frame, HaveRows, IsScalar, IsScalarResult, AreStatements, IsNumberResult}
-use Rattle.region_typing_rules.proofs.Verdicts.{Promises, passing_promises, needs_promises, promised_so, both_promise, later_promises, all_promised, Extends}
-use Rattle.region_typing_rules.proofs.Known.{IsKnown, IsKnownResult, without_known, base_known}
+use Rattle.region_typing_rules.specs.Items.{Walk, bounds_of_result, first_changed_in, names as names_of, without_change, scalar_members, structure, variables, global, listed, parameter_types, result_type, with_function, with_parameters, variables_in, inside, core_function, function_body, is_defined, agrees, all_scalar, scalar_result, function_rules, signature_of, function, item, Parameter, with_bounds}
+use Rattle.region_typing_rules.specs.Typed.{Frame, HasResultBounds, HaveRows, IsScalar, IsScalarResult, AreStatements, IsNumberResult}
+use Rattle.region_typing_rules.proofs.Verdicts.{Promises, passing_promises, needs_promises, promised_so, both_promise, later_promises, all_promised, Extends, passed_is}
+use Rattle.region_typing_rules.proofs.Known.{IsKnown, IsKnownResult, IsSizedResult, without_known, base_known}
 use Rattle.region_typing_rules.proofs.Knowledge.{IsNumberType, KnowsFile}
 use Rattle.region_typing_rules.proofs.Growth.{Grows, stays, grows_further, file_known, knowing_grows, local_grows, statements_grow, GrowsTo}
 use Rattle.region_typing_rules.proofs.Stacks.{beside_first, beside_second, around_higher, HasFew}
@@ -42,9 +46,10 @@ use Rattle.region_typing_rules.specs.KnownIsSo.{IsSo, IsWalk}
 use Rattle.region_typing_rules.proofs.Sound.{AreSound, statements_sound}
 use Rattle.region_typing_rules.proofs.Soundness.{EndsAs, has_locals, runs_further, types_held}
 use Rattle.region_typing_rules.proofs.Calls.{AreEntered}
-use Rattle.region_typing_rules.proofs.Parameters.{AreFormed, AreParameters, all_bounds, all_formed, bounds_size, few_parameters, have_rows, none_listed, number_base, number_parameters, parameters_are, parameters_known, starred_number}
+use Rattle.region_typing_rules.proofs.Parameters.{AreForResult, AreFormed, AreParameters, all_bounds, all_formed, bounds_size, few_parameters, have_rows, none_listed, number_base, number_parameters, parameters_are, parameters_known, result_formed, starred_number}
+use Rattle.region_typing_rules.proofs.KeptParameters.{body_keeps}
 use Rattle.region_typing_rules.proofs.Entries.{inside_entry}
-use Rattle.region_typing_rules.proofs.Safe.{setting_of}
+use Rattle.region_typing_rules.proofs.Safe.{IsSafe, setting_of}
 use Rattle.ckc_core.specs.Meaning.{effects, knot}
 use Rattle.ckc_core.specs.States.{shapes}
 use Rattle.region_typing_rules.proofs.Walks.{FileGrows, file_stays, file_further, AreSettled, IsBody, IsNamed, IsWell, bodies_later, all_append}
@@ -106,7 +111,7 @@ module _ (height entry : ℕ) where
       (passing_promises (IsKnown g.structs) (IsKnown g.structs) (base_type g base) (without_stars base stars) (base_known g tagged base) (without_known g tagged base stars)) (λ t h. h)
 
   -- what its form says of a function, for its signature
-  record FitsForm (structs : List Structure) (d : i.Function) (result : Option CType) (parameters : List Parameter) : Type 0 where
+  record FitsForm (structs : List Structure) (d : i.Function) (result : Option CType) (parameters : List Parameter) (bounds : WrittenBounds) : Type 0 where
     known_result : IsKnownResult structs result
     known : AllByRecursion (λ (v : Parameter). IsKnown structs v.type) parameters
     numbers : is_tainted d.kind ≡ true → AllByRecursion IsNumberType (map (λ (p : Parameter). p.type) parameters)
@@ -115,6 +120,7 @@ module _ (height entry : ℕ) where
     few : length parameters ≤ 16
     none : is_main_function d ≡ true → parameters ≡ []
     formed : AreFormed structs (map (λ (p : Parameter). p.type) parameters) parameters
+    for_result : AreForResult structs (map (λ (p : Parameter). p.type) parameters) result bounds
 
   -- a tainted function of a built tree
   record IsCrossing (d : i.Function) : Type 0 where
@@ -122,7 +128,7 @@ module _ (height entry : ℕ) where
     parameters : built_parameters is_number_parameter d.parameters ≡ true
 
   crossing : (d : i.Function) → built_function d ≡ true → is_tainted d.kind ≡ true → IsCrossing d
-  crossing d h side = by d.kind side (and_parts (is_none d.bounds) (built_of_kind d.kind d) h).1
+  crossing d h side = by d.kind side (and_parts (built_result_bounds d.kind d.bounds) (built_of_kind d.kind d) h).1
     where
       by : (kind : FunctionKind) → is_tainted kind ≡ true → built_of_kind kind d ≡ true → IsCrossing d
       by function_kinds.Trusted side h = absurd (cc)
@@ -193,6 +199,7 @@ module _ (height entry : ℕ) where
     locals = [];
     visible = [];
     result = f.result;
+    result_bounds = None;
     in_loop = false;
     outside = 0;
     flow = at_entry (variables_in (length ps) body);
@@ -200,18 +207,22 @@ module _ (height entry : ℕ) where
     continues = None;
   }
 
-  -- the scope in which a body stands
-  inside_grows : (f : Signature) (ps : List Parameter) (body : trees.Statements) (s : Scope) → length ps ≤ 16 → AllByRecursion IsScalar (map (λ (p : Parameter). p.type) ps) → AllByRecursion (λ (v : Parameter). IsKnown s.structs v.type) ps → Grows (at_start f ps body s) (inside f ps body s)
+  -- the scope in which a body stands, but for the bounds of the result
+  abbrev before_result : Signature → List Parameter → trees.Statements → Scope → Scope
+  before_result f ps body s = let behind = with_parameters ps (at_start f ps body s) in knowing (with_bounds 0 ps behind.flow) behind
+
+  inside_grows : (f : Signature) (ps : List Parameter) (body : trees.Statements) (s : Scope) → length ps ≤ 16 → AllByRecursion IsScalar (map (λ (p : Parameter). p.type) ps) → AllByRecursion (λ (v : Parameter). IsKnown s.structs v.type) ps → Grows (at_start f ps body s) (before_result f ps body s)
   inside_grows f ps body s few all types =
       let start : Scope = at_start f ps body s in
       let behind : Scope = with_parameters ps start in
-      grows_further start behind (inside f ps body s) (parameters_grow ps start (omega (arith, for_parameters (length ps) body few)) all types)
+      grows_further start behind (before_result f ps body s) (parameters_grow ps start (omega (arith, for_parameters (length ps) body few)) all types)
       (knowing_grows (with_bounds 0 ps behind.flow) behind (bounds_size 0 ps behind.flow))
 
   file_inside : (g : Frame) (f : Signature) (ps : List Parameter) (body : trees.Statements) (s : Scope) → length ps ≤ 16 → AllByRecursion IsScalar (map (λ (p : Parameter). p.type) ps) → AllByRecursion (λ (v : Parameter). IsKnown s.structs v.type) ps → KnowsFile g s → KnowsFile g (inside f ps body s)
   file_inside g f ps body s few all types known =
       let start : Scope = at_start f ps body s in
-      file_known g start (inside f ps body s) (inside_grows f ps body s few all types) (record { structs = known.structs; closed = record { tagged = known.closed.tagged; of_members = known.closed.of_members; of_functions = known.closed.of_functions; of_variables = known.closed.of_variables; of_locals = tt }; few_members = known.few_members; scalar_members = known.scalar_members; variables = known.variables; trusted = known.trusted; tainted = known.tainted })
+      let k = file_known g start (before_result f ps body s) (inside_grows f ps body s few all types) (record { structs = known.structs; closed = record { tagged = known.closed.tagged; of_members = known.closed.of_members; of_functions = known.closed.of_functions; of_results = known.closed.of_results; of_variables = known.closed.of_variables; of_locals = tt }; few_members = known.few_members; scalar_members = known.scalar_members; variables = known.variables; trusted = known.trusted; tainted = known.tainted }) in
+      record { structs = k.structs; closed = k.closed; few_members = k.few_members; scalar_members = k.scalar_members; variables = k.variables; trusted = k.trusted; tainted = k.tainted }
 
   -- a body that was walked, in a program in which the file is known, where its locals are these
   record Premises (s : Scope) : Type 0 where
@@ -246,9 +257,10 @@ module _ (height entry : ℕ) where
     named : function_named s.functions f.name ≡ Some signature
     agrees : Agrees signature f
 
-  function_body_typed : (s : Scope) (f : Signature) (ps : List Parameter) (body : trees.Statements) (x : core.Statements × Scope) → f.parameters ≡ map (λ (p : Parameter). p.type) ps → f.bounds ≡ map (λ (p : Parameter). p.bounds) ps → IsKnownAs s f → AllByRecursion IsScalar f.parameters → IsScalarResult f.result → length ps ≤ 16
-      → AllByRecursion (λ (v : Parameter). IsKnown s.structs v.type) ps → AreFormed s.structs (map (λ (p : Parameter). p.type) ps) ps → IsWalkedBody (inside f ps body s) x → IsBody height s (record { name = f.name; function = core_function f ps x.0 x.1 })
-  function_body_typed s f ps body x same same_bounds known scalars result few known_types formed walked =
+  function_body_typed : (at : Places) (s : Scope) (f : Signature) (ps : List Parameter) (body : i.Body) (x : core.Statements × Scope) → f.parameters ≡ map (λ (p : Parameter). p.type) ps → f.bounds ≡ map (λ (p : Parameter). p.bounds) ps → HasResultBounds (map (λ (p : Parameter). p.type) ps) f.result (bounds_in f.result_bounds) → first_changed_in s f ps (Some body) ≡ None → IsKnownAs s f → AllByRecursion IsScalar f.parameters → IsScalarResult f.result → length ps ≤ 16
+      → AllByRecursion (λ (v : Parameter). IsKnown s.structs v.type) ps → AreFormed s.structs (map (λ (p : Parameter). p.type) ps) ps → IsWalkedBody (inside f ps body.statements s) x → statements at (inside f ps body.statements s) body.statements ≡ Passes x → IsBody height s (record { name = f.name; function = core_function f ps x.0 x.1 })
+  function_body_typed at s f ps text x same same_bounds sound unchanged known scalars result few known_types formed walked passes =
+      let body = text.statements in
       let start : Scope = at_start f ps body s in
       let types = map (λ (p : Parameter). p.type) ps in
       let all : AllByRecursion IsScalar types = subst (AllByRecursion IsScalar) same scalars in
@@ -260,47 +272,52 @@ module _ (height entry : ℕ) where
       let locals : AllByRecursion IsScalar x.1.locals = walked.1.scalars (subst (AllByRecursion IsScalar) (sym held) all) in
       let first : take (length ps) x.1.locals ≡ types = subst (λ n. take n x.1.locals ≡ types) count taken.0 in
       let declared : all_bounds ps ≡ map bounds_in known.signature.bounds = ap (map bounds_in) (sym same_bounds ∙ sym known.agrees.bounds) in
+      let r = bounds_in f.result_bounds in
+      let same_result : r ≡ bounds_in known.signature.result_bounds = ap bounds_in (sym known.agrees.result_bounds) in
       record {
         signature = known.signature;
         named = known.named;
         parameters = first ∙ sym same ∙ sym known.agrees.parameters;
         result = sym known.agrees.result;
-        safe = λ g file. record {
+        safe = λ g file. subst (λ r. IsSafe g (map bounds_in known.signature.bounds) r (core_function f ps x.0 x.1)) same_result (record {
           typed = record {
+            bounds = r;
             parameters = subst (λ n. n ≤ length x.1.locals) count taken.1;
             locals = locals;
             result = result;
-            body = subst (λ r. AreStatements g x.1.locals r false x.0) (sym grown.result) (subst (λ l. AreStatements g x.1.locals (inside f ps body s).result l x.0) (sym grown.loop) ((walked.2 (premises g file locals 0 0 0)).typed (λ k t e. e)));
+            body = subst (λ k. AreStatements g x.1.locals k r false x.0) (sym grown.result) (subst (λ l. AreStatements g x.1.locals (inside f ps body s).result r l x.0) (sym grown.loop) ((walked.2 (premises g file locals 0 0 0)).typed (λ k t e. e)));
           };
           rows = subst (λ ts. HaveRows ts (map bounds_in known.signature.bounds)) (sym first) (subst (HaveRows types) declared (have_rows s.structs types ps formed));
+          sound = subst (λ ts. HasResultBounds ts f.result r) (sym first) sound;
+          keeps = λ budget sandbox trusted n y named low u. body_keeps at (inside f ps body s) body x passes (names_of r) unchanged y named (let few = ap length held in omega (arith, low, few, count)) true (setting_of g budget sandbox trusted) n u;
           runs = λ budget sandbox trusted n knots low u kept begun.
-              runs_further g budget n low x.1.locals (λ flow t. EndsAs g (inside f ps body s).result (inside f ps body s).in_loop flow t × IsSo g.structs x.1 flow t) (EndsAs g f.result false) (effects true (setting_of g budget sandbox trusted) (knot true (setting_of g budget sandbox trusted) n) x.0 u)
+              runs_further g budget n low x.1.locals (λ flow t. EndsAs g (inside f ps body s).result r (inside f ps body s).in_loop flow t × IsSo g.structs x.1 flow t) (EndsAs g f.result r false) (effects true (setting_of g budget sandbox trusted) (knot true (setting_of g budget sandbox trusted) n) x.0 u)
               ((walked.2 (premises g file locals budget sandbox trusted)).runs (λ k t e. e) n knots low u
-              (record { kept = kept; known = (inside_entry g.structs f ps body s few formed).free u (types_held g.structs (shapes u.blocks) x.1.locals u.locals kept.locals) (has_locals g.structs (shapes u.blocks) (inside f ps body s).locals x.1.locals u.locals walked.1.locals kept.locals) (subst (λ bs. AreEntered g.structs bs u) (sym declared) begun) }))
-              (λ flow t h. subst (λ r. EndsAs g r false flow t) (sym grown.result) (subst (λ l. EndsAs g (inside f ps body s).result l flow t) (sym grown.loop) h.0));
-        };
+              (record { kept = kept; known = (inside_entry g.structs f ps body s few formed (λ b e. (sound b e).ints)).free u (types_held g.structs (shapes u.blocks) x.1.locals u.locals kept.locals) (has_locals g.structs (shapes u.blocks) (inside f ps body s).locals x.1.locals u.locals walked.1.locals kept.locals) (subst (λ bs. AreEntered g.structs bs u) (sym declared) begun) }))
+              (λ flow t h. subst (λ k. EndsAs g k r false flow t) (sym grown.result) (subst (λ l. EndsAs g (inside f ps body s).result r l flow t) (sym grown.loop) h.0));
+        });
         few_parameters = few;
         few_locals = few_of (walked.1.few (grown.few (omega arith)));
         low = walked.0;
       }
     where
-      premises : (g : Frame) → KnowsFile g s → AllByRecursion IsScalar x.1.locals → (budget sandbox trusted : ℕ) → Premises (inside f ps body s)
+      premises : (g : Frame) → KnowsFile g s → AllByRecursion IsScalar x.1.locals → (budget sandbox trusted : ℕ) → Premises (inside f ps text.statements s)
       premises g file locals budget sandbox trusted =
           let all : AllByRecursion IsScalar (map (λ (p : Parameter). p.type) ps) = subst (AllByRecursion IsScalar) same scalars in
           record {
             frame = g;
             types = x.1.locals;
             scalar = locals;
-            vars = variables_in (length ps) body;
+            vars = variables_in (length ps) text.statements;
             budget = budget;
             sandbox = sandbox;
             trusted = trusted;
-            known = file_inside g f ps body s few all known_types file;
-            walk = (inside_entry g.structs f ps body s few formed).walk;
+            known = file_inside g f ps text.statements s few all known_types file;
+            walk = (inside_entry g.structs f ps text.statements s few formed (λ b e. (sound b e).ints)).walk;
           }
 
       few_of : length x.1.locals ≤ x.1.flow.vars → length x.1.locals ≤ 256
-      few_of h = omega (arith, h, few_variables (length ps) body, walked.1.size, bounds_size 0 ps (with_parameters ps (at_start f ps body s)).flow, sizes_kept ps (at_start f ps body s))
+      few_of h = omega (arith, h, few_variables (length ps) text.statements, walked.1.size, bounds_size 0 ps (with_parameters ps (at_start f ps text.statements s)).flow, sizes_kept ps (at_start f ps text.statements s))
 
   -- ---- functions
 
@@ -326,15 +343,19 @@ module _ (height entry : ℕ) where
     scalars : all_scalar f.parameters ≡ true
     scalar : scalar_result f.result ≡ true
 
-  ruled_promises : (P : Walk → Type 0) (all : List Item) (d : i.Function) (f : Signature) (known : Option Signature) (x : Walk) → (IsRuled known f → P x) → Promises P (function_rules all d f known x)
-  ruled_promises P all d f known x h =
+  without_promises : {A : Type 0} (P : A → Type 0) (changed : Option Span) (next : Verdict A) → (changed ≡ None → Promises P next) → Promises P (without_change changed next)
+  without_promises P None next h = h refl
+  without_promises P (Some span) next h = tt
+
+  ruled_promises : (P : Walk → Type 0) (all : List Item) (d : i.Function) (f : Signature) (known : Option Signature) (changed : Option Span) (x : Walk) → (IsRuled known f → changed ≡ None → P x) → Promises P (function_rules all d f known changed x)
+  ruled_promises P all d f known changed x h =
       needs_promises P (agrees known f && (all_scalar f.parameters && scalar_result f.result)) E13 d.span _
       (λ ruled.
       let first = and_parts (agrees known f) (all_scalar f.parameters && scalar_result f.result) ruled in
       let second = and_parts (all_scalar f.parameters) (scalar_result f.result) first.1 in
       needs_promises P (picked (is_tainted d.kind) true (is_defined all d.name.number)) E10 d.span _
-      (λ defined. needs_promises P (not (is_unchecked d.mark)) E15 d.span _
-      (λ on. region_promises P x.scope d.span x (h (record { agreed = first.0; scalars = second.0; scalar = second.1 })))))
+      (λ defined. without_promises P changed _ (λ none. needs_promises P (not (is_unchecked d.mark)) E15 d.span _
+      (λ on. region_promises P x.scope d.span x (h (record { agreed = first.0; scalars = second.0; scalar = second.1 }) none)))))
 
   module _ (w : Walk) (well : IsWell height w) (settled : AreSettled w.scope.structs w.scope.variables w.objects) where
     -- with a function that is declared, for the first time or again
@@ -342,13 +363,30 @@ module _ (height entry : ℕ) where
       follows : Follows height w (record w { scope = with_function known f w.scope })
       is_known : IsKnownAs (with_function known f w.scope) f
 
+    -- a result with bounds is sized
+    sized_result : (structs : List Structure) (types : List CType) (result : Option CType) (written : WrittenBounds) → AreForResult structs types result written → IsSizedResult structs result (bounds_in written)
+    sized_result structs types None written h = tt
+    sized_result structs types (Some Int) written h = tt
+    sized_result structs types (Some Char) written h = tt
+    sized_result structs types (Some (Struct n)) written h = tt
+    sized_result structs types (Some (Pointer m kinds.One t)) written h = tt
+    sized_result structs types (Some (Pointer m kinds.Nt t)) written h = tt
+    sized_result structs types (Some (Pointer m kinds.Array t)) written h = by (bounds_in written) refl
+      where
+        by : (o : Option Bounds) → bounds_in written ≡ o → IsSizedResult structs (Some (Pointer m kinds.Array t)) o
+        by None e = tt
+        by (Some b) e =
+            let it = h b e in
+            let same : it.are.element ≡ t = (let q = it.are.is in cc) in
+            subst (λ c. 0 < size_of structs c) same it.some
+
     -- those that are found are found among one more
     named_so_far : (f : Signature) (functions : List Signature) → AllByRecursion (IsNamed w.scope.functions) functions → AllByRecursion (IsNamed (w.scope.functions ++ f ∷ [])) functions
     named_so_far f [] all = tt
     named_so_far f (x ∷ functions) all = (named_further w.scope.functions f x.name x all.0, named_so_far f functions all.1)
 
-    declares : (known : Option Signature) (f : Signature) → function_named w.scope.functions f.name ≡ known → IsRuled known f → IsDeclared f → IsKnownResult w.scope.structs f.result → Declares known f
-    declares None f e ruled declared known_result =
+    declares : (known : Option Signature) (f : Signature) → function_named w.scope.functions f.name ≡ known → IsRuled known f → IsDeclared f → IsKnownResult w.scope.structs f.result → IsSizedResult w.scope.structs f.result (bounds_in f.result_bounds) → Declares known f
+    declares None f e ruled declared known_result sized =
         let after = with_function None f w.scope in
         let c = well.closed in
         let grows : FileGrows w.scope after = record {
@@ -360,7 +398,7 @@ module _ (height entry : ℕ) where
         record {
           follows = record {
             well = record {
-              closed = record { tagged = c.tagged; of_members = c.of_members; of_functions = all_append (λ (x : Signature). IsKnownResult w.scope.structs x.result) w.scope.functions f c.of_functions known_result; of_variables = c.of_variables; of_locals = c.of_locals };
+              closed = record { tagged = c.tagged; of_members = c.of_members; of_functions = all_append (λ (x : Signature). IsKnownResult w.scope.structs x.result) w.scope.functions f c.of_functions known_result; of_results = all_append (λ (x : Signature). IsSizedResult w.scope.structs x.result (bounds_in x.result_bounds)) w.scope.functions f c.of_results sized; of_variables = c.of_variables; of_locals = c.of_locals };
               few = well.few;
               scalars = well.scalars;
               start = well.start;
@@ -374,9 +412,9 @@ module _ (height entry : ℕ) where
             settled = settled;
             grows = grows;
           };
-          is_known = record { signature = f; named = named_last w.scope.functions f e; agrees = record { kind = refl; parameters = refl; result = refl; bounds = refl } };
+          is_known = record { signature = f; named = named_last w.scope.functions f e; agrees = record { kind = refl; parameters = refl; result = refl; bounds = refl; result_bounds = refl } };
         }
-    declares (Some before) f e ruled declared known_result = record {
+    declares (Some before) f e ruled declared known_result sized = record {
       follows = record {
         well = record { closed = well.closed; few = well.few; scalars = well.scalars; start = well.start; declared = well.declared; named = well.named; bodies = well.bodies; roomy = well.roomy; bytes = well.bytes; room = well.room };
         settled = settled;
@@ -385,9 +423,9 @@ module _ (height entry : ℕ) where
       is_known = record { signature = before; named = e; agrees = agrees_equal before f ruled.agreed };
     }
 
-    module _ (d : i.Function) (result : Option CType) (parameters : List Parameter) (form : FitsForm w.scope.structs d result parameters) (of_main : IsNamedMain entry (i.FunctionItem d)) (known : Option Signature) (found : function_named w.scope.functions d.name.number ≡ known) where
+    module _ (d : i.Function) (result : Option CType) (parameters : List Parameter) (bounds : WrittenBounds) (form : FitsForm w.scope.structs d result parameters bounds) (of_main : IsNamedMain entry (i.FunctionItem d)) (known : Option Signature) (found : function_named w.scope.functions d.name.number ≡ known) where
       abbrev signature : Signature
-      signature = signature_of d result parameters
+      signature = signature_of d result parameters bounds
 
       abbrev with_it : Walk
       with_it = record w { scope = with_function known signature w.scope }
@@ -396,10 +434,10 @@ module _ (height entry : ℕ) where
       IsPassed v = Passed w (is_main_function d) v
 
       declared_so : IsRuled known signature → IsDeclared signature
-      declared_so ruled = record { few = omega (arith, form.few, length-map parameters (λ (p : Parameter). p.type)); scalars = scalars_all signature.parameters ruled.scalars; result = result_scalar result ruled.scalar; numbers = form.numbers; number_result = form.number_result; rows = have_rows w.scope.structs signature.parameters parameters form.formed }
+      declared_so ruled = record { few = omega (arith, form.few, length-map parameters (λ (p : Parameter). p.type)); scalars = scalars_all signature.parameters ruled.scalars; result = result_scalar result ruled.scalar; numbers = form.numbers; number_result = form.number_result; rows = have_rows w.scope.structs signature.parameters parameters form.formed; sound = λ b e. (form.for_result b e).are }
 
       is_declared : IsRuled known signature → Declares known signature
-      is_declared ruled = declares known signature found ruled (declared_so ruled) form.known_result
+      is_declared ruled = declares known signature found ruled (declared_so ruled) form.known_result (sized_result w.scope.structs signature.parameters result bounds form.for_result)
 
       main_known : IsKnownAs with_it.scope signature → is_main_function d ≡ true → HasMain with_it.scope
       main_known it_is main =
@@ -422,10 +460,11 @@ module _ (height entry : ℕ) where
       formed_parameters (Some before) = form.formed
 
       -- with a body more
-      with_body : IsRuled known signature → (body : trees.Statements) → (x : core.Statements × Scope) → IsWalkedBody (inside signature parameters body with_it.scope) x → IsPassed (record with_it { bodies = with_it.bodies ++ record { name = signature.name; function = core_function signature parameters x.0 x.1 } ∷ [] })
-      with_body ruled body x walked =
+      with_body : (at : Places) → IsRuled known signature → (body : i.Body) → first_changed_in with_it.scope signature parameters (Some body) ≡ None → (x : core.Statements × Scope) → IsWalkedBody (inside signature parameters body.statements with_it.scope) x
+          → statements at (inside signature parameters body.statements with_it.scope) body.statements ≡ Passes x → IsPassed (record with_it { bodies = with_it.bodies ++ record { name = signature.name; function = core_function signature parameters x.0 x.1 } ∷ [] })
+      with_body at ruled body none x walked passes =
           let it = is_declared ruled in
-          let typed_body = function_body_typed with_it.scope signature parameters body x refl refl it.is_known (scalars_all signature.parameters ruled.scalars) (result_scalar result ruled.scalar) form.few (known_parameters known) (formed_parameters known) walked in
+          let typed_body = function_body_typed at with_it.scope signature parameters body x refl refl (λ b e. (form.for_result b e).are) none it.is_known (scalars_all signature.parameters ruled.scalars) (result_scalar result ruled.scalar) form.few (known_parameters known) (formed_parameters known) walked passes in
           let well' = it.follows.well in
           record {
             follows = record {
@@ -455,17 +494,23 @@ module _ (height entry : ℕ) where
       few_inside : (body : trees.Statements) → HaveFew (inside signature parameters body with_it.scope)
       few_inside body = subst (AllByRecursion HasFew) (parameters_keep parameters (at_start signature parameters body with_it.scope)) have_few
 
-      body_promises : (at : Places) (body : Option i.Body) → (optional_body_reach body).height ≤ height → Promises (λ (x : Walk). IsRuled known signature → IsPassed x) (function_body at with_it signature parameters body)
-      body_promises at None low = λ ruled. let it = is_declared ruled in record { follows = it.follows; main = main_known it.is_known }
+      abbrev IsPassedIf : Option i.Body → Walk → Type 0
+      IsPassedIf body x = IsRuled known signature → first_changed_in with_it.scope signature parameters body ≡ None → IsPassed x
+
+      body_promises : (at : Places) (body : Option i.Body) → (optional_body_reach body).height ≤ height → Promises (IsPassedIf body) (function_body at with_it signature parameters body)
+      body_promises at None low = λ ruled none. let it = is_declared ruled in record { follows = it.follows; main = main_known it.is_known }
       body_promises at (Some body) low =
           let higher = around_higher body.span.from (statements_reach body.statements) in
           let start = inside signature parameters body.statements with_it.scope in
-          passing_promises (IsWalkedBody start) (λ (x : Walk). IsRuled known signature → IsPassed x) (statements at start body.statements) _ (body_walked at start body.statements (few_inside body.statements) (omega arith))
-          (λ x walked. needs_promises (λ (x : Walk). IsRuled known signature → IsPassed x) (not (is_unchecked body.mark || with_it.scope.is_off)) E15 body.span _ (λ on ruled. with_body ruled body.statements x walked))
+          passing_promises (λ (x : core.Statements × Scope). IsWalkedBody start x × (statements at start body.statements ≡ Passes x)) (IsPassedIf (Some body)) (statements at start body.statements) _
+          (both_promise (IsWalkedBody start) (λ (x : core.Statements × Scope). statements at start body.statements ≡ Passes x) (statements at start body.statements) (body_walked at start body.statements (few_inside body.statements) (omega arith)) (passed_is (statements at start body.statements)))
+          (λ x h. needs_promises (IsPassedIf (Some body)) (not (is_unchecked body.mark || with_it.scope.is_off)) E15 body.span _ (λ on ruled none. with_body at ruled body none x h.0 h.1))
 
-      declaration_promises : (at : Places) (all : List Item) → (optional_body_reach d.body).height ≤ height → Promises IsPassed (passing (function_body at with_it signature parameters d.body) (λ x. function_rules all d signature known x))
+      declaration_promises : (at : Places) (all : List Item) → (optional_body_reach d.body).height ≤ height
+          → Promises IsPassed (passing (function_body at with_it signature parameters d.body) (λ x. function_rules all d signature known (first_changed_in with_it.scope signature parameters d.body) x))
       declaration_promises at all low =
-          passing_promises (λ (x : Walk). IsRuled known signature → IsPassed x) IsPassed (function_body at with_it signature parameters d.body) _ (body_promises at d.body low) (λ x h. ruled_promises IsPassed all d signature known x h)
+          passing_promises (IsPassedIf d.body) IsPassed (function_body at with_it signature parameters d.body) _ (body_promises at d.body low)
+          (λ x h. ruled_promises IsPassed all d signature known (first_changed_in with_it.scope signature parameters d.body) x h)
 
     -- what the form says of the result and of the parameters
     abbrev ResultFits : i.Function → Option CType → Type 0
@@ -486,8 +531,8 @@ module _ (height entry : ℕ) where
     none_taken i.VoidAlone h = refl
     none_taken (i.Listed parameters) h = absurd (cc)
 
-    fits_form : (d : i.Function) (result : Option CType) (ps : List Parameter) → built_function d ≡ true → ResultFits d result → AreParameters w.scope (listed d.parameters) 0 (listed d.parameters) ps → FitsForm w.scope.structs d result ps
-    fits_form d result ps built hr are =
+    fits_form : (d : i.Function) (result : Option CType) (ps : List Parameter) (bounds : WrittenBounds) → built_function d ≡ true → ResultFits d result → AreParameters w.scope (listed d.parameters) 0 (listed d.parameters) ps → AreForResult w.scope.structs (map (λ (p : Parameter). p.type) ps) result bounds → FitsForm w.scope.structs d result ps bounds
+    fits_form d result ps bounds built hr are for_result =
         let all = listed d.parameters in
         record {
           known_result = hr.1.1;
@@ -498,6 +543,7 @@ module _ (height entry : ℕ) where
           few = let low = few_parameters w.scope all 0 all ps are (omega arith) in omega (arith, low);
           none = λ main. none_listed w.scope ps (subst (λ ms. AreParameters w.scope ms 0 ms ps) (none_taken d.parameters (main_form d main).nothing) are);
           formed = all_formed w.scope all ps are;
+          for_result = for_result;
         }
 
     function_promises : (at : Places) (all : List Item) (d : i.Function) → IsNamedMain entry (i.FunctionItem d) → built_function d ≡ true → (optional_body_reach d.body).height ≤ height → Promises (Passed w (is_main_function d)) (function at all w d)
@@ -505,7 +551,8 @@ module _ (height entry : ℕ) where
         needs_promises (Passed w (is_main_function d)) (is_some (function_named w.scope.functions d.name.number) || nat_lt (length w.scope.functions) 4096) E08 d.span _
         (λ few. passing_promises (ResultFits d) (Passed w (is_main_function d)) (result_type w.scope d.result d.stars) _ (result_fits d built)
         (λ result hr. passing_promises (AreParameters w.scope (listed d.parameters) 0 (listed d.parameters)) (Passed w (is_main_function d)) (parameter_types w.scope (listed d.parameters) (listed d.parameters) []) _ (parameters_are w.scope (listed d.parameters))
-        (λ parameters are. declaration_promises d result parameters (fits_form d result parameters built hr are) of_main (function_named w.scope.functions d.name.number) refl at all low)))
+        (λ parameters are. passing_promises (AreForResult w.scope.structs (map (λ (p : Parameter). p.type) parameters) result) (Passed w (is_main_function d)) (bounds_of_result w.scope (listed d.parameters) result d.bounds) _ (result_formed w.scope (listed d.parameters) parameters are result d.bounds)
+        (λ bounds for_result. declaration_promises d result parameters bounds (fits_form d result parameters bounds built hr are for_result) of_main (function_named w.scope.functions d.name.number) refl at all low))))
 
     -- ---- items
 

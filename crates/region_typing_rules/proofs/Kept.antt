@@ -1,7 +1,7 @@
 -- What the walk over a program keeps, where it is said of the functions and the bodies that are known.
-use Rattle.std.proofs.Common.{◌≡◌, ℕ, true, List, [], ◌∷◌, ◌++◌, length, Option}
+use Rattle.std.proofs.Common.{◌≡◌, ℕ, true, List, [], ◌∷◌, ◌++◌, length, Option, Some, None}
 use Rattle.std.specs.Prelude.{nat_lt, not, is_some, ◌&&◌, ◌||◌}
-use Rattle.ckc_text.specs.declared.code.Code.TheVariants.{E08, E10, E13, E15, E27}
+use Rattle.ckc_text.specs.declared.code.Code.TheVariants.{E08, E10, E13, E15, E27, E29}
 use Rattle.ckc_text.specs.declared.place.Span.{Span}
 use Rattle.ckc_tree.specs.Types.{TypeTree}
 use Rattle.ckc_tree.specs.Statements.{Declarator}
@@ -10,12 +10,12 @@ use Rattle.ckc_tree.specs.Items.{Item}
 use Rattle.pointer_modes.specs.Types as types
 use Rattle.pointer_modes.specs.Types.{CType}
 use Rattle.ckc_core.specs.Programs.{Initial}
-use Rattle.region_typing_rules.specs.Verdicts.{Verdict, Passes, Stops, passing, needs, picked}
-use Rattle.region_typing_rules.specs.Scopes.{Scope, Signature, function_named}
+use Rattle.region_typing_rules.specs.Verdicts.{Verdict, Passes, Stops, passing, needs, breaks, picked}
+use Rattle.region_typing_rules.specs.Scopes.{Scope, Signature, WrittenBounds, function_named}
 use Rattle.region_typing_rules.specs.Expressions.{Places, is_tainted}
 use Rattle.region_typing_rules.specs.Statements.{is_unchecked}
 use Rattle.region_typing_rules.specs.Types.{base_type, without_stars}
-use Rattle.region_typing_rules.specs.Items.{Defined, Parameter, Walk, Walked, WalkedVariable, in_checked_region, is_struct, member_types, member_names, with_struct, scalar_members, structure, initializer, object_cells, variables, with_variable, length_of, room_for, room_for_first, with_objects, global, listed, parameter_types, result_type, with_function, function_body, agrees, all_scalar, scalar_result, is_defined, function_rules, signature_of, function}
+use Rattle.region_typing_rules.specs.Items.{Defined, Parameter, Walk, Walked, WalkedVariable, in_checked_region, is_struct, member_types, member_names, with_struct, scalar_members, structure, initializer, object_cells, variables, with_variable, length_of, room_for, room_for_first, with_objects, global, listed, parameter_types, bounds_of_result, first_changed_in, result_type, with_function, function_body, agrees, all_scalar, scalar_result, is_defined, function_rules, signature_of, function}
 use Rattle.region_typing_rules.proofs.Verdicts.{Promises, passing_promises, needs_promises}
 
 -- whatever is passed on
@@ -102,19 +102,27 @@ module _ (P : List Signature → List Defined → Type 0) where
 
   -- ---- functions
 
-  rules_kept : (all : List Item) (d : i.Function) (f : Signature) (known : Option Signature) (w : Walk) → Keeps w → Promises Keeps (function_rules all d f known w)
-  rules_kept all d f known w h =
+  rules_kept : (all : List Item) (d : i.Function) (f : Signature) (known : Option Signature) (changed : Option Span) (w : Walk) → Keeps w → Promises Keeps (function_rules all d f known changed w)
+  rules_kept all d f known (Some span) w h =
+      needs_promises Keeps (agrees known f && (all_scalar f.parameters && scalar_result f.result)) E13 d.span (needs (picked (is_tainted d.kind) true (is_defined all d.name.number)) E10 d.span (breaks E29 span)) (λ e.
+      needs_promises Keeps (picked (is_tainted d.kind) true (is_defined all d.name.number)) E10 d.span (breaks E29 span) (λ e'. tt))
+  rules_kept all d f known None w h =
       let checked = in_checked_region w.scope d.span w in
       needs_promises Keeps (agrees known f && (all_scalar f.parameters && scalar_result f.result)) E13 d.span (needs (picked (is_tainted d.kind) true (is_defined all d.name.number)) E10 d.span (needs (not (is_unchecked d.mark)) E15 d.span checked)) (λ e.
       needs_promises Keeps (picked (is_tainted d.kind) true (is_defined all d.name.number)) E10 d.span (needs (not (is_unchecked d.mark)) E15 d.span checked) (λ e'.
       needs_promises Keeps (not (is_unchecked d.mark)) E15 d.span checked (λ e''. in_region w.scope d.span w h)))
 
-  abbrev declared_in : Walk → i.Function → Option CType → List Parameter → Walk
-  declared_in w d result parameters = record w { scope = with_function (function_named w.scope.functions d.name.number) (signature_of d result parameters) w.scope }
+  abbrev declared_in : Walk → i.Function → Option CType → List Parameter → WrittenBounds → Walk
+  declared_in w d result parameters bounds = record w { scope = with_function (function_named w.scope.functions d.name.number) (signature_of d result parameters bounds) w.scope }
+
+  abbrev behind_bounds : Places → List Item → Walk → i.Function → Option CType → List Parameter → WrittenBounds → Verdict Walk
+  behind_bounds at all w d result parameters bounds =
+      let f = signature_of d result parameters bounds in
+      passing (function_body at (declared_in w d result parameters bounds) f parameters d.body) (function_rules all d f (function_named w.scope.functions d.name.number) (first_changed_in (declared_in w d result parameters bounds).scope f parameters d.body))
 
   abbrev behind_parameters : Places → List Item → Walk → i.Function → Option CType → List Parameter → Verdict Walk
   behind_parameters at all w d result parameters =
-      passing (function_body at (declared_in w d result parameters) (signature_of d result parameters) parameters d.body) (function_rules all d (signature_of d result parameters) (function_named w.scope.functions d.name.number))
+      passing (bounds_of_result w.scope (listed d.parameters) result d.bounds) (behind_bounds at all w d result parameters)
 
   abbrev behind_result : Places → List Item → Walk → i.Function → Option CType → Verdict Walk
   behind_result at all w d result = passing (parameter_types w.scope (listed d.parameters) (listed d.parameters) []) (behind_parameters at all w d result)
@@ -128,6 +136,8 @@ module _ (P : List Signature → List Defined → Type 0) where
       needs_promises Keeps (is_some known || nat_lt (length w.scope.functions) 4096) E08 d.span (passing (result_type w.scope d.result d.stars) (behind_result at all w d)) (λ room.
       passing_any Keeps (result_type w.scope d.result d.stars) (behind_result at all w d) (λ result.
       passing_any Keeps (parameter_types w.scope (listed d.parameters) (listed d.parameters) []) (behind_parameters at all w d result) (λ parameters.
-      let f = signature_of d result parameters in
-      passing_promises Keeps Keeps (function_body at (declared_in w d result parameters) f parameters d.body) (function_rules all d f known)
-      (defines (declared_in w d result parameters) f parameters (declares f room)) (λ v kept. rules_kept all d f known v kept))))
+      passing_any Keeps (bounds_of_result w.scope (listed d.parameters) result d.bounds) (behind_bounds at all w d result parameters) (λ bounds.
+      let f = signature_of d result parameters bounds in
+      let changed = first_changed_in (declared_in w d result parameters bounds).scope f parameters d.body in
+      passing_promises Keeps Keeps (function_body at (declared_in w d result parameters bounds) f parameters d.body) (function_rules all d f known changed)
+      (defines (declared_in w d result parameters bounds) f parameters (declares f room)) (λ v kept. rules_kept all d f known changed v kept)))))

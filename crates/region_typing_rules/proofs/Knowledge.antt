@@ -19,9 +19,10 @@ use Rattle.region_typing_rules.specs.Verdicts.{Verdict, meant, picked}
 use Rattle.region_typing_rules.specs.Scopes.{Scope, Signature, FileVariable, Visible, Named, Local, Object, Array, Nothing, local_if, found_if, local_named, object_of, object_named, or_else, null_named, named, function_named, bounds_in}
 use Rattle.region_typing_rules.specs.Types.{is_number}
 use Rattle.region_typing_rules.specs.Expressions.{Typed, is_checked_argument, without_checked, crossing, is_import, side_number, member_from, offset_among}
+use Rattle.bounds_flow_meaning.specs.Holding.{AreInts}
 use Rattle.bounds_flow_meaning.specs.Rows.{slots_from, slots, HasRow}
 use Rattle.region_typing_rules.specs.KnownIsSo.{AreLimited}
-use Rattle.region_typing_rules.specs.Typed.{Frame, HaveRows, AreRows, IsNumberResult, IsScalar, IsScalarResult}
+use Rattle.region_typing_rules.specs.Typed.{Frame, HasResultBounds, HaveRows, AreRows, IsNumberResult, IsScalar, IsScalarResult}
 use Rattle.region_typing_rules.proofs.Verdicts.{Promises, needs_promises, Extends}
 use Rattle.region_typing_rules.proofs.Known.{IsKnown, IsClosed}
 
@@ -36,6 +37,8 @@ pub record IsTrusted (g : Frame) (number : ℕ) (f : Signature) : Type 0 where
   pub result : function.result ≡ f.result
   pub scalar : IsScalarResult f.result
   pub bounds : slice_get g.bounds number ≡ Some (map bounds_in f.bounds)
+  pub told : slice_get g.result_bounds number ≡ Some (bounds_in f.result_bounds)
+  pub sound : HasResultBounds f.parameters f.result (bounds_in f.result_bounds)
   pub rows : HaveRows f.parameters (map bounds_in f.bounds)
 
 -- a tainted one, which takes and gives numbers
@@ -91,6 +94,7 @@ pub record Knows (g : Frame) (types : List CType) (s : Scope) : Type 0 where
   pub flow : IsFlow s.flow
   pub pointers : (k : ℕ) (b : Bounds) → (held_at s.flow.held k).bounds ≡ Some b → IsPointing s k b
   pub few : length s.locals ≤ s.flow.vars
+  pub result : (b : Bounds) → s.result_bounds ≡ Some b → AreInts s.locals b
   pub locals : Extends s.locals types
   pub scalar : AllByRecursion IsScalar types
 

@@ -1,5 +1,5 @@
 -- Types that name declared structs alone. Their values keep their sizes when more structs are declared.
-use Rattle.std.proofs.Common.{◌≡◌, ℕ, zero, suc, ◌<◌, ◌≤◌, ◌++◌, Bool, false, List, [], ◌∷◌, length, Option, Some, None, refl, arith}
+use Rattle.std.proofs.Common.{◌≡◌, ℕ, zero, suc, ◌<◌, ◌≤◌, ◌++◌, Bool, false, List, [], ◌∷◌, length, Option, Some, None, refl, subst, arith}
 use Rattle.std.specs.Prelude.{◌==◌, slice_get, get_or}
 use Rattle.std.specs.List.{AllByRecursion}
 use Rattle.std.proofs.lemmas.List.Quantifiers.{position-Some}
@@ -7,15 +7,17 @@ use Rattle.std.proofs.lemmas.Option.{slice_get-get_or}
 use Rattle.std.proofs.lemmas.List.{length-append}
 use Rattle.ckc_text.specs.declared.code.Code.TheVariants.{E15}
 use Rattle.ckc_tree.specs.Types.{TypeTree, IntType, CharType, StructType, PointerType, TypeName, type_span}
+use Rattle.bounds_exprs.specs.declared.term.Bounds.{Bounds}
+use Rattle.pointer_modes.specs.declared.ctype.Kind.TheVariants as kinds
 use Rattle.pointer_modes.specs.Types.{CType, Int, Char, Struct, Pointer, Member, Structure, members_of}
 use Rattle.pointer_modes.specs.Layout.{size_of}
 use Rattle.ckc_core.specs.declared.program.Site.{Site}
 use Rattle.region_typing_rules.specs.Verdicts.{Passes, passing, meant}
-use Rattle.region_typing_rules.specs.Scopes.{Scope, Signature, FileVariable, struct_named}
+use Rattle.region_typing_rules.specs.Scopes.{Scope, Signature, FileVariable, bounds_in, struct_named}
 use Rattle.region_typing_rules.specs.Types.{base_type, without_stars, type_named}
 use Rattle.region_typing_rules.specs.Expressions.{bounds_at}
 use Rattle.region_typing_rules.specs.Items.{with_struct}
-use Rattle.region_typing_rules.proofs.Verdicts.{Promises, passing_promises, needs_promises, Extends}
+use Rattle.region_typing_rules.proofs.Verdicts.{Promises, passing_promises, needs_promises, Extends, extends_append}
 
 -- each struct that a type names is declared
 abbrev pub IsKnown : List Structure → CType → Type 0
@@ -67,6 +69,34 @@ of_members P none [] s h new (suc n) = none
 of_members P none (x ∷ structs) s h new zero = h 0
 of_members P none (x ∷ structs) s h new (suc n) = of_members P none structs s (λ k. h (suc k)) new n
 
+-- a result with bounds points to elements that have bytes
+abbrev pub IsSizedResult : List Structure → Option CType → Option Bounds → Type 0
+IsSizedResult structs None o = Unit {0}
+IsSizedResult structs (Some Int) o = Unit {0}
+IsSizedResult structs (Some Char) o = Unit {0}
+IsSizedResult structs (Some (Struct number)) o = Unit {0}
+IsSizedResult structs (Some (Pointer m kinds.One t)) o = Unit {0}
+IsSizedResult structs (Some (Pointer m kinds.Nt t)) o = Unit {0}
+IsSizedResult structs (Some (Pointer m kinds.Array t)) None = Unit {0}
+IsSizedResult structs (Some (Pointer m kinds.Array t)) (Some b) = 0 < size_of structs t
+
+sized_later : (a b : List Structure) (result : Option CType) (o : Option Bounds) → Extends a b → IsKnownResult a result → IsSizedResult a result o → IsSizedResult b result o
+sized_later a b None o ext known h = tt
+sized_later a b (Some Int) o ext known h = tt
+sized_later a b (Some Char) o ext known h = tt
+sized_later a b (Some (Struct number)) o ext known h = tt
+sized_later a b (Some (Pointer m kinds.One t)) o ext known h = tt
+sized_later a b (Some (Pointer m kinds.Nt t)) o ext known h = tt
+sized_later a b (Some (Pointer m kinds.Array t)) None ext known h = tt
+sized_later a b (Some (Pointer m kinds.Array t)) (Some x) ext known h = subst (λ n. 0 < n) (size_kept a b t ext known) h
+
+abbrev IsSizedIn : List Structure → Signature → Type 0
+IsSizedIn structs f = IsSizedResult structs f.result (bounds_in f.result_bounds)
+
+results_later : (a b : List Structure) (functions : List Signature) → Extends a b → AllByRecursion (λ (f : Signature). IsKnownResult a f.result) functions → AllByRecursion (IsSizedIn a) functions → AllByRecursion (IsSizedIn b) functions
+results_later a b [] ext known all = tt
+results_later a b (f ∷ functions) ext known all = (sized_later a b f.result (bounds_in f.result_bounds) ext known.0 all.0, results_later a b functions ext known.1 all.1)
+
 -- ---- scopes
 
 -- all types that are in a scope name structs of the scope alone
@@ -74,6 +104,7 @@ pub record AreClosed (tags : List ℕ) (structs : List Structure) (functions : L
   pub tagged : length tags ≤ length structs
   pub of_members : (n : ℕ) → AllByRecursion (λ (m : Member). IsKnown structs m.ctype) (members_of structs n)
   pub of_functions : AllByRecursion (λ (f : Signature). IsKnownResult structs f.result) functions
+  pub of_results : AllByRecursion (λ (f : Signature). IsSizedResult structs f.result (bounds_in f.result_bounds)) functions
   pub of_variables : AllByRecursion (λ (v : FileVariable). IsKnown structs v.type) variables
   pub of_locals : AllByRecursion (IsKnown structs) locals
 
@@ -90,6 +121,7 @@ with_struct_closed s tag names tainted members known c =
       tagged = omega (arith, c.tagged, length-append s.tags (tag ∷ []), length-append s.structs (new ∷ []));
       of_members = of_members (AllByRecursion (λ (m : Member). IsKnown more m.ctype)) tt s.structs new (λ n. all_so (λ (m : Member). IsKnown s.structs m.ctype) (λ (m : Member). IsKnown more m.ctype) (λ m. known_later s.structs more m.ctype longer) (members_of s.structs n) (c.of_members n)) known;
       of_functions = all_so (λ (f : Signature). IsKnownResult s.structs f.result) (λ (f : Signature). IsKnownResult more f.result) (λ f. result_later s.structs more f.result longer) s.functions c.of_functions;
+      of_results = results_later s.structs more s.functions (extends_append s.structs (new ∷ [])) c.of_functions c.of_results;
       of_variables = all_so (λ (v : FileVariable). IsKnown s.structs v.type) (λ (v : FileVariable). IsKnown more v.type) (λ v. known_later s.structs more v.type longer) s.variables c.of_variables;
       of_locals = all_so (IsKnown s.structs) (IsKnown more) (λ t. known_later s.structs more t longer) s.locals c.of_locals;
     }

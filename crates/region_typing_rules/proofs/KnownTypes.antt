@@ -11,6 +11,7 @@ use Rattle.ckc_tree.specs.declared.expr.BinaryOperator.TheVariants as binary
 use Rattle.ckc_tree.specs.Expressions as e
 use Rattle.ckc_tree.specs.Expressions.{Expression}
 use Rattle.pointer_modes.specs.declared.ctype.Kind.TheVariants as kinds
+use Rattle.bounds_exprs.specs.declared.term.Bounds.{Bounds}
 use Rattle.pointer_modes.specs.Types.{CType, Int, Char, Struct, Pointer, Member, Structure, members_of}
 use Rattle.ckc_core.specs.declared.program.Site.{Site}
 use Rattle.act_words.specs.declared.operator.Comparison.{Comparison}
@@ -214,9 +215,9 @@ module _ (structs : List Structure) where
 
   -- ---- calls
 
-  call_known : (callee : Callee) (result : Option CType) (values : core.Arguments) (site : Site) → IsKnownResult structs result → IsKnownCall structs (call_of structs result callee values site)
-  call_known callee None values site h = tt
-  call_known callee (Some t) values site h = h
+  call_known : (callee : Callee) (result : Option CType) (bounds : Option Bounds) (values : core.Arguments) (site : Site) → IsKnownResult structs result → IsKnownCall structs (call_of structs result bounds callee values site)
+  call_known callee None bounds values site h = tt
+  call_known callee (Some t) bounds values site h = h
 
   writes_known : (of : core.Expression → core.Statement) (arguments : List (Typed × Span)) (span : Span) → Promises (IsKnownCall structs) (writes of arguments span)
   writes_known of arguments span =
@@ -298,7 +299,7 @@ module _ (s : Scope) (closed : IsClosed s) where
       needs_promises (IsKnownCall s.structs) (length f.parameters == length arguments) E14 span _
       (λ many. crossing_promises (IsKnownCall s.structs) (is_import f) arguments _
       (passing_promises (λ (values : core.Arguments). Unit {0}) (IsKnownCall s.structs) (arguments_as arguments f.parameters) _ (anything_promised (arguments_as arguments f.parameters))
-      (λ values _. all_met_promise (IsKnownCall s.structs) s.flow _ _ arguments f.parameters f.bounds _ (call_known s.structs (declared_callee s f site) f.result values site (named_has (λ (x : Signature). IsKnownResult s.structs x.result) s.functions name f closed.of_functions e)))))
+      (λ values _. all_met_promise (IsKnownCall s.structs) s.flow _ _ arguments f.parameters f.bounds _ (call_known s.structs (declared_callee s f site) f.result _ values site (named_has (λ (x : Signature). IsKnownResult s.structs x.result) s.functions name f closed.of_functions e)))))
 
   pub typed_known : (at : Places) (x : Expression) → Promises (IsKnownTyped s.structs) (typed at s x)
   typed_known at (e.Number value span) = needs_promises (IsKnownTyped s.structs) (nat_lt value (2 ^ 31)) E04 span _ (λ low. tt)

@@ -61,3 +61,4 @@ pub mod Safe
 pub mod SameTypes
 pub mod DeclaredBounds
 pub mod Parameters
+pub mod KeptParameters

@@ -3,7 +3,7 @@ use Rattle.std.proofs.Common.{◌≡◌, ℕ, zero, suc, ◌≤◌, Bool, true, 
 use Rattle.std.specs.Prelude.{◌||◌, not, nat_lt, slice_set, slice_index_or}
 use Rattle.std.proofs.lemmas.List.{length-append}
 use Rattle.ckc_text.specs.declared.place.Span.{Span}
-use Rattle.ckc_text.specs.declared.code.Code.TheVariants.{E08, E13, E15, E30}
+use Rattle.ckc_text.specs.declared.code.Code.TheVariants.{E08, E13, E15, E17, E30}
 use Rattle.ckc_tree.specs.Types.{TypeTree}
 use Rattle.ckc_tree.specs.Expressions as e
 use Rattle.ckc_tree.specs.Expressions.{Expression}
@@ -12,21 +12,20 @@ use Rattle.ckc_tree.specs.Statements.{Declarator, Declaration, Assignment, ForIn
 use Rattle.bounds_flow.specs.Flows.{Knowledge}
 use Rattle.pointer_modes.specs.Types.{CType}
 use Rattle.ckc_core.specs.Core as core
-use Rattle.region_typing_rules.specs.Verdicts.{Passes}
 use Rattle.region_typing_rules.specs.Scopes.{Scope, Visible}
 use Rattle.region_typing_rules.specs.Types.{is_scalar, without_stars, base_type}
 use Rattle.region_typing_rules.specs.Expressions.{Places, Typed, Called, Gives, GivesNothing, call_typed, typed}
 use Rattle.region_typing_rules.specs.Knowing.{when, local_number, target_marked, marked_at, assignment_marked, bundle_marked, step_marked, hiding, hidden_by, hidden_first, first_marked, marked, all_marked, at_loop}
 use Rattle.bounds_exprs.specs.declared.term.Bounds.{Bounds}
 use Rattle.region_typing_rules.specs.DeclaredBounds.{declared_bounds}
-use Rattle.region_typing_rules.specs.Statements.{Walked, both, assigning, zero_value, with_local, initialised, bounded_local, declarator, declarators, declaration, at_alternative, before_step, in_loop, is_unchecked, condition, optional_condition, optional_step, first_part, alone, return, returned, returned_nothing, statement, statements}
+use Rattle.region_typing_rules.specs.Statements.{Walked, both, assigning, zero_value, with_local, initialised, bounded_local, declarator, declarators, declaration, at_alternative, before_step, in_loop, is_unchecked, condition, optional_condition, optional_step, first_part, alone, return, result_meets, returned, returned_nothing, statement, statements}
 use Rattle.region_typing_rules.proofs.Verdicts.{Promises, passing_promises, needs_promises, extends_last}
 use Rattle.region_typing_rules.proofs.Kept.{passing_any}
 use Rattle.region_typing_rules.proofs.Assigning.{assigning_promises, declared_promises}
 use Rattle.region_typing_rules.proofs.Moving.{AssignsOnly, AllAssignOnly}
 use Rattle.region_typing_rules.proofs.Assigns.{IsPlain}
 use Rattle.region_typing_rules.proofs.Sources.{IsNameOf, IsFreshCall, call_typed_fresh}
-use Rattle.region_typing_rules.proofs.Marks.{IsAssignment, IsFirst, target_of, converted_met, assignment_plain, initialised_plain}
+use Rattle.region_typing_rules.proofs.Marks.{IsAssignment, IsFirst, target_of, converted_any, assignment_plain, initialised_plain}
 
 -- ---- marks are only added
 
@@ -225,9 +224,9 @@ return_only may core.ReturnNothing h = tt
 return_only may core.Break h = absurd h
 return_only may core.Continue h = absurd h
 
-returned_is : (f : Knowledge) (o : Option CType) (t : Typed) (span : Span) → Promises IsReturn (returned f o t span)
-returned_is f None t span = tt
-returned_is f (Some type) t span = converted_met IsReturn f t type span (λ v. Passes (core.Return v)) (λ v. tt)
+returned_is : (f : Knowledge) (o : Option CType) (b : Option Bounds) (t : Typed) (span : Span) → Promises IsReturn (returned f o b t span)
+returned_is f None b t span = tt
+returned_is f (Some type) b t span = converted_any IsReturn t type span _ (λ v. needs_promises IsReturn (result_meets f b t type) E17 span _ (λ met. tt))
 
 nothing_is : (o : Option CType) (span : Span) → Promises IsReturn (returned_nothing o span)
 nothing_is None span = tt
@@ -235,7 +234,7 @@ nothing_is (Some type) span = tt
 
 pub return_is : (at : Places) (g : Scope) (o : Option Expression) (span : Span) → Promises IsReturn (return at g o span)
 return_is at g None span = nothing_is g.result span
-return_is at g (Some x) span = passing_any IsReturn (typed at g x) _ (λ t. returned_is g.flow g.result t span)
+return_is at g (Some x) span = passing_any IsReturn (typed at g x) _ (λ t. returned_is g.flow g.result g.result_bounds t span)
 
 pub call_only : (may : ℕ → Bool) (x : core.Statement) → IsPlain [] x → AssignsOnly may x
 call_only may core.Nothing h = tt

@@ -33,11 +33,14 @@ pub record IsAssignment (g : Scope) (target : Expression) (x : core.Statement) :
   pub plain : IsPlain g.locals x
   pub only : (may : ℕ → Bool) → ((k : ℕ) → IsNameOf g.visible target k → may k ≡ true) → AssignsOnly may x
 
--- a conversion goes on with some value, and bounds are asked for behind it
+-- a conversion goes on with some value
+pub converted_any : {A : Type 0} (Q : A → Type 0) (t : Typed) (to : CType) (span : Span) (next : core.Expression → Verdict A) → ((v : core.Expression) → Promises Q (next v)) → Promises Q (converted t to span next)
+converted_any Q (Value type null value place) to span next more = needs_promises Q (converts type null to) E13 span _ (λ ok. more (in_type to (null && is_number type) value))
+converted_any Q (AStruct number place) to span next more = tt
+
+-- and bounds are asked for behind it
 pub converted_met : {A : Type 0} (Q : A → Type 0) (f : Knowledge) (t : Typed) (to : CType) (span : Span) (next : core.Expression → Verdict A) → ((v : core.Expression) → Promises Q (next v)) → Promises Q (converted t to span (λ v. bounds_met f t to span (next v)))
-converted_met Q f (Value type null value place) to span next more =
-    needs_promises Q (converts type null to) E13 span _ (λ ok. let v = in_type to (null && is_number type) value in met_promises Q f (Value type null value place) to span (next v) (more v))
-converted_met Q f (AStruct number place) to span next more = tt
+converted_met Q f t to span next more = converted_any Q t to span _ (λ v. met_promises Q f t to span (next v) (more v))
 
 module _ (g : Scope) (target : Expression) where
   store_plain : (place : Lvalue) (type : CType) (value : core.Expression) → IsTarget g target type (For place) → IsAssignment g target (store place type value)

@@ -6,7 +6,7 @@ use Rattle.std.specs.Option.{option_map}
 use Rattle.std.proofs.lemmas.Bool.{and_parts}
 use Rattle.ckc_text.specs.declared.fault.SourceFault.{SourceFault}
 use Rattle.ckc_text.specs.declared.place.Span.{Span}
-use Rattle.ckc_text.specs.declared.code.Code.TheVariants.{E04, E08, E10, E13, E15, E27}
+use Rattle.ckc_text.specs.declared.code.Code.TheVariants.{E04, E08, E10, E13, E15, E16, E27}
 use Rattle.ckc_tree.specs.declared.identifier.Identifier.{Identifier}
 use Rattle.ckc_tree.specs.declared.item.FunctionKind.{FunctionKind}
 use Rattle.ckc_tree.specs.declared.item.FunctionKind.TheVariants as function_kinds
@@ -14,8 +14,10 @@ use Rattle.ckc_tree.specs.Types.{TypeTree, IntType, CharType, StructType, Pointe
 use Rattle.ckc_tree.specs.Statements as s
 use Rattle.ckc_tree.specs.Statements.{Initializer, Declarator, Statements}
 use Rattle.ckc_tree.specs.Items as i
-use Rattle.ckc_tree.specs.Items.{ResultForm, Parameters, Body, Item, Tree}
-use Rattle.ckc_tree.specs.Numbers.{Numbers, number_type, number_expression, number_initializer, number_declarator, number_statements, number_member, number_structure, number_global, number_result, number_parameters, number_body, number_function, number_item}
+use Rattle.ckc_tree.specs.Expressions.{Bounds, bounds_span}
+use Rattle.ckc_tree.specs.Items.{Member, ResultForm, Parameters, Body, Item, Tree}
+use Rattle.bounds_exprs.specs.declared.term.Bounds.{Bounds as Formed}
+use Rattle.ckc_tree.specs.Numbers.{Numbers, number_type, number_expression, number_bounds, number_initializer, number_declarator, number_statements, number_member, number_structure, number_global, number_result, number_parameters, number_body, number_function, number_item}
 use Rattle.built_forms.specs.Built.{optional, built_type, built_initializer, built_variable, built_result, built_parameters, built_parameter, is_number_result, is_number_parameter, built_body, built_of_kind, built_function, built_item, is_built}
 use Rattle.ckc_names_rules.specs.declared.given.Given.{Given}
 use Rattle.ckc_names_rules.specs.Given.{number_in, given_by}
@@ -27,15 +29,18 @@ use Rattle.pointer_modes.specs.Types as types
 use Rattle.pointer_modes.specs.Types.{CType, Int, Char, Struct, Pointer, Structure}
 use Rattle.ckc_core.specs.Programs.{Initial}
 use Rattle.ckc_core.specs.Core as core
-use Rattle.region_typing_rules.specs.Verdicts.{Verdict, Passes, Stops, Broken, Nameless, Unnamed, passing, meant, picked}
-use Rattle.region_typing_rules.specs.Scopes.{Scope, Signature, FileVariable, found_if, object_of, object_named, function_named, struct_named}
+use Rattle.region_typing_rules.specs.Verdicts.{Verdict, Passes, Stops, Broken, Nameless, Unnamed, passing, needs, meant, picked}
+use Rattle.region_typing_rules.specs.Scopes.{Scope, Signature, FileVariable, bounds_in, found_if, object_of, object_named, function_named, struct_named}
 use Rattle.region_typing_rules.specs.Types.{without_stars, base_type}
 use Rattle.region_typing_rules.specs.Expressions.{Places, is_tainted, typed}
 use Rattle.bounds_flow.specs.Flows.{at_entry}
 use Rattle.region_typing_rules.specs.Statements.{is_unchecked, statements}
 use Rattle.ckc_tree.specs.declared.stmt.SignedConstant.{SignedConstant}
-use Rattle.region_typing_rules.specs.Items.{Walk, Parameter, is_struct, member_types, scalar_members, with_struct, member_names, structure, signed_constant, Walked, Missing, Written, Constants, unsigned_number, small_constants, initializer, are_zeros, is_zero, number_or_break, cells_or_break, object_cells, with_variable, length_of, count_of, is_length, written_size, few_bytes, room_for, WalkedVariable, variables, room_for_first, with_objects, global, listed, parameter_types, result_type, agrees, all_scalar, scalar_result, with_function, variables_in, with_bounds, before_bounds, inside, function_body, is_defined, function_rules, signature_of, function, is_off, item, items, start, walked}
+use Rattle.region_typing_rules.specs.Knowing.{knowing}
+use Rattle.region_typing_rules.specs.Items.{Walk, Parameter, is_struct, member_types, scalar_members, with_struct, member_names, structure, signed_constant, Walked, Missing, Written, Constants, unsigned_number, small_constants, initializer, are_zeros, is_zero, number_or_break, cells_or_break, object_cells, with_variable, length_of, count_of, is_length, written_size, few_bytes, room_for, WalkedVariable, variables, room_for_first, with_objects, global, listed, parameter_types, among_parameters, type_of_result, bounds_of_result, first_changed_in, result_type, agrees, all_scalar, scalar_result, with_function, variables_in, with_bounds, before_bounds, inside, function_body, is_defined, function_rules, signature_of, function, is_off, item, items, start, walked}
 use Rattle.region_typing_rules.specs.Cores.{checked}
+use Rattle.region_typing_rules.specs.DeclaredBounds.{declared_bounds}
+use Rattle.region_typing_rules.proofs.NamedBounds.{bounds_named}
 use Rattle.region_typing_rules.proofs.Signatures.{bytes_equal}
 use Rattle.region_typing_rules.proofs.NamedVerdicts.{IsNamed, AllNamed, Any, passing_named, then_named, needs_named, named_so}
 use Rattle.region_typing_rules.proofs.NamedMentions.{AreFound, mentioned_append, not_refused, quiet_front, quiet_all, type_quiet, bounds_quiet, optional_quiet, initializer_quiet, declared_front, AreQuiet, opened, block_mentioned, KeepsOutside, append_keeps, quiet_keeps, nothing_keeps, statements_keep}
@@ -311,20 +316,38 @@ body_named of at w f ps (Some body) k l agrees built h =
     (statements_named of at body.statements k l start (agrees (number_statements of body.statements)) built h)
     (λ x _. needs_named (λ (v : Walk). v.scope ≡ w.scope) (not (is_unchecked body.mark || w.scope.is_off)) E15 body.span _ refl)
 
-rules_named : (all : List Item) (d : i.Function) (f : Signature) (known : Option Signature) (w : Walk) → IsNamed (λ (v : Walk). v ≡ w) (function_rules all d f known w)
-rules_named all d f known w =
+-- the bounds of a result, where those of all parameters are read
+result_bounds_named : (of : Numbers) (k : Scopes) (g : Scope) → KnowsTags of k.tags g → (all : List Member) (result : Option CType) (o : Option Bounds) → AreFound k (optional_mentions bounds_mentions o)
+    → AllNamed (bounds_of_result g all result (option_map (number_bounds of) o))
+result_bounds_named of k g knows all result None found = tt
+result_bounds_named of k g knows all result (Some text) found =
+    by (declared_bounds (among_parameters g all) (type_of_result result) (length all) (Some (number_bounds of text))) refl (bounds_named of k (among_parameters g all) knows (type_of_result result) (length all) (Some text) found)
+  where
+    by : (v : Verdict (Option Formed)) → declared_bounds (among_parameters g all) (type_of_result result) (length all) (Some (number_bounds of text)) ≡ v → AllNamed v → AllNamed (bounds_of_result g all result (Some (number_bounds of text)))
+    by (Passes None) e h = rw e tt
+    by (Passes (Some b)) e h =
+        rw e (then_named Any (needs (is_none b.base) E16 (bounds_span (number_bounds of text)) (Passes (Some b))) _ (needs_named Any (is_none b.base) E16 (bounds_span (number_bounds of text)) _ tt) (λ kept. tt))
+    by (Stops (Broken fault)) e h = rw e tt
+    by (Stops Nameless) e h = absurd h
+
+rules_named : (all : List Item) (d : i.Function) (f : Signature) (known : Option Signature) (changed : Option Span) (w : Walk) → IsNamed (λ (v : Walk). v ≡ w) (function_rules all d f known changed w)
+rules_named all d f known (Some span) w =
+    let Q : Walk → Type 0 = λ v. v ≡ w in
+    needs_named Q (agrees known f && (all_scalar f.parameters && scalar_result f.result)) E13 d.span _ (needs_named Q (picked (is_tainted d.kind) true (is_defined all d.name.number)) E10 d.span _ tt)
+rules_named all d f known None w =
     let Q : Walk → Type 0 = λ v. v ≡ w in
     needs_named Q (agrees known f && (all_scalar f.parameters && scalar_result f.result)) E13 d.span _
     (needs_named Q (picked (is_tainted d.kind) true (is_defined all d.name.number)) E10 d.span _
     (needs_named Q (not (is_unchecked d.mark)) E15 d.span _ (needs_named Q (not w.scope.is_off) E15 d.span (Passes w) refl)))
 
--- what naming goes through in a function: the tags of its result and its parameters, and its body
+-- what naming goes through in a function: the tags of its result and its parameters, the bounds of its result, and its body
 record Parts (n m : Scopes) (d : i.Function) : Type 0 where
   result : AreFound n (result_mentions d.result)
   declared : Scopes
   is_declared : declared ≡ standing_for d.name (Function (is_some d.body || was_defined (innermost n.blocks d.name.name))) n
   entered : Scopes
   parameters : all_mentioned (parameters_mentions d.parameters) (opened declared) ≡ Ok entered
+  bounds : AreFound entered (optional_mentions bounds_mentions d.bounds)
   left : Scopes
   body : all_mentioned (optional_mentions of_body d.body) entered ≡ Ok left
   behind : m ≡ declared
@@ -341,7 +364,7 @@ parts_of n m d h =
     let block = block_mentioned inner keeps declared m (function_front d.name (is_some d.body) (in_block inner) n m front.1) in
     let split = mentioned_append (parameters_mentions d.parameters) (bounds ++ body) (opened declared) block.0 block.1 in
     let rest = quiet_front bounds body quiet split.0 block.0 split.2 in
-    record { result = front.0; declared = declared; is_declared = refl; entered = split.0; parameters = split.1; left = block.0; body = rest.1; behind = block.2 }
+    record { result = front.0; declared = declared; is_declared = refl; entered = split.0; parameters = split.1; bounds = rest.0; left = block.0; body = rest.1; behind = block.2 }
 
 listed_numbered : (of : Numbers) (p : Parameters) → listed (number_parameters of p) ≡ map (number_member of) (listed p)
 listed_numbered of i.Nothing = refl
@@ -352,16 +375,20 @@ function_named_so : (of : Numbers) (at : Places) (all : List Item) (n m : Scopes
 function_named_so of at all n m w d before built h =
     let parts = parts_of n m d h in
     let e = number_function of d in
-    let form = body_built d.kind d (and_parts (is_none d.bounds) _ built).1 in
+    let form = body_built d.kind d (and_parts _ (built_of_kind d.kind d) built).1 in
     let known = function_named w.scope.functions (of d.name.name) in
-    let tags = (parameters_add (λ x. Unit {0}) d.parameters (λ x e. tt) (opened parts.declared) parts.entered parts.parameters).1 in
+    let added = parameters_add (λ x. Unit {0}) d.parameters (λ x e. tt) (opened parts.declared) parts.entered parts.parameters in
+    let tags = added.1 in
+    let knows : KnowsTags of parts.entered.tags w.scope = subst (λ (ts : List (List ℕ)). KnowsTags of ts w.scope) (subst (λ (k : Scopes). n.tags ≡ k.tags) (sym parts.is_declared) refl ∙ sym added.0.keeps.tags) before.tag in
     let tags' : HaveTags n.tags (listed d.parameters) = subst (λ (k : Scopes). HaveTags k.tags (listed d.parameters)) parts.is_declared tags in
     let named : IsNamed (AreParameters of (listed d.parameters) []) (parameter_types w.scope (listed e.parameters) (listed e.parameters) []) =
     subst (λ ms. IsNamed (AreParameters of (listed d.parameters) []) (parameter_types w.scope (listed e.parameters) ms [])) (sym (listed_numbered of d.parameters)) (parameters_named of n.tags w.scope before.tag (listed e.parameters) (listed d.parameters) [] tags') in
     needs_named (File of m) _ E08 d.span _
     (then_named (File of m) (result_type w.scope e.result d.stars) _ (result_named of n w.scope before d.result d.stars parts.result)
     (λ result. passing_named (AreParameters of (listed d.parameters) []) (File of m) (parameter_types w.scope (listed e.parameters) (listed e.parameters) []) _ named
-    (λ ps each. (let f : Signature = signature_of e result ps in
+    (λ ps each. then_named (File of m) (bounds_of_result w.scope (listed e.parameters) result e.bounds) _ (result_bounds_named of parts.entered w.scope knows (listed e.parameters) result d.bounds parts.bounds)
+    (λ bounds. (let f : Signature = signature_of e result ps bounds in
+    let changed = first_changed_in (with_function (function_named w.scope.functions e.name.number) f w.scope) f ps e.body in
     let after : Scope = with_function known f w.scope in
     let inner : Walk = record w { scope = after } in
     let now : AgreesFile of parts.declared after = subst (λ k. AgreesFile of k after) (sym parts.is_declared) (function_agrees of d.name _ f refl n w.scope before) in
@@ -370,6 +397,7 @@ function_named_so of at all n m w d before built h =
       locals = [];
       visible = [];
       result = f.result;
+      result_bounds = None;
       in_loop = false;
       outside = 0;
       flow = at_entry (variables_in (length ps) body);
@@ -378,11 +406,13 @@ function_named_so of at all n m w d before built h =
     } in
     let inside_now : (body : Statements) → Agrees of parts.entered (inside f ps body after) =
     λ body. (let b : Scope = before_bounds f ps body after in
+    let begun : Agrees of parts.entered (knowing (with_bounds 0 ps b.flow) b) =
     flow_agrees of parts.entered b b.outside (with_bounds 0 ps b.flow) b.breaks b.continues
-    (inside_agrees of (opened parts.declared) parts.entered (start body) ps (record { value = now.value; function = now.function; tag = now.tag; given = now.given }) adds)) in
+    (inside_agrees of (opened parts.declared) parts.entered (start body) ps (record { value = now.value; function = now.function; tag = now.tag; given = now.given }) adds) in
+    record { value = begun.value; function = begun.function; tag = begun.tag; given = begun.given }) in
     passing_named (λ (v : Walk). v.scope ≡ after) (File of m) (function_body at inner f ps e.body) _ (body_named of at inner f ps d.body parts.entered parts.left inside_now form parts.body)
-    (λ x same. named_so (λ (v : Walk). v ≡ x) (File of m) (function_rules all e f known x)
-    (λ v is. subst (λ (u : Walk). File of m u) (sym is) (subst (AgreesFile of m) (sym same) (subst (λ k. AgreesFile of k after) (sym parts.behind) now))) (rules_named all e f known x))))))
+    (λ x same. named_so (λ (v : Walk). v ≡ x) (File of m) (function_rules all e f known changed x)
+    (λ v is. subst (λ (u : Walk). File of m u) (sym is) (subst (AgreesFile of m) (sym same) (subst (λ k. AgreesFile of k after) (sym parts.behind) now))) (rules_named all e f known changed x)))))))
 
 -- ---- the whole program
 

@@ -94,7 +94,7 @@ module _ (of : Numbers) (at : Places) where
 
   return_named : (n : Scopes) (g : Scope) → Agrees of n g → (o : Option Expression) (span : Span) → optional built_expression o ≡ true → AreFound n (optional_mentions expression_mentions o) → AllNamed (return at g (option_map (number_expression of) o) span)
   return_named n g agrees None span built found = nothing_named g.result span
-  return_named n g agrees (Some x) span built found = then_named Any (typed at g (number_expression of x)) _ (typed_named of at n g agrees x built found) (λ t. returned_named g.flow g.result t span)
+  return_named n g agrees (Some x) span built found = then_named Any (typed at g (number_expression of x)) _ (typed_named of at n g agrees x built found) (λ t. returned_named g.flow g.result g.result_bounds t span)
 
   -- ---- declarations
 

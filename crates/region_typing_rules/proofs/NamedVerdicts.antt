@@ -11,6 +11,7 @@ use Rattle.ckc_tree.specs.declared.expr.BinaryOperator.TheVariants as binary
 use Rattle.ckc_tree.specs.declared.stmt.StoreOperator.{StoreOperator}
 use Rattle.ckc_tree.specs.declared.stmt.StoreOperator.TheVariants as stores
 use Rattle.pointer_modes.specs.declared.ctype.Kind.TheVariants as kinds
+use Rattle.bounds_exprs.specs.declared.term.Bounds.{Bounds}
 use Rattle.bounds_exprs.specs.declared.term.Term.{Term}
 use Rattle.bounds_flow.specs.Flows.{Knowledge}
 use Rattle.pointer_modes.specs.Types.{CType, Int, Char, Struct, Pointer, members_of}
@@ -28,7 +29,7 @@ use Rattle.region_typing_rules.specs.Verdicts.{Verdict, Passes, Stops, Broken, N
 use Rattle.region_typing_rules.specs.Scopes.{Scope, Signature, WrittenBounds, bounds_in, members_named}
 use Rattle.region_typing_rules.specs.Types.{is_number, is_pointer, are_comparable, converts}
 use Rattle.region_typing_rules.specs.Expressions.{Places, site_at, Lvalue, OfLocal, OfCell, Standing, ForNothing, ForArray, For, Typed, Value, AStruct, Called, Gives, GivesNothing, plain, number, sum_node, at_place, member_from, member_at, dotted, struct_place, first_element, with_elements, pointed_by, arrowed, pointed_at, dereferenced, address_at, address, number_of, scalar_of, unary_typed, is_single_value, lacks_bounds, without_ptr, two_numbers, two_scalars, operator_along, summed, sum_typed, equated_values, equated, are_related, ordered_values, ordered, arithmetic, binary_typed, element_at, indexed, in_type, asked_of, meets, bounds_met, converted, arguments_as, terms_for, pointers_for, argument_meets, arguments_met, is_import, is_checked_argument, without_checked, crossing, declared_call, writes, with_result}
-use Rattle.region_typing_rules.specs.Statements.{assigned, update, moved, updated_as, updated, stored, returned, returned_nothing}
+use Rattle.region_typing_rules.specs.Statements.{assigned, update, moved, updated_as, updated, stored, result_meets, returned, returned_nothing}
 
 -- no name stands for nothing, and this is so of the value where no rule is broken
 abbrev pub IsNamed : {A : Type 0} → (A → Type 0) → Verdict A → Type 0
@@ -289,9 +290,9 @@ stored_named at g stores.Set target right span = assigned_named target span _ (�
 stored_named at g stores.Add target right span = updated_named at g directions.Forward target right span
 stored_named at g stores.Subtract target right span = updated_named at g directions.Backward target right span
 
-pub returned_named : (f : Knowledge) (result : Option CType) (t : Typed) (span : Span) → AllNamed (returned f result t span)
-returned_named f None t span = tt
-returned_named f (Some type) t span = converted_named t type span _ (λ v. met_named f t type span _ tt)
+pub returned_named : (f : Knowledge) (result : Option CType) (bounds : Option Bounds) (t : Typed) (span : Span) → AllNamed (returned f result bounds t span)
+returned_named f None bounds t span = tt
+returned_named f (Some type) bounds t span = converted_named t type span _ (λ v. needs_named Any (result_meets f bounds t type) E17 span _ tt)
 
 pub nothing_named : (result : Option CType) (span : Span) → AllNamed (returned_nothing result span)
 nothing_named None span = tt

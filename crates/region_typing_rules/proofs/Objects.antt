@@ -248,7 +248,7 @@ module _ (height : ℕ) where
         waiting_ones = h.waiting_ones ++ v ∷ [];
         all = ap (λ vs. vs ++ v ∷ []) h.all ∙ append_assoc h.settled_ones h.waiting_ones (v ∷ []);
         well = record {
-          closed = record { tagged = c.tagged; of_members = c.of_members; of_functions = c.of_functions; of_variables = all_append (λ (x : FileVariable). IsKnown w.scope.structs x.type) w.scope.variables v c.of_variables known; of_locals = c.of_locals };
+          closed = record { tagged = c.tagged; of_members = c.of_members; of_functions = c.of_functions; of_results = c.of_results; of_variables = all_append (λ (x : FileVariable). IsKnown w.scope.structs x.type) w.scope.variables v c.of_variables known; of_locals = c.of_locals };
           few = h.well.few;
           scalars = h.well.scalars;
           start = h.well.start;

@@ -4,22 +4,27 @@ use Rattle.std.specs.Prelude.{◌==◌, ◌&&◌, nat_lt, is_none, slice_get}
 use Rattle.std.specs.List.{AllByRecursion, list_all}
 use Rattle.std.proofs.lemmas.Bool.{and_parts, ltb-true}
 use Rattle.std.proofs.lemmas.List.{length-append, append-nil}
-use Rattle.ckc_text.specs.declared.code.Code.TheVariants.{E08, E15}
+use Rattle.ckc_text.specs.declared.code.Code.TheVariants.{E08, E15, E16}
 use Rattle.ckc_tree.specs.Types.{TypeTree, IntType, CharType, StructType, PointerType, TypeName, type_span}
 use Rattle.ckc_tree.specs.Expressions as e
+use Rattle.ckc_tree.specs.Expressions.{bounds_span}
 use Rattle.ckc_tree.specs.Items as i
 use Rattle.built_forms.specs.Built.{is_number_type, is_number_parameter}
 use Rattle.bounds_exprs.specs.declared.term.Bounds.{Bounds}
 use Rattle.bounds_flow.specs.Flows.{Knowledge, entered}
-use Rattle.pointer_modes.specs.Types.{CType, Structure}
-use Rattle.region_typing_rules.specs.Verdicts.{Passes}
-use Rattle.region_typing_rules.specs.Scopes.{Scope, bounds_in}
+use Rattle.bounds_flow_meaning.specs.Holding.{AreInts}
+use Rattle.pointer_modes.specs.declared.ctype.Mode.{Mode}
+use Rattle.pointer_modes.specs.declared.ctype.Kind.TheVariants as kinds
+use Rattle.pointer_modes.specs.Types.{CType, Pointer, Structure}
+use Rattle.pointer_modes.specs.Layout.{size_of}
+use Rattle.region_typing_rules.specs.Verdicts.{Verdict, Passes, Stops, needs}
+use Rattle.region_typing_rules.specs.Scopes.{Scope, WrittenBounds, bounds_in}
 use Rattle.region_typing_rules.specs.Types.{base_type, without_stars, type_named}
 use Rattle.region_typing_rules.specs.DeclaredBounds.{declared_bounds}
 use Rattle.region_typing_rules.specs.DeclaredFormed.{IsFormedFor, IsFormedIf}
-use Rattle.region_typing_rules.specs.Items.{Parameter, types_ahead, among_parameters, written_as, parameter_types, with_bounds}
+use Rattle.region_typing_rules.specs.Items.{Parameter, types_ahead, among_parameters, written_as, parameter_types, type_of_result, bounds_of_result, with_bounds}
 use Rattle.region_typing_rules.specs.KnownIsSo.{AreLimited, IsDeclared}
-use Rattle.region_typing_rules.specs.Typed.{HaveRows}
+use Rattle.region_typing_rules.specs.Typed.{HaveRows, AreOfResult}
 use Rattle.region_typing_rules.proofs.Verdicts.{Promises, passing_promises, needs_promises, passed_is, promise_kept, promised_so}
 use Rattle.region_typing_rules.proofs.Known.{IsKnown, type_known}
 use Rattle.region_typing_rules.proofs.Knowledge.{IsNumberType}
@@ -173,7 +178,57 @@ all_declared_so structs ps formed x b h =
     let it = one_formed structs (map (λ (p : Parameter). p.type) ps) ps formed x b h in
     (record { mode = it.2.mode; element = it.2.element; own = it.1 ∙ ap Some it.2.own; some = it.2.some; ints = it.2.ints; base = it.2.base }, it.2.limited)
 
--- the flow has as many variables as before
+-- ---- the bounds of its result
+
+-- bounds of a result are those of a pointer to elements that have bytes, speak of the parameters, and have the constants of terms
+pub record IsForResult (structs : List Structure) (types : List CType) (result : Option CType) (b : Bounds) : Type 0 where
+  pub are : AreOfResult types result b
+  pub some : 0 < size_of structs are.element
+  pub limited : AreLimited b
+
+-- what is written for the bounds of a result is, where it comes to bounds
+abbrev pub AreForResult : List Structure → List CType → Option CType → WrittenBounds → Type 0
+AreForResult structs types result written = (b : Bounds) → bounds_in written ≡ Some b → IsForResult structs types result b
+
+result_is_row : (result : Option CType) (m : Mode) (t : CType) → type_of_result result ≡ Pointer m kinds.Array t → result ≡ Some (Pointer m kinds.Array t)
+result_is_row None m t e = absurd (cc)
+result_is_row (Some u) m t e = ap Some e
+
+no_base : (o : Option ℕ) → is_none o ≡ true → o ≡ None
+no_base None h = refl
+no_base (Some x) h = absurd (cc)
+
+pub result_formed : (g : Scope) (all : List i.Member) (ps : List Parameter) → AreParameters g all 0 all ps → (result : Option CType) (o : Option e.Bounds)
+    → Promises (AreForResult g.structs (map (λ (p : Parameter). p.type) ps) result) (bounds_of_result g all result o)
+result_formed g all ps are result None = λ b h. absurd (cc)
+result_formed g all ps are result (Some text) =
+    by (declared_bounds (among_parameters g all) (type_of_result result) (length all) (Some text)) refl (declared_formed (among_parameters g all) (type_of_result result) (length all) (Some text))
+  where
+    types : List CType
+    types = map (λ (p : Parameter). p.type) ps
+
+    Q : WrittenBounds → Type 0
+    Q = AreForResult g.structs types result
+
+    formed : (b : Bounds) → IsFormedFor g.structs (types_ahead g all) (type_of_result result) b → b.base ≡ None → IsForResult g.structs types result b
+    formed b h none = record {
+      are = record { mode = h.mode; element = h.element; is = result_is_row result h.mode h.element h.own; base = none; ints = subst (λ ts. AreInts ts b) (types_are_ahead g all 0 all ps are) h.ints };
+      some = h.some;
+      limited = h.limited;
+    }
+
+    by : (v : Verdict (Option Bounds)) → declared_bounds (among_parameters g all) (type_of_result result) (length all) (Some text) ≡ v
+        → Promises (IsFormedIf g.structs (types_ahead g all) (type_of_result result)) v → Promises Q (bounds_of_result g all result (Some text))
+    by (Passes None) e h = rw e (λ b found. absurd (cc))
+    by (Passes (Some b)) e h =
+        rw e (passing_promises (λ (kept : Option Bounds). (kept ≡ Some b) × (b.base ≡ None)) Q (needs (is_none b.base) E16 (bounds_span text) (Passes (Some b))) _
+        (needs_promises (λ (kept : Option Bounds). (kept ≡ Some b) × (b.base ≡ None)) (is_none b.base) E16 (bounds_span text) (Passes (Some b)) (λ none. (refl, no_base b.base none)))
+        (λ kept k d found. let same : b ≡ d = cc in subst (IsForResult g.structs types result) same (formed b h k.1)))
+    by (Stops stop) e h = rw e tt
+
+-- ---- the flow
+
+-- it has as many variables as before
 pub bounds_size : (local : ℕ) (ps : List Parameter) (f : Knowledge) → (with_bounds local ps f).vars ≡ f.vars
 bounds_size local [] f = refl
 bounds_size local (p ∷ ps) f = bounds_size (suc local) ps (entered local (bounds_in p.bounds) f)

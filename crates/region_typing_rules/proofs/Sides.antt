@@ -20,6 +20,11 @@ abbrev pub trusted_bounds : List Signature → List (List (Option Bounds))
 trusted_bounds [] = []
 trusted_bounds (f ∷ functions) = picked (is_import f) (trusted_bounds functions) (map bounds_in f.bounds ∷ trusted_bounds functions)
 
+-- and those of their results
+abbrev pub trusted_results : List Signature → List (Option Bounds)
+trusted_results [] = []
+trusted_results (f ∷ functions) = picked (is_import f) (trusted_results functions) (bounds_in f.result_bounds ∷ trusted_results functions)
+
 -- tainted functions in that order
 abbrev pub tainted_functions : List Signature → List Import
 tainted_functions [] = []

@@ -19,8 +19,8 @@ use Rattle.region_typing_rules.specs.Types.{is_scalar}
 use Rattle.region_typing_rules.specs.Expressions.{is_import, counted, same_side, side_number}
 use Rattle.region_typing_rules.specs.Items.{Defined, same_types, same_written, all_same_written, same_result, same_kind, agrees, all_scalar, scalar_result}
 use Rattle.region_typing_rules.specs.Cores.{body_of}
-use Rattle.region_typing_rules.proofs.Sides.{trusted_functions, trusted_bounds, tainted_functions}
-use Rattle.region_typing_rules.specs.Typed.{HaveRows, IsScalar, IsScalarResult, IsNumberResult}
+use Rattle.region_typing_rules.proofs.Sides.{trusted_functions, trusted_bounds, trusted_results, tainted_functions}
+use Rattle.region_typing_rules.specs.Typed.{HasResultBounds, HaveRows, IsScalar, IsScalarResult, IsNumberResult}
 use Rattle.region_typing_rules.proofs.Knowledge.{IsNumberType}
 use Rattle.region_typing_rules.proofs.SameTypes.{same_equal}
 
@@ -86,6 +86,7 @@ pub record HasTrusted (bodies : List Defined) (functions : List Signature) (name
   pub counted : side_number false functions name n ≡ n + index
   pub found : slice_get (trusted_functions bodies functions) index ≡ Some (body_of bodies f)
   pub bounds : slice_get (trusted_bounds functions) index ≡ Some (map bounds_in f.bounds)
+  pub told : slice_get (trusted_results functions) index ≡ Some (bounds_in f.result_bounds)
 
 pub trusted_there : (bodies : List Defined) (functions : List Signature) (name : ℕ) (f : Signature) (n : ℕ) → function_named functions name ≡ Some f → is_import f ≡ false → HasTrusted bodies functions name f n
 trusted_there bodies [] name f n h side = absurd (cc)
@@ -96,16 +97,16 @@ trusted_there bodies (g ∷ functions) name f n h side = by (name == g.name) (is
         let now = rw e at h in
         let same : g ≡ f = cc in
         let trusted : is_import g ≡ false = ap is_import same ∙ side in
-        record { index = 0; counted = rw e (omega arith); found = rw trusted (ap (λ x. Some (body_of bodies x)) same); bounds = rw trusted (ap (λ (x : Signature). Some (map bounds_in x.bounds)) same) }
+        record { index = 0; counted = rw e (omega arith); found = rw trusted (ap (λ x. Some (body_of bodies x)) same); bounds = rw trusted (ap (λ (x : Signature). Some (map bounds_in x.bounds)) same); told = rw trusted (ap (λ (x : Signature). Some (bounds_in x.result_bounds)) same) }
     by false true e i again =
         let now = rw e at h in
         let rest = again n now in
-        record { index = rest.index; counted = rw (e, i) rest.counted; found = rw i rest.found; bounds = rw i rest.bounds }
+        record { index = rest.index; counted = rw (e, i) rest.counted; found = rw i rest.found; bounds = rw i rest.bounds; told = rw i rest.told }
     by false false e i again =
         let now = rw e at h in
         let rest = again (suc n) now in
         let moved : suc n + rest.index ≡ n + suc rest.index = omega arith in
-        record { index = suc rest.index; counted = rw (e, i) (rest.counted ∙ moved); found = rw i rest.found; bounds = rw i rest.bounds }
+        record { index = suc rest.index; counted = rw (e, i) (rest.counted ∙ moved); found = rw i rest.found; bounds = rw i rest.bounds; told = rw i rest.told }
 
 pub record HasTainted (functions : List Signature) (name : ℕ) (f : Signature) (n : ℕ) : Type 0 where
   pub index : ℕ
@@ -205,17 +206,20 @@ pub record Agrees (a b : Signature) : Type 0 where
   pub parameters : a.parameters ≡ b.parameters
   pub result : a.result ≡ b.result
   pub bounds : a.bounds ≡ b.bounds
+  pub result_bounds : a.result_bounds ≡ b.result_bounds
 
 pub agrees_equal : (a b : Signature) → agrees (Some a) b ≡ true → Agrees a b
 agrees_equal a b h =
-    let first = and_parts (same_kind a.kind b.kind) (same_types a.parameters b.parameters && (same_result a.result b.result && all_same_written a.bounds b.bounds)) h in
-    let second = and_parts (same_types a.parameters b.parameters) (same_result a.result b.result && all_same_written a.bounds b.bounds) first.1 in
-    let third = and_parts (same_result a.result b.result) (all_same_written a.bounds b.bounds) second.1 in
+    let first = and_parts (same_kind a.kind b.kind) (same_types a.parameters b.parameters && (same_result a.result b.result && (all_same_written a.bounds b.bounds && same_written a.result_bounds b.result_bounds))) h in
+    let second = and_parts (same_types a.parameters b.parameters) (same_result a.result b.result && (all_same_written a.bounds b.bounds && same_written a.result_bounds b.result_bounds)) first.1 in
+    let third = and_parts (same_result a.result b.result) (all_same_written a.bounds b.bounds && same_written a.result_bounds b.result_bounds) second.1 in
+    let fourth = and_parts (all_same_written a.bounds b.bounds) (same_written a.result_bounds b.result_bounds) third.1 in
     record {
       kind = kind_equal a.kind b.kind first.0;
       parameters = types_equal a.parameters b.parameters second.0;
       result = result_equal a.result b.result third.0;
-      bounds = all_written_equal a.bounds b.bounds third.1;
+      bounds = all_written_equal a.bounds b.bounds fourth.0;
+      result_bounds = written_equal a.result_bounds b.result_bounds fourth.1;
     }
 
 pub scalars_all : (ts : List CType) → all_scalar ts ≡ true → AllByRecursion IsScalar ts
@@ -234,3 +238,4 @@ pub record IsDeclared (f : Signature) : Type 0 where
   pub numbers : is_import f ≡ true → AllByRecursion IsNumberType f.parameters
   pub number_result : is_import f ≡ true → IsNumberResult f.result
   pub rows : HaveRows f.parameters (map bounds_in f.bounds)
+  pub sound : HasResultBounds f.parameters f.result (bounds_in f.result_bounds)

@@ -1,7 +1,7 @@
 -- What is known behind a statement is so.
 use Rattle.std.specs.Prelude.{◌||◌, not, slice_index_or}
 use Rattle.std.proofs.lemmas.List.{length-replicate}
-use Rattle.ckc_text.specs.declared.code.Code.TheVariants.{E15, E30}
+use Rattle.ckc_text.specs.declared.code.Code.TheVariants.{E15, E17, E30}
 use Rattle.ckc_tree.specs.Statements as s
 use Rattle.ckc_tree.specs.Statements.{Assignment, ForInitial, Statement, Statements}
 use Rattle.pointer_modes.specs.Types.{Structure}
@@ -12,6 +12,7 @@ use Rattle.ckc_core.specs.Outcome.{Gives}
 use Rattle.ckc_core.specs.Core as core
 use Rattle.ckc_core.specs.States.{State}
 use Rattle.ckc_core.specs.Steps.{Result, Flow, Next, Broke, Continued, Returned, truth, on_next}
+use Rattle.bounds_exprs.specs.declared.term.Bounds.{Bounds}
 use Rattle.region_typing_rules.specs.Verdicts.{Verdict, Passes, Stops}
 use Rattle.region_typing_rules.specs.Scopes.{Scope}
 use Rattle.region_typing_rules.specs.Readings.{told}
@@ -31,16 +32,16 @@ use Rattle.pointer_modes.specs.Types.{CType}
 use Rattle.ckc_core.specs.States.{Value}
 use Rattle.ckc_core.specs.Meaning.{Knot, Setting, effect, effects, knot, value as value_of}
 use Rattle.region_typing_rules.specs.Expressions.{Places, Typed, Called, Gives as GivesValue, GivesNothing, call_typed, typed as typed_at}
-use Rattle.region_typing_rules.specs.Statements.{returned, returned_nothing}
+use Rattle.region_typing_rules.specs.Statements.{result_meets, returned, returned_nothing}
 use Rattle.region_typing_rules.specs.KnownIsSo.{declared_at, FitsAlike, IsKnown, IsOnWay, IsBetween, IsWalk, ConditionsAreSo, ChangesMarked, MarkedAlone}
 use Rattle.region_typing_rules.specs.Typed as typed
-use Rattle.region_typing_rules.specs.Typed.{Frame, HasType, IsScalar, IsSimple, IsStatement}
+use Rattle.region_typing_rules.specs.Typed.{Frame, HasType, IsReturned, IsScalar, IsSimple, IsStatement}
 use Rattle.region_typing_rules.proofs.Verdicts.{Promises, passing_promises, needs_promises, both_promise, later_promises, promised_so, Extends}
 use Rattle.region_typing_rules.proofs.Knowledge.{KnowsFile, Knows}
 use Rattle.region_typing_rules.proofs.Growth.{Grows, GrowsTo, alternative_grows, behind_grows, file_known, first_grows, grows_further, head_grows, optional_grows, statement_grows, step_grows, when_grows}
-use Rattle.region_typing_rules.proofs.Expressions.{Fits, FitsCall, call_promises, converted_promises, met_promises, typed_promises}
+use Rattle.region_typing_rules.proofs.Expressions.{Fits, FitsCall, call_promises, converted_promises, met_promises, result_asked, result_type_met, so_converted, typed_promises}
 use Rattle.region_typing_rules.proofs.Statements.{AreIn, IsIn, IsScalarValue, alone_typed, condition_promises, in_loop_known, optional_promises, simple_any, statement_from, statements_from}
-use Rattle.region_typing_rules.proofs.Soundness.{EndsAs, IsAnswer, IsKept, IsNext, OfType, Runs, runs_both, runs_further, runs_on, runs_then, simple_runs, typed_goes}
+use Rattle.region_typing_rules.proofs.Soundness.{EndsAs, HasResult, IsAnswer, IsKept, IsNext, OfType, Runs, runs_both, runs_further, runs_on, runs_then, returned_goes, simple_runs, typed_goes}
 use Rattle.region_typing_rules.proofs.Terms.{so_further}
 use Rattle.region_typing_rules.proofs.Alike.{alike_here, fits_moved}
 use Rattle.region_typing_rules.proofs.Assigns.{IsPlain}
@@ -97,7 +98,7 @@ module _ (frame : Frame) (types : List CType) (all_scalar : AllByRecursion IsSca
     keeps = h.keeps;
     breaks = λ n t k. subst (λ o. IsOnWay structs n o t) (sym h.breaks) k;
     continues = λ n t k. subst (λ o. IsOnWay structs n o t) (sym h.continues) k;
-    typed = λ reaches. h.typed reaches g.result g.in_loop;
+    typed = λ reaches. h.typed reaches g.result g.result_bounds g.in_loop;
     runs = λ reaches n calls low s at.
         runs_further frame budget n low types (λ flow t. IsNext flow t × IsKnown structs w.1 t) (Ending g w.1) (effect true setting (K n) w.0 s) (h.runs reaches n calls low s at) (λ flow t k. subst (λ flow. Ending g w.1 flow t) (sym k.0) (tt, k.1));
   }
@@ -107,8 +108,8 @@ module _ (frame : Frame) (types : List CType) (all_scalar : AllByRecursion IsSca
   goes_promised g (Stops stop) h = tt
 
   -- what ends as in a scope behind ends as in the one before
-  ends_before : (a b : Scope) → Grows a b → (flow : Flow) (t : State) → EndsAs frame b.result b.in_loop flow t → EndsAs frame a.result a.in_loop flow t
-  ends_before a b h flow t k = subst (λ r. EndsAs frame r a.in_loop flow t) (sym h.result) (subst (λ l. EndsAs frame b.result l flow t) (sym h.loop) k)
+  ends_before : (a b : Scope) → Grows a b → (flow : Flow) (t : State) → EndsAs frame b.result b.result_bounds b.in_loop flow t → EndsAs frame a.result a.result_bounds a.in_loop flow t
+  ends_before a b h flow t k = subst (λ r. EndsAs frame r a.result_bounds a.in_loop flow t) (sym h.result) (subst (λ r. EndsAs frame b.result r a.in_loop flow t) (sym h.asked) (subst (λ l. EndsAs frame b.result b.result_bounds l flow t) (sym h.loop) k))
 
   -- ---- in a row
 
@@ -320,7 +321,7 @@ module _ (frame : Frame) (types : List CType) (all_scalar : AllByRecursion IsSca
       keeps = record { same = λ p low. behind_same p low; loop = refl; structs = y_keeps.structs };
       breaks = λ n t q. q;
       continues = λ n t q. q;
-      typed = λ reaches. typed.repeat (tested (before reaches)).typed (h.typed (middle reaches)) (k.typed reaches g.result false);
+      typed = λ reaches. typed.repeat (tested (before reaches)).typed (h.typed (middle reaches)) (k.typed reaches g.result g.result_bounds false);
       runs = λ reaches n calls low s at.
           loop_on frame types all_scalar vars budget sandbox trusted g w body step (marks_many g body step) c (tested (before reaches)).type x.0 y.0 x.1 y.1 h.walk k.walk h.more k.more k.breaks y_keeps.structs x_keeps.loop y_keeps.loop inside_same last_same
           (x_marks.only (λ y. slice_index_or marks y true) none (length-replicate (length g.locals) false) (covers_before (λ y. slice_index_or marks y true) behind marks (step_within g.visible step behind) (λ i e. e)))
@@ -396,21 +397,21 @@ module _ (frame : Frame) (types : List CType) (all_scalar : AllByRecursion IsSca
 
   -- a statement that returns what its function does
   pub data IsReturnFrom (g : Scope) : core.Statement → Type 0 where
-    gives : {e : core.Expression} {t : CType} → g.result ≡ Some t → HasType frame types g e t → IsReturnFrom g (core.Return e)
+    gives : {e : core.Expression} {t : CType} → g.result ≡ Some t → HasType frame types g e t → IsReturned frame.structs g e t g.result_bounds → IsReturnFrom g (core.Return e)
     gives_nothing : g.result ≡ None → IsReturnFrom g core.ReturnNothing
 
   abbrev IsReturnIn : Scope → core.Statement → Type 0
   IsReturnIn g x = Reached g → IsReturnFrom g x
 
   return_typed : (g : Scope) {x : core.Statement} → IsReturnFrom g x → IsIn frame types all_scalar g x
-  return_typed g (gives declared h) = typed.returned declared h
+  return_typed g (gives declared h asked) = typed.returned declared h asked
   return_typed g (gives_nothing declared) = typed.returned_nothing declared
 
   returns : (g : Scope) (w : IsWalk vars g) {x : core.Statement} → IsReturnFrom g x → Reached g → (n : ℕ) → Calls n → (low : ℕ) (s : State) → Stands n low g s → Runs frame budget n low types (Ending g (cut g)) (effect true setting (K n) x s)
-  returns g w (gives {e = e} {t = t} declared h) reaches n calls low s at =
-      runs_on frame budget n low types s (OfType frame t) (Ending g (cut g)) (value_of true setting (K n) e s) _ (typed_goes frame budget n sandbox trusted (K n) (calls n (omega arith)) low types g w.between.flow reaches h s (at.known, at.kept))
-      (λ v u _ typed kept. ((subst (λ r. IsAnswer frame r (Some v) u) (sym declared) typed, tt), kept))
-  returns g w (gives_nothing declared) reaches n calls low s at = ((subst (λ r. IsAnswer frame r None s) (sym declared) tt, tt), at.kept)
+  returns g w (gives {e = e} {t = t} declared h asked) reaches n calls low s at =
+      runs_on frame budget n low types s (λ v u. OfType frame t v u × HasResult frame.structs (Some t) g.result_bounds (Some v) u) (Ending g (cut g)) (value_of true setting (K n) e s) _ (returned_goes frame budget n sandbox trusted (K n) (calls n (omega arith)) low types g w.between.flow reaches t g.result_bounds h asked s (at.known, at.kept))
+      (λ v u _ x kept. ((subst (λ r. IsAnswer frame r (Some v) u × HasResult frame.structs r g.result_bounds (Some v) u) (sym declared) x, tt), kept))
+  returns g w (gives_nothing declared) reaches n calls low s at = ((subst (λ r. IsAnswer frame r None s × HasResult frame.structs r g.result_bounds None s) (sym declared) (tt, tt), tt), at.kept)
 
   return_sound : (g : Scope) → IsWalk vars g → (x : core.Statement) → IsReturnIn g x → IsSound g (x, cut g)
   return_sound g w x h = record {
@@ -430,7 +431,7 @@ module _ (frame : Frame) (types : List CType) (all_scalar : AllByRecursion IsSca
     keeps = record { same = λ p low. refl; loop = refl; structs = refl };
     breaks = λ n t q. on_way_before structs vars n t g.outside g.flow (way_out g) g.breaks (way_out_between vars g w) (way_out_outside vars g w) w.breaks q;
     continues = λ n t q. q;
-    typed = λ reaches. subst (λ l. IsStatement frame types g.result l core.Break) (sym loops) typed.broken;
+    typed = λ reaches. subst (λ l. IsStatement frame types g.result g.result_bounds l core.Break) (sym loops) typed.broken;
     runs = λ reaches n calls low s at. ((loops, on_way_here structs vars (length g.locals) s g.outside g.flow (way_out g) g.breaks (way_out_between vars g w) (way_out_outside vars g w) w.breaks (known_out structs vars g w s at.known)), at.kept);
   }
 
@@ -441,7 +442,7 @@ module _ (frame : Frame) (types : List CType) (all_scalar : AllByRecursion IsSca
     keeps = record { same = λ p low. refl; loop = refl; structs = refl };
     breaks = λ n t q. q;
     continues = λ n t q. on_way_before structs vars n t g.outside g.flow (way_out g) g.continues (way_out_between vars g w) (way_out_outside vars g w) w.continues q;
-    typed = λ reaches. subst (λ l. IsStatement frame types g.result l core.Continue) (sym loops) typed.continued;
+    typed = λ reaches. subst (λ l. IsStatement frame types g.result g.result_bounds l core.Continue) (sym loops) typed.continued;
     runs = λ reaches n calls low s at. ((loops, on_way_here structs vars (length g.locals) s g.outside g.flow (way_out g) g.continues (way_out_between vars g w) (way_out_outside vars g w) w.continues (known_out structs vars g w s at.known)), at.kept);
   }
 
@@ -478,10 +479,11 @@ module _ (frame : Frame) (types : List CType) (all_scalar : AllByRecursion IsSca
   turned_known g file body step c = in_loop_known frame (when c true (at_loop body step g)) (file_known frame (at_loop body step g) (when c true (at_loop body step g)) (when_grows c true (at_loop body step g)) (headed g file body step))
 
   -- a return, where the locals are reached
-  returned_in : (g : Scope) (t : Typed) (o : Option CType) (span : Span) → g.result ≡ o → Reached g → Knows frame types g → Fits frame types g t → Promises (IsReturnFrom g) (returned g.flow o t span)
-  returned_in g t None span e reaches knows h = tt
-  returned_in g t (Some type) span e reaches knows h =
-      converted_promises frame types g knows (IsReturnFrom g) t type span _ h (λ v typed. met_promises frame types g (IsReturnFrom g) t type span (Passes (core.Return v)) (λ met. gives e (typed met)))
+  returned_in : (g : Scope) (t : Typed) (o : Option CType) (r : Option Bounds) (span : Span) → g.result ≡ o → g.result_bounds ≡ r → Reached g → Knows frame types g → Fits frame types g t → Promises (IsReturnFrom g) (returned g.flow o r t span)
+  returned_in g t None r span e q reaches knows h = tt
+  returned_in g t (Some type) r span e q reaches knows h =
+      so_converted frame types g knows (IsReturnFrom g) t type span _ h (λ v is typed. needs_promises (IsReturnFrom g) (result_meets g.flow r t type) E17 span (Passes (core.Return v))
+      (λ met. gives e (typed (result_type_met frame types g knows r t type met)) (subst (IsReturned frame.structs g v type) (sym q) (result_asked frame types g knows r t type v (λ b i. knows.result b (q ∙ i)) h is met))))
 
   nothing_in : (g : Scope) (o : Option CType) (span : Span) → g.result ≡ o → Promises (IsReturnFrom g) (returned_nothing o span)
   nothing_in g None span e = gives_nothing e
@@ -492,7 +494,7 @@ module _ (frame : Frame) (types : List CType) (all_scalar : AllByRecursion IsSca
   return_in at g w file (Some x) span =
       later_promises (Reached g) (IsReturnFrom g) (return at g (Some x) span)
       (λ reaches. let knows = knows_here frame types all_scalar vars budget sandbox trusted g w file reaches in
-      passing_promises (Fits frame types g) (IsReturnFrom g) (typed_at at g x) _ (typed_promises frame types g knows at x) (λ t h. returned_in g t g.result span refl reaches knows h))
+      passing_promises (Fits frame types g) (IsReturnFrom g) (typed_at at g x) _ (typed_promises frame types g knows at x) (λ t h. returned_in g t g.result g.result_bounds span refl refl reaches knows h))
 
   mutual
     pub statement_sound : (at : Places) (g : Scope) (x : Statement) → IsWalk vars g → KnowsFile frame g → Promises (IsSound g) (statement at g x)

@@ -23,6 +23,7 @@ use Rattle.ckc_core.specs.declared.program.Site.{Site}
 use Rattle.act_words.specs.declared.operator.Operator.{Operator}
 use Rattle.act_words.specs.declared.operator.Comparison.{Comparison}
 use Rattle.ckc_core.specs.declared.program.Callee.{Callee}
+use Rattle.ckc_core.specs.declared.program.Callee.TheVariants as callees
 use Rattle.pointer_modes.specs.declared.ctype.Mode.{Mode}
 use Rattle.pointer_modes.specs.declared.ctype.Mode.TheVariants as modes
 use Rattle.pointer_modes.specs.declared.ctype.Kind.{Kind}
@@ -51,12 +52,14 @@ use Rattle.region_typing_rules.specs.KnownIsSo.{HasLocals, IsAlike, WhereGiven, 
 use Rattle.region_typing_rules.specs.Typed as typed
 use Rattle.bounds_exprs.specs.declared.term.Term.{Term}
 use Rattle.bounds_flow.specs.Conditions.{IsFlow}
-use Rattle.bounds_flow_meaning.specs.Holding.{IsValid, at_node, types_of}
+use Rattle.bounds_flow_meaning.specs.Holding.{AreInts, IsValid, at_node, types_of}
+use Rattle.bounds_flow_meaning.specs.Calls.{HoldTerms}
+use Rattle.bounds_exprs.specs.Changes.{ends_filled_in}
 use Rattle.bounds_flow_meaning.specs.Rows.{HasRow, IsPlace, slots}
 use Rattle.bounds_flow_meaning.proofs.Rows.{place_grown, still_there}
 use Rattle.bounds_flow_meaning.proofs.Numbers.{same_number}
 use Rattle.bounds_flow_meaning.proofs.Validity.{ends_parts, grown_valid, times_plus, valid_from}
-use Rattle.region_typing_rules.specs.Typed.{Frame, HasBounds, IsBoundedBy, HasValue, IsNumberResult, IsCallee, AreAsked, terms_of, pointers_of, AreRows, AreSumBounds, HasElements, HasType, HaveTypes, HasPlace, IsSimple, IsScalar}
+use Rattle.region_typing_rules.specs.Typed.{Frame, HasBounds, IsBoundedBy, HasValue, IsNumberResult, IsCallee, HasCallBounds, HasResultBounds, IsReturned, AreAsked, terms_of, pointers_of, AreRows, AreSumBounds, HasElements, HasType, HaveTypes, HasPlace, IsSimple, IsScalar}
 use Rattle.ckc_core.proofs.Numbers.{IsNumber, IfHolds, result_fits, overflow_fits, signed_fits, complement_fits, low_byte_small}
 use Rattle.region_typing_rules.proofs.Worlds.{IsWorld, Answers, Anything, IsWord, tick_answers, enter_answers, touch_answers, next_answers}
 use Rattle.region_typing_rules.proofs.Values.{same_refl, mapped_there, grows_here, grows_on, at_cell, zero_left, shapes_stored, member_place, scalar_cell, some_cell, value_grown, value_typed, value_widened, value_number, HaveValues, values_count, values_fit, HaveLocals, local_there, locals_set, HoldsValues, cell_typed, stored_typed, values_grown, locals_grown}
@@ -66,10 +69,10 @@ use Rattle.region_typing_rules.proofs.Sure.{Sure, sure_on, sure_further, sure_bo
 use Rattle.region_typing_rules.proofs.Keeping.{IsAfter, after_here, after_on, CallsKeep}
 use Rattle.region_typing_rules.proofs.Terms.{so_always, so_both, so_further, so_on, audited_so, IsOfTerm, term_so}
 use Rattle.region_typing_rules.proofs.Alike.{alike_here, alike_on, fits_after, types_alike}
-use Rattle.region_typing_rules.proofs.Given.{IsGivenIf, AreGivenAt, AreGiven, given_later, local_given, none_given, own_given, plain_given}
+use Rattle.region_typing_rules.proofs.Given.{IsGivenIf, AreGivenAt, AreGiven, free_alike, given_later, local_given, none_given, own_given, plain_given}
 use Rattle.region_typing_rules.proofs.Assigns.{IsBehind, IsGivenTo, stays}
 use Rattle.region_typing_rules.proofs.Told.{null_given, pointer_so}
-use Rattle.region_typing_rules.proofs.Calls.{AreEntered, ArePassed, IsPassed, entered, entered_later, passed_later}
+use Rattle.region_typing_rules.proofs.Calls.{AreEntered, ArePassed, IsPassed, asked_valid, entered, entered_later, hold, passed_later, result_valid}
 use Rattle.region_typing_rules.proofs.Elements.{AreOf, pointing, passes_at, ends_there, size_there, within, up_to, as_many, IsSum, sum_among, sum_based, sum_valid, sum_size, array_valid, one_valid, single_typed}
 
 -- locals of these types are there
@@ -192,12 +195,24 @@ IsAnswer g None (Some v) s = ⊥
 IsAnswer g (Some t) None s = ⊥
 IsAnswer g (Some t) (Some v) s = OfType g t v s
 
+-- which is valid with the bounds that are declared for it
+abbrev pub HasResult : List Structure → Option CType → Option Bounds → Option Value → State → Type 0
+HasResult structs None b v s = Unit {0}
+HasResult structs (Some Int) b v s = Unit {0}
+HasResult structs (Some Char) b v s = Unit {0}
+HasResult structs (Some (Struct number)) b v s = Unit {0}
+HasResult structs (Some (Pointer m kinds.One t)) b v s = Unit {0}
+HasResult structs (Some (Pointer m kinds.Nt t)) b v s = Unit {0}
+HasResult structs (Some (Pointer m kinds.Array t)) None v s = Unit {0}
+HasResult structs (Some (Pointer m kinds.Array t)) (Some b) None s = Unit {0}
+HasResult structs (Some (Pointer m kinds.Array t)) (Some b) (Some v) s = IsValid structs (Some b) (record { type = Pointer m kinds.Array t; value = v }) s
+
 -- how a statement may end
-abbrev pub EndsAs : Frame → Option CType → Bool → Flow → State → Type 0
-EndsAs g result loop Next s = Unit {0}
-EndsAs g result loop Broke s = loop ≡ true
-EndsAs g result loop Continued s = loop ≡ true
-EndsAs g result loop (Returned v) s = IsAnswer g result v s
+abbrev pub EndsAs : Frame → Option CType → Option Bounds → Bool → Flow → State → Type 0
+EndsAs g result bounds loop Next s = Unit {0}
+EndsAs g result bounds loop Broke s = loop ≡ true
+EndsAs g result bounds loop Continued s = loop ≡ true
+EndsAs g result bounds loop (Returned v) s = IsAnswer g result v s × HasResult g.structs result bounds v s
 
 -- it goes on to the next one
 abbrev pub IsNext : Flow → State → Type 0
@@ -279,10 +294,15 @@ module _ (g : Frame) (budget n : ℕ) where
   pub lowered_runs : {A : Type 0} (low : ℕ) (types : List CType) (P : A → State → Type 0) (o : Result A) → budget ≤ low + n → Runs (suc low) types P o → Runs low types P o
   lowered_runs low types P o enough h = sure_further (λ v s. P v s × IsKept (suc low) types s) (λ v s. P v s × IsKept low types s) o h (λ v s k. (k.0, kept_lowered low types s enough k.1))
 
+  -- what a function gives: a result that is valid with its bounds, where the locals are as they were at its entry
+  abbrev pub IsResult : Option CType → Option Bounds → (locals : List CType) → List Value → Option Value → State → Type 0
+  IsResult result r locals vs v s = IsAnswer g result v s × HasResult g.structs result r v (record s { locals = locals_for locals vs })
+
   -- calls that come behind a tick
   pub record IsKnot (k : Knot) : Type 0 where
-    pub call : (low : ℕ) (types : List CType) (function : ℕ) (f : core.Function) (vs : List Value) (s : State) → slice_get g.program.functions function ≡ Some f → (bs : List (Option Bounds)) → slice_get g.bounds function ≡ Some bs → OfTypes g (parameters_of f) vs s
-        → AreEntered g.structs bs (record s { locals = locals_for f.locals vs }) → suc budget ≤ low + n → IsKept low types s → Goes low types s (IsAnswer g f.result) (k.call function vs s)
+    pub call : (low : ℕ) (types : List CType) (function : ℕ) (f : core.Function) (vs : List Value) (s : State) → slice_get g.program.functions function ≡ Some f → (bs : List (Option Bounds)) → slice_get g.bounds function ≡ Some bs
+        → (r : Option Bounds) → slice_get g.result_bounds function ≡ Some r → OfTypes g (parameters_of f) vs s
+        → AreEntered g.structs bs (record s { locals = locals_for f.locals vs }) → suc budget ≤ low + n → IsKept low types s → Goes low types s (IsResult f.result r f.locals vs) (k.call function vs s)
     pub sandbox : (low : ℕ) (types : List CType) (s : State) → suc budget ≤ low + n → IsKept low types s → Goes low types s IsReply (k.sandbox s)
     pub keeps : CallsKeep k
 
@@ -557,6 +577,12 @@ module _ (g : Frame) (budget n : ℕ) where
     given_back t None h kept = absurd h
     given_back t (Some v) h kept = (h, after_here s, kept)
 
+    -- with the bounds that it is valid with
+    valid_back : (m : Mode) (t : CType) (p : PointerBounds) (v : Option Value) → IsAnswer g (Some (Pointer m kinds.Array t)) v s → HasResult g.structs (Some (Pointer m kinds.Array t)) (Some p.bounds) v s → IsKept low types s
+        → Goes low types s (λ v w. OfType g (Pointer m kinds.Array t) v w × IsBounded g (Pointer m kinds.Array t) (Some p) v w) (result_given v s)
+    valid_back m t p None h valid kept = absurd h
+    valid_back m t p (Some v) h valid kept = ((h, valid), after_here s, kept)
+
     nothing_back : (v : Option Value) → IsAnswer g None v s → IsKept low types s → Goes low types s IsNext (no_result v s)
     nothing_back None h kept = (refl, after_here s, kept)
     nothing_back (Some v) h kept = absurd h
@@ -598,39 +624,68 @@ module _ (g : Frame) (budget n : ℕ) where
           subst (λ o. Goes low types s (IsAnswer g i.result) (call_tainted setting k import o site vs s)) (sym found)
           (subst (λ yes. Goes low types s (IsAnswer g i.result) (cross_if yes setting k import i site vs s)) (sym test) (cross_goes low s import i site (words_of vs) words.0 words.1 crosses kept))
 
-      entered_goes : (low : ℕ) (s : State) (function : ℕ) (f : core.Function) (bs : List (Option Bounds)) (vs : List Value) (test : Bool) → test ≡ true → slice_get g.program.functions function ≡ Some f → slice_get g.bounds function ≡ Some bs → OfTypes g (parameters_of f) vs s
-          → AreEntered g.structs bs (record s { locals = locals_for f.locals vs }) → IsKept low types s → Goes low types s (IsAnswer g f.result) (enter_if test setting k function vs s)
-      entered_goes low s function f bs vs false e found known h begun kept = absurd (cc)
-      entered_goes low s function f bs vs true e found known h begun kept =
+      entered_goes : (low : ℕ) (s : State) (function : ℕ) (f : core.Function) (bs : List (Option Bounds)) (r : Option Bounds) (vs : List Value) (test : Bool) → test ≡ true → slice_get g.program.functions function ≡ Some f → slice_get g.bounds function ≡ Some bs
+          → slice_get g.result_bounds function ≡ Some r → OfTypes g (parameters_of f) vs s → AreEntered g.structs bs (record s { locals = locals_for f.locals vs }) → IsKept low types s → Goes low types s (IsResult f.result r f.locals vs) (enter_if test setting k function vs s)
+      entered_goes low s function f bs r vs false e found known told h begun kept = absurd (cc)
+      entered_goes low s function f bs r vs true e found known told h begun kept =
           let enough : suc budget ≤ suc low + n = let few = kept.enough in omega arith in
-          lowered low types s (IsAnswer g f.result) (enter_if true setting k function vs s) kept.enough
-          (asked_goes low (suc low) types Anything (IsAnswer g f.result) (spend_tick budget s.world) s _ (tick_answers budget low s.world kept.world) (let few = kept.enough in omega arith) kept
-          (λ _ t more _ t_kept. asked_goes (suc low) (suc low) types Anything (IsAnswer g f.result) (enter_call t.depth t.world) t _ (enter_answers budget (suc low) t.depth t.world t_kept.world) t_kept.enough t_kept
+          lowered low types s (IsResult f.result r f.locals vs) (enter_if true setting k function vs s) kept.enough
+          (asked_goes low (suc low) types Anything (IsResult f.result r f.locals vs) (spend_tick budget s.world) s _ (tick_answers budget low s.world kept.world) (let few = kept.enough in omega arith) kept
+          (λ _ t more _ t_kept. asked_goes (suc low) (suc low) types Anything (IsResult f.result r f.locals vs) (enter_call t.depth t.world) t _ (enter_answers budget (suc low) t.depth t.world t_kept.world) t_kept.enough t_kept
           (λ _ u more' _ u_kept.
           let grown = grows_on (shaped s) (shaped t) (shaped u) more.0 more'.0 in
-          is.call (suc low) types function f vs u found bs known (values_grown g.structs (shaped s) (shaped u) grown (parameters_of f) vs h)
+          is.call (suc low) types function f vs u found bs known r told (values_grown g.structs (shaped s) (shaped u) grown (parameters_of f) vs h)
           (entered_later g.structs bs (record s { locals = locals_for f.locals vs }) (record u { locals = locals_for f.locals vs }) grown refl begun) enough u_kept)))
 
-      trusted_goes : (low : ℕ) (s : State) (function : ℕ) (f : core.Function) (bs : List (Option Bounds)) (vs : List Value) → slice_get g.program.functions function ≡ Some f → slice_get g.bounds function ≡ Some bs → OfTypes g (parameters_of f) vs s
-          → AreEntered g.structs bs (record s { locals = locals_for f.locals vs }) → IsKept low types s → Goes low types s (IsAnswer g f.result) (call_trusted setting k function vs s)
-      trusted_goes low s function f bs vs found known h begun kept =
+      trusted_goes : (low : ℕ) (s : State) (function : ℕ) (f : core.Function) (bs : List (Option Bounds)) (r : Option Bounds) (vs : List Value) → slice_get g.program.functions function ≡ Some f → slice_get g.bounds function ≡ Some bs → slice_get g.result_bounds function ≡ Some r
+          → OfTypes g (parameters_of f) vs s → AreEntered g.structs bs (record s { locals = locals_for f.locals vs }) → IsKept low types s → Goes low types s (IsResult f.result r f.locals vs) (call_trusted setting k function vs s)
+      trusted_goes low s function f bs r vs found known told h begun kept =
           let test = ap (λ (o : Option core.Function). takes o vs) found ∙ values_fit g.structs (shaped s) (parameters_of f) vs h in
-          entered_goes low s function f bs vs (takes (slice_get g.program.functions function) vs) test found known h begun kept
+          entered_goes low s function f bs r vs (takes (slice_get g.program.functions function) vs) test found known told h begun kept
 
       -- what a call enters its function with
-      abbrev AreBegun : {callee : Callee} {ts : List CType} {bs : List (Option Bounds)} {result : Option CType} → IsCallee g callee ts bs result → List Value → State → Type 0
-      AreBegun (typed.trusted {f = f} {bounds = bs} found known rows) vs s = AreEntered g.structs bs (record s { locals = locals_for f.locals vs })
+      abbrev AreBegun : {callee : Callee} {ts : List CType} {bs : List (Option Bounds)} {result : Option CType} {r : Option Bounds} → IsCallee g callee ts bs result r → List Value → State → Type 0
+      AreBegun (typed.trusted {f = f} {bounds = bs} found known told rows sound) vs s = AreEntered g.structs bs (record s { locals = locals_for f.locals vs })
       AreBegun (typed.tainted found crosses) vs s = Unit {0}
 
-      begun_so : {callee : Callee} {ts : List CType} {bs : List (Option Bounds)} {result : Option CType} (enters : IsCallee g callee ts bs result) (here : Scope) (arguments : core.Arguments) (vs : List Value) (s : State) → IsKnown g.structs here s → HasLocals here.locals s
+      begun_so : {callee : Callee} {ts : List CType} {bs : List (Option Bounds)} {result : Option CType} {r : Option Bounds} (enters : IsCallee g callee ts bs result r) (here : Scope) (arguments : core.Arguments) (vs : List Value) (s : State) → IsKnown g.structs here s → HasLocals here.locals s
           → AreAsked g.structs here (terms_of here.locals arguments ts) (pointers_of here.locals arguments) arguments bs → ArePassed g.structs (length here.locals) here.locals ts arguments vs s → AreBegun enters vs s
-      begun_so (typed.trusted {f = f} {bounds = bs} found known rows) here arguments vs s is_known has asked passed = entered g.structs here s is_known has f.locals f.parameters arguments vs bs rows passed asked
+      begun_so (typed.trusted {f = f} {bounds = bs} found known told rows sound) here arguments vs s is_known has asked passed = entered g.structs here s is_known has f.locals f.parameters arguments vs bs rows passed asked
       begun_so (typed.tainted found crosses) here arguments vs s is_known has asked passed = tt
 
-      called_goes : (low : ℕ) (s : State) {callee : Callee} {ts : List CType} {bs : List (Option Bounds)} {result : Option CType} (enters : IsCallee g callee ts bs result) (vs : List Value) → OfTypes g ts vs s → AreBegun enters vs s → IsKept low types s
-          → Goes low types s (IsAnswer g result) (called setting k callee vs s)
-      called_goes low s (typed.trusted {n = function} {f = f} {bounds = bs} found known rows) vs h begun kept = trusted_goes low s function f bs vs found known h begun kept
-      called_goes low s (typed.tainted {n = import} {i = i} {site = site} found crosses) vs h begun kept = tainted_goes low s import i site vs found crosses h kept
+      -- what it gives back: a result that is valid, over what stands for the parameters, with the bounds that are declared for it
+      abbrev IsBack : List (Option Term) → Option CType → Option Bounds → Option Value → State → Type 0
+      IsBack terms result r v s = IsAnswer g result v s × ((b d : Bounds) → r ≡ Some b → ends_filled_in terms b ≡ Some d → HasResult g.structs result (Some d) v s)
+
+      back_so : (terms : List (Option Term)) (result : Option CType) (r : Option Bounds) (types' : List CType) (locals : List CType) (vs : List Value) (v : Option Value) (s : State) → HasResultBounds types' result r → HoldTerms terms s.locals (locals_for locals vs) → IsResult result r locals vs v s → IsBack terms result r v s
+      back_so terms result None types' locals vs v s sound hold h = (h.0, λ b d is at. absurd (cc))
+      back_so terms None (Some b) types' locals vs v s sound hold h = (h.0, λ b d is at. tt)
+      back_so terms (Some Int) (Some b) types' locals vs v s sound hold h = (h.0, λ b d is at. tt)
+      back_so terms (Some Char) (Some b) types' locals vs v s sound hold h = (h.0, λ b d is at. tt)
+      back_so terms (Some (Struct number)) (Some b) types' locals vs v s sound hold h = (h.0, λ b d is at. tt)
+      back_so terms (Some (Pointer m kinds.One t)) (Some b) types' locals vs v s sound hold h = (h.0, λ b d is at. tt)
+      back_so terms (Some (Pointer m kinds.Nt t)) (Some b) types' locals vs v s sound hold h = (h.0, λ b d is at. tt)
+      back_so terms (Some (Pointer m kinds.Array t)) (Some b) types' locals vs None s sound hold h = (h.0, λ b d is at. tt)
+      back_so terms (Some (Pointer m kinds.Array t)) (Some b) types' locals vs (Some v) s sound hold h = (
+        h.0,
+        λ c d is at.
+            let same : b ≡ c = cc in
+            let it = sound b refl in
+            result_valid g.structs terms s (record s { locals = locals_for locals vs }) hold b d (record { type = Pointer m kinds.Array t; value = v }) it.base (ap (ends_filled_in terms) same ∙ at) (grows_here (shaped s)) h.1,
+      )
+
+      called_goes : (low : ℕ) (s : State) (here : Scope) (arguments : core.Arguments) {callee : Callee} {ts : List CType} {bs : List (Option Bounds)} {result : Option CType} {r : Option Bounds} (enters : IsCallee g callee ts bs result r) (vs : List Value) → OfTypes g ts vs s
+          → IsKnown g.structs here s → HasLocals here.locals s → ArePassed g.structs (length here.locals) here.locals ts arguments vs s → AreBegun enters vs s → IsKept low types s
+          → Goes low types s (IsBack (terms_of here.locals arguments ts) result r) (called setting k callee vs s)
+      called_goes low s here arguments (typed.trusted {n = function} {f = f} {bounds = bs} {result_bounds = r} found known told rows sound) vs h is_known has passed begun kept =
+          let terms = terms_of here.locals arguments (parameters_of f) in
+          let held = hold g.structs here s is_known has f.locals f.parameters arguments vs bs rows passed in
+          sure_further (λ v u. IsResult f.result r f.locals vs v u × IsAfter s u × IsKept low types u) (λ v u. IsBack terms f.result r v u × IsAfter s u × IsKept low types u) (called setting k (callees.Trusted function) vs s)
+          (trusted_goes low s function f bs r vs found known told h begun kept)
+          (λ v u x. (back_so terms f.result r (parameters_of f) f.locals vs v u sound (subst (λ ls. HoldTerms terms ls (locals_for f.locals vs)) (sym x.1.1) held) x.0, x.1, x.2))
+      called_goes low s here arguments (typed.tainted {n = import} {i = i} {site = site} found crosses) vs h is_known has passed begun kept =
+          goes_further low types s (IsAnswer g i.result) (IsBack (terms_of here.locals arguments (replicate i.parameters Int)) i.result None) (called setting k (callees.Tainted import site) vs s) (tainted_goes low s import i site vs found crosses h kept)
+          (λ v u answered. (answered, λ b d is at. absurd (cc)))
 
     -- ---- expressions
 
@@ -1019,10 +1074,56 @@ module _ (g : Frame) (budget n : ℕ) where
           (λ v u x. ((x.0.0, record { term = subst (λ ls. IsOfTerm ls (term here.locals e) v) (sym x.0.1.1) x.1.0; local = x.1.1.0; null = x.1.1.1.0; given = x.1.1.1.1 }), x.0.1, x.0.2))
 
       -- where it is known, and the locals are there
-      begun_later : (s u : State) → IsAfter s u → IsHere s → IsKept low types u → {callee : Callee} {ts : List CType} {bs : List (Option Bounds)} {result : Option CType} (enters : IsCallee g callee ts bs result) (arguments : core.Arguments) (vs : List Value)
+      begun_later : (s u : State) → IsAfter s u → IsHere s → IsKept low types u → {callee : Callee} {ts : List CType} {bs : List (Option Bounds)} {result : Option CType} {r : Option Bounds} (enters : IsCallee g callee ts bs result r) (arguments : core.Arguments) (vs : List Value)
           → AreAsked g.structs here (terms_of here.locals arguments ts) (pointers_of here.locals arguments) arguments bs → ArePassed g.structs (length here.locals) here.locals ts arguments vs u → AreBegun types enters vs u
       begun_later s u after h kept enters arguments vs asked passed =
           begun_so types enters here arguments vs u (here_later s u after h kept).0 (has_locals g.structs (shaped u) here.locals types u.locals reaches kept.locals) asked passed
+
+      answered : (s : State) → IsHere s → {callee : Callee} {ts : List CType} {bs : List (Option Bounds)} {result : Option CType} {r : Option Bounds} (enters : IsCallee g callee ts bs result r) (arguments : core.Arguments)
+          → AreAsked g.structs here (terms_of here.locals arguments ts) (pointers_of here.locals arguments) arguments bs → (vs : List Value) (u : State) → IsAfter s u → OfTypes g ts vs u × ArePassed g.structs (length here.locals) here.locals ts arguments vs u → IsKept low types u
+          → Goes low types u (IsBack types (terms_of here.locals arguments ts) result r) (called setting k callee vs u)
+      answered s here' enters arguments asked vs u after x kept =
+          called_goes types low u here arguments enters vs x.0 (here_later s u after here' kept).0 (has_locals g.structs (shaped u) here.locals types u.locals reaches kept.locals) x.1 (begun_later s u after here' kept enters arguments vs asked x.1) kept
+
+      -- those that are declared for a result
+      freely_given : (e : core.Expression) (m : Mode) (t : CType) (p : PointerBounds) (s : State) → bounds_of e ≡ Some p → based_bounds e ≡ None → p.bounds.base ≡ None → AreInts here.locals p.bounds → Goes low types s (OfNode g e (Pointer m kinds.Array t)) (value true setting k e s)
+          → WhereGiven (GivenTo e m t) (value true setting k e s)
+      freely_given e m t p s own based none ints h =
+          so_further (λ v u. OfNode g e (Pointer m kinds.Array t) v u × IsAfter s u × IsKept low types u) (GivenTo e m t) (value true setting k e s)
+          (sure_given (λ v u. OfNode g e (Pointer m kinds.Array t) v u × IsAfter s u × IsKept low types u) (value true setting k e s) h)
+          (λ v u x w alike. (
+            subst (λ o. IsGivenIf g.structs (Pointer m kinds.Array t) o v w) (sym (ap (option_map (λ (b : PointerBounds). b.bounds)) own)) (
+              free_alike g.structs g.structs here.locals u w (has_locals g.structs (shaped u) here.locals types u.locals reaches x.2.locals) alike p.bounds (pointing m t v) none ints (subst (λ b. IsBounded g (Pointer m kinds.Array t) b v u) own x.0.1),
+              λ q c e there. absurd (let found : None ≡ Some q = sym none ∙ e in cc),
+            ),
+            subst (λ o. IsGivenIf g.structs (Pointer m kinds.Array t) o v w) (sym based) tt,
+          ))
+
+      call_given : (callee : Callee) (arguments : core.Arguments) (ts : List CType) (c : CType) (r : Option Bounds) (b : Option PointerBounds) → HasCallBounds g.structs here.locals (terms_of here.locals arguments ts) c r b → (m : Mode) (d : Kind) (t : CType) → c ≡ Pointer m d t → (s : State) → IsHere s
+          → Goes low types s (OfNode g (core.Call callee arguments b) c) (value true setting k (core.Call callee arguments b) s) → WhereGiven (GivenTo (core.Call callee arguments b) m t) (value true setting k (core.Call callee arguments b) s)
+      call_given callee arguments ts c r b (typed.by_type bounds) m d t same s here' goes =
+          plainly_given (core.Call callee arguments b) m d t s (subst (λ c. HasBounds g.structs c b) same bounds) refl (subst (λ x. Goes low types s (OfNode g (core.Call callee arguments b) x) (value true setting k (core.Call callee arguments b) s)) same goes)
+      call_given callee arguments ts _ _ _ (typed.by_result {mode = m'} {target = t'} {declared = r} {p = p} at size some limited none ints) m d t same s here' goes =
+          subst (λ m. WhereGiven (GivenTo (core.Call callee arguments (Some p)) m t) (value true setting k (core.Call callee arguments (Some p)) s)) (mode_is m' m d t t' same)
+          (subst (λ t. WhereGiven (GivenTo (core.Call callee arguments (Some p)) m' t) (value true setting k (core.Call callee arguments (Some p)) s)) (target_is m' m d t t' same)
+          (freely_given (core.Call callee arguments (Some p)) m' t' p s refl refl none ints goes))
+
+      -- a call, by how it has its bounds
+      call_goes : (callee : Callee) (arguments : core.Arguments) (ts : List CType) (bs : List (Option Bounds)) (t : CType) (r : Option Bounds) (b : Option PointerBounds) → IsCallee g callee ts bs (Some t) r → HasCallBounds g.structs here.locals (terms_of here.locals arguments ts) t r b
+          → AreAsked g.structs here (terms_of here.locals arguments ts) (pointers_of here.locals arguments) arguments bs → (s : State) → IsHere s
+          → Goes low types s (λ vs u. OfTypes g ts vs u × ArePassed g.structs (length here.locals) here.locals ts arguments vs u) (values true setting k arguments s)
+          → Goes low types s (OfNode g (core.Call callee arguments b) t) (value true setting k (core.Call callee arguments b) s)
+      call_goes callee arguments ts bs t r b enters (typed.by_type bounds) asked s here' goes =
+          with_none (core.Call callee arguments b) t s (plain_bounded t b bounds)
+          (goes_on low types s (λ vs u. OfTypes g ts vs u × ArePassed g.structs (length here.locals) here.locals ts arguments vs u) (OfType g t) (values true setting k arguments s) _ goes
+          (λ vs u after x u_kept. audited_goes low types u t b (and_then (called setting k callee vs u) result_given) bounds
+          (goes_on low types u (IsBack types (terms_of here.locals arguments ts) (Some t) r) (OfType g t) (called setting k callee vs u) result_given (answered s here' enters arguments asked vs u after x u_kept) (λ v w _ back w_kept. given_back low types w t v back.0 w_kept))))
+      call_goes callee arguments ts bs _ _ _ enters (typed.by_result {mode = m} {target = t} {declared = r} {p = p} at size some limited none ints) asked s here' goes =
+          goes_on low types s (λ vs u. OfTypes g ts vs u × ArePassed g.structs (length here.locals) here.locals ts arguments vs u) (OfNode g (core.Call callee arguments (Some p)) (Pointer m kinds.Array t)) (values true setting k arguments s) _ goes
+          (λ vs u after x u_kept. goes_on low types u (λ v w. OfType g (Pointer m kinds.Array t) v w × IsBounded g (Pointer m kinds.Array t) (Some p) v w) (OfNode g (core.Call callee arguments (Some p)) (Pointer m kinds.Array t)) (and_then (called setting k callee vs u) result_given) (audit true (Some p))
+          (goes_on low types u (IsBack types (terms_of here.locals arguments ts) (Some (Pointer m kinds.Array t)) (Some r)) (λ v w. OfType g (Pointer m kinds.Array t) v w × IsBounded g (Pointer m kinds.Array t) (Some p) v w) (called setting k callee vs u) result_given
+          (answered s here' enters arguments asked vs u after x u_kept) (λ v w _ back w_kept. valid_back low types w m t p v back.0 (back.1 r p.bounds refl at) w_kept))
+          (λ v w _ y w_kept. bounded_goes low types w m t (Some p) v size y.0 y.1 w_kept))
 
       mutual
         pub value_goes : {e : core.Expression} {t : CType} → HasType g types here e t → (s : State) → IsHere s → Goes low types s (OfNode g e t) (value true setting k e s)
@@ -1101,11 +1202,7 @@ module _ (g : Frame) (budget n : ℕ) where
             (λ v u after typed u_kept. chosen_goes low types u (OfType g Int) (truth v) _ _ (test_goes low types u true u_kept) (truth_goes low types u t' (value true setting k b u) (typed_alone b t' u (value_goes hb u (here_later s u after here' u_kept))))))
         value_goes (typed.low_byte {e = e} h) s here' =
             with_none (core.LowByte e) Char s (λ v u. tt) (goes_on low types s (OfType g Int) (OfType g Char) (value true setting k e s) low_byte_of (typed_alone e Int s (value_goes h s here')) (λ v u _ typed u_kept. byte_goes low types u v typed u_kept))
-        value_goes (typed.call {callee = callee} {ts = ts} {arguments = arguments} {t = t} {b = b} known h asked bounds) s here' =
-            with_none (core.Call callee arguments b) t s (plain_bounded t b bounds)
-            (goes_on low types s (λ vs u. OfTypes g ts vs u × ArePassed g.structs (length here.locals) here.locals ts arguments vs u) (OfType g t) (values true setting k arguments s) _ (values_go h s here')
-            (λ vs u after x u_kept. audited_goes low types u t b (and_then (called setting k callee vs u) result_given) bounds
-            (goes_on low types u (IsAnswer g (Some t)) (OfType g t) (called setting k callee vs u) result_given (called_goes types low u known vs x.0 (begun_later s u after here' u_kept known arguments vs asked x.1) u_kept) (λ v w _ answered w_kept. given_back low types w t v answered w_kept))))
+        value_goes (typed.call {callee = callee} {ts = ts} {bs = bs} {r = r} {arguments = arguments} {t = t} {b = b} known h asked bounds) s here' = call_goes callee arguments ts bs t r b known bounds asked s here' (values_go h s here')
         value_goes typed.next_input s here' =
             with_none core.NextInput Int s (λ v u. tt)
             (asked_goes low low types IsNumber (OfType g Int) (next_input s.world) s _ (next_answers budget low s.world here'.1.world) here'.1.enough here'.1 (λ z u _ fits u_kept. (fits, after_here u, u_kept)))
@@ -1153,8 +1250,7 @@ module _ (g : Frame) (budget n : ℕ) where
         given_so (typed.both ha hb) m d t same s here' goes = absurd (cc)
         given_so (typed.either ha hb) m d t same s here' goes = absurd (cc)
         given_so (typed.low_byte h) m d t same s here' goes = absurd (cc)
-        given_so (typed.call {callee = callee} {arguments = arguments} {t = c} {b = b} known h asked bounds) m d t same s here' goes =
-            plainly_given (core.Call callee arguments b) m d t s (subst (λ c. HasBounds g.structs c b) same bounds) refl (subst (λ x. Goes low types s (OfNode g (core.Call callee arguments b) x) (value true setting k (core.Call callee arguments b) s)) same goes)
+        given_so (typed.call {callee = callee} {ts = ts} {r = r} {arguments = arguments} {t = c} {b = b} known h asked bounds) m d t same s here' goes = call_given callee arguments ts c r b bounds m d t same s here' goes
         given_so typed.next_input m d t same s here' goes = absurd (cc)
 
         pub values_go : {arguments : core.Arguments} {ts : List CType} → HaveTypes g types here arguments ts → (s : State) → IsHere s
@@ -1361,6 +1457,21 @@ module _ (g : Frame) (budget n : ℕ) where
         pub typed_goes : {e : core.Expression} {t : CType} → HasType g types here e t → (s : State) → Stands s → Goes low types s (OfType g t) (value true setting k e s)
         typed_goes {e = e} {t = t} h s stands = typed_alone low types here flow reaches e t s (value_goes low types here flow reaches h s stands)
 
+        -- a value that is returned, with the bounds that are declared for the result
+        pub returned_goes : {e : core.Expression} (t : CType) (bounds : Option Bounds) → HasType g types here e t → IsReturned g.structs here e t bounds → (s : State) → Stands s → Goes low types s (λ v u. OfType g t v u × HasResult g.structs (Some t) bounds (Some v) u) (value true setting k e s)
+        returned_goes {e = e} Int bounds h asked s stands = goes_further low types s (OfType g Int) (λ v u. OfType g Int v u × HasResult g.structs (Some Int) bounds (Some v) u) (value true setting k e s) (typed_goes h s stands) (λ v u typed. (typed, tt))
+        returned_goes {e = e} Char bounds h asked s stands = goes_further low types s (OfType g Char) (λ v u. OfType g Char v u × HasResult g.structs (Some Char) bounds (Some v) u) (value true setting k e s) (typed_goes h s stands) (λ v u typed. (typed, tt))
+        returned_goes {e = e} (Struct number) bounds h asked s stands = goes_further low types s (OfType g (Struct number)) (λ v u. OfType g (Struct number) v u × HasResult g.structs (Some (Struct number)) bounds (Some v) u) (value true setting k e s) (typed_goes h s stands) (λ v u typed. (typed, tt))
+        returned_goes {e = e} (Pointer m kinds.One t) bounds h asked s stands = goes_further low types s (OfType g (Pointer m kinds.One t)) (λ v u. OfType g (Pointer m kinds.One t) v u × HasResult g.structs (Some (Pointer m kinds.One t)) bounds (Some v) u) (value true setting k e s) (typed_goes h s stands) (λ v u typed. (typed, tt))
+        returned_goes {e = e} (Pointer m kinds.Nt t) bounds h asked s stands = goes_further low types s (OfType g (Pointer m kinds.Nt t)) (λ v u. OfType g (Pointer m kinds.Nt t) v u × HasResult g.structs (Some (Pointer m kinds.Nt t)) bounds (Some v) u) (value true setting k e s) (typed_goes h s stands) (λ v u typed. (typed, tt))
+        returned_goes {e = e} (Pointer m kinds.Array t) None h asked s stands = goes_further low types s (OfType g (Pointer m kinds.Array t)) (λ v u. OfType g (Pointer m kinds.Array t) v u × Unit {0}) (value true setting k e s) (typed_goes h s stands) (λ v u typed. (typed, tt))
+        returned_goes {e = e} (Pointer m kinds.Array t) (Some b) h asked s stands =
+            let c = Pointer m kinds.Array t in
+            sure_further (λ v u. IsArgument low types here flow reaches e c v u × IsAfter s u × IsKept low types u) (λ v u. (OfType g c v u × HasResult g.structs (Some c) (Some b) (Some v) u) × IsAfter s u × IsKept low types u) (value true setting k e s)
+            (passed_so low types here flow reaches e c s stands (typed_goes h s stands) (given_by_kind low types here flow reaches e c s (λ m' t' same. given_so low types here flow reaches h m' kinds.Array t' same s stands (value_goes low types here flow reaches h s stands))))
+            (λ v u x. let at = standing_later s u x.1 stands x.2 in
+            ((x.0.0, asked_valid g.structs here u at.0 (has_locals g.structs (shaped u) here.locals types u.locals reaches x.2.locals) m t e v b asked x.0.1.null (x.0.1.given u (alike_here (length here.locals) u))), x.1, x.2))
+
         -- and then a step
         value_then : {e : core.Expression} {t : CType} (next : Value → State → Result Flow) → HasType g types here e t → (s : State) → Stands s → ((v : Value) (u : State) → IsAfter s u → OfType g t v u → IsKept low types u → Runs low types IsNext (next v u))
             → Runs low types IsNext (and_then (value true setting k e s) next)
@@ -1438,10 +1549,10 @@ module _ (g : Frame) (budget n : ℕ) where
             let grown = grows_on (shaped r) (shaped w) (shaped x) (grows_on (shaped r) (shaped u) (shaped w) to_u.0 to_w.0) to_x.0 in
             kept_store x t (Some site) at new number (place_grown g.structs (shaped r) (shaped x) grown t at.0 at.1 placed) new_typed x_kept))))
         simple_runs (typed.evaluate {e = e} {t = t} h) s stands = value_then _ h s stands (λ v u _ typed u_kept. (refl, u_kept))
-        simple_runs (typed.call_alone {callee = callee} {ts = ts} {arguments = arguments} known h asked) s stands =
+        simple_runs (typed.call_alone {callee = callee} {ts = ts} {r = r} {arguments = arguments} known h asked) s stands =
             runs_on low types s (λ vs u. OfTypes g ts vs u × ArePassed g.structs (length here.locals) here.locals ts arguments vs u) IsNext (values true setting k arguments s) _ (values_go low types here flow reaches h s stands)
-            (λ vs u after x u_kept. runs_on low types u (IsAnswer g None) IsNext (called setting k callee vs u) no_result (called_goes types low u known vs x.0 (begun_later low types here flow reaches s u after stands u_kept known arguments vs asked x.1) u_kept)
-            (λ v w _ answered w_kept. runs_of low types w IsNext (no_result v w) (nothing_back low types w v answered w_kept)))
+            (λ vs u after x u_kept. runs_on low types u (IsBack types (terms_of here.locals arguments ts) None r) IsNext (called setting k callee vs u) no_result (answered low types here flow reaches s stands known arguments asked vs u after x u_kept)
+            (λ v w _ back w_kept. runs_of low types w IsNext (no_result v w) (nothing_back low types w v back.0 w_kept)))
         simple_runs (typed.print {e = e} h) s stands = value_then printed h s stands (λ v u _ typed u_kept. printed_goes u v typed u_kept)
         simple_runs (typed.put_byte {e = e} h) s stands = value_then put h s stands (λ v u _ typed u_kept. put_goes u v typed u_kept)
 

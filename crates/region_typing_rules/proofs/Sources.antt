@@ -11,6 +11,7 @@ use Rattle.ckc_tree.specs.declared.identifier.Identifier.{Identifier}
 use Rattle.ckc_tree.specs.Expressions as e
 use Rattle.ckc_tree.specs.Expressions.{Expression}
 use Rattle.pointer_modes.specs.declared.ctype.Kind.TheVariants as kinds
+use Rattle.bounds_exprs.specs.declared.term.Bounds.{Bounds}
 use Rattle.pointer_modes.specs.Types.{CType, Int, Char, Struct, Pointer, Structure, members_of}
 use Rattle.pointer_modes.specs.Layout.{cells_of}
 use Rattle.ckc_core.specs.declared.program.Site.{Site}
@@ -202,9 +203,9 @@ indexed_fresh (AStruct k p) b site span = tt
 
 -- ---- calls
 
-call_fresh : (result : Option CType) (callee : Callee) (values : core.Arguments) (site : Site) (structs : List Structure) → IsFreshCall (call_of structs result callee values site)
-call_fresh (Some t) callee values site structs = tt
-call_fresh None callee values site structs = tt
+call_fresh : (result : Option CType) (bounds : Option Bounds) (callee : Callee) (values : core.Arguments) (site : Site) (structs : List Structure) → IsFreshCall (call_of structs result bounds callee values site)
+call_fresh (Some t) bounds callee values site structs = tt
+call_fresh None bounds callee values site structs = tt
 
 first_plain : (of : core.Expression → core.Statement) (values : core.Arguments) → ((v : core.Expression) → IsPlain [] (of v)) → IsPlain [] (first_of of values)
 first_plain of core.Done h = tt
@@ -232,7 +233,7 @@ called_fresh s (Some f) name arguments site span =
     needs_promises IsFreshCall (length f.parameters == length arguments) E14 span _
     (λ many. crossing_promises IsFreshCall (is_import f) arguments _
     (passing_any IsFreshCall (arguments_as arguments f.parameters) _ (λ values. all_met_promise IsFreshCall s.flow _ _ arguments f.parameters f.bounds _
-    (call_fresh f.result (declared_callee s f site) values site s.structs))))
+    (call_fresh f.result _ (declared_callee s f site) values site s.structs))))
 
 pub call_typed_fresh : (at : Places) (s : Scope) (x : Expression) → Promises IsFreshCall (call_typed at s x)
 call_typed_fresh at s (e.Number value span) = tt

@@ -14,6 +14,7 @@ use Rattle.ckc_tree.specs.Expressions.{Expression, Expressions}
 use Rattle.ckc_tree.specs.Heights.{Reach, deeper, ◌beside◌, inside, around, type_reach, expression_reach, expressions_reach, bounds_reach}
 use Rattle.bounds_flow.specs.Flows.{Knowledge}
 use Rattle.pointer_modes.specs.declared.ctype.Kind.TheVariants as kinds
+use Rattle.bounds_exprs.specs.declared.term.Bounds.{Bounds}
 use Rattle.pointer_modes.specs.Types.{CType, Int, Char, Struct, Pointer, Structure, members_of}
 use Rattle.pointer_modes.specs.Layout.{cells_of}
 use Rattle.ckc_core.specs.declared.program.Site.{Site}
@@ -359,9 +360,9 @@ arguments_low n (a ∷ arguments) (t ∷ ts) one all =
     (λ v low. passing_promises (λ (values : core.Arguments). arguments_stack values ≤ n + length ts) (λ (values : core.Arguments). arguments_stack values ≤ n + length (t ∷ ts)) (arguments_as arguments ts) _ (arguments_low n arguments ts one all.1)
     (λ others h. omega arith))
 
-call_low : (n : ℕ) (result : Option CType) (callee : Callee) (values : core.Arguments) (site : Site) (structs : List Structure) → 1 ≤ n → arguments_stack values ≤ n → LowCall n (call_of structs result callee values site)
-call_low n (Some t) callee values site structs one h = omega arith
-call_low n None callee values site structs one h = h
+call_low : (n : ℕ) (result : Option CType) (bounds : Option Bounds) (callee : Callee) (values : core.Arguments) (site : Site) (structs : List Structure) → 1 ≤ n → arguments_stack values ≤ n → LowCall n (call_of structs result bounds callee values site)
+call_low n (Some t) bounds callee values site structs one h = omega arith
+call_low n None bounds callee values site structs one h = h
 
 first_low : (n : ℕ) (of : core.Expression → core.Statement) (values : core.Arguments) → ((v : core.Expression) → statement_stack (of v) ≡ expression_stack v) → arguments_stack values ≤ n → statement_stack (first_of of values) ≤ n
 first_low n of core.Done same h = omega arith
@@ -401,7 +402,7 @@ module _ (s : Scope) (few : AllByRecursion HasFew s.functions) where
       (λ many. crossing_promises (LowCall (n + 16)) (is_import f) arguments _
       (passing_promises (λ (values : core.Arguments). arguments_stack values ≤ n + length f.parameters) (LowCall (n + 16)) (arguments_as arguments f.parameters) _ (arguments_low n arguments f.parameters one all)
       (λ values h. let least = named_has HasFew s.functions name f few found in
-      all_met_promise (LowCall (n + 16)) s.flow _ _ arguments f.parameters f.bounds _ (call_low (n + 16) f.result (declared_callee s f site) values site s.structs (omega arith) (omega arith)))))
+      all_met_promise (LowCall (n + 16)) s.flow _ _ arguments f.parameters f.bounds _ (call_low (n + 16) f.result _ (declared_callee s f site) values site s.structs (omega arith) (omega arith)))))
 
   -- ---- the walk
 

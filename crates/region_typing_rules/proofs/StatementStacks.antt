@@ -4,7 +4,7 @@ use Rattle.std.specs.Prelude.{nat_lt, not, ◌||◌}
 use Rattle.bounds_flow.specs.Flows.{Knowledge}
 use Rattle.std.specs.List.{AllByRecursion}
 use Rattle.ckc_text.specs.declared.place.Span.{Span}
-use Rattle.ckc_text.specs.declared.code.Code.TheVariants.{E08, E13, E15, E30}
+use Rattle.ckc_text.specs.declared.code.Code.TheVariants.{E08, E13, E15, E17, E30}
 use Rattle.ckc_tree.specs.declared.stmt.StoreOperator.{StoreOperator}
 use Rattle.ckc_tree.specs.declared.stmt.StoreOperator.TheVariants as stores
 use Rattle.ckc_tree.specs.Types.{TypeTree}
@@ -24,7 +24,7 @@ use Rattle.region_typing_rules.specs.Verdicts.{Verdict, Passes}
 use Rattle.region_typing_rules.specs.Scopes.{Scope}
 use Rattle.region_typing_rules.specs.Types.{is_scalar, without_stars, base_type}
 use Rattle.region_typing_rules.specs.Expressions.{Places, Typed, Value, AStruct, Called, Gives, GivesNothing, Lvalue, OfLocal, OfCell, ForNothing, ForArray, For, site_at, sum_node, operator_along, typed, call_typed}
-use Rattle.region_typing_rules.specs.Statements.{Walked, store, update, assigned, set_to, moved, updated_as, updated, stored, step_of, one, assignment, assigning, zero_value, with_local, initialised, bounded_local, declarator, declarators, declaration, at_alternative, before_step, in_loop, is_unchecked, condition, optional_condition, optional_step, first_part, alone, returned, returned_nothing, return, statement, statements}
+use Rattle.region_typing_rules.specs.Statements.{Walked, store, update, assigned, set_to, moved, updated_as, updated, stored, step_of, one, assignment, assigning, zero_value, with_local, initialised, bounded_local, declarator, declarators, declaration, at_alternative, before_step, in_loop, is_unchecked, condition, optional_condition, optional_step, first_part, alone, result_meets, returned, returned_nothing, return, statement, statements}
 use Rattle.region_typing_rules.specs.DeclaredBounds.{declared_bounds}
 use Rattle.region_typing_rules.specs.Knowing.{when, at_loop}
 use Rattle.region_typing_rules.proofs.Assigning.{assigning_promises, declared_promises}
@@ -183,9 +183,9 @@ module _ (at : Places) where
 
   -- ---- results
 
-  returned_low : (n : ℕ) (f : Knowledge) (o : Option CType) (t : Typed) (span : Span) → 1 ≤ n → Low n t → Promises (IsLowStatement n) (returned f o t span)
-  returned_low n f None t span least h = tt
-  returned_low n f (Some type) t span least h = converted_low (IsLowStatement n) n t type span _ least h (λ v low. met_promises (IsLowStatement n) f t type span _ low)
+  returned_low : (n : ℕ) (f : Knowledge) (o : Option CType) (b : Option Bounds) (t : Typed) (span : Span) → 1 ≤ n → Low n t → Promises (IsLowStatement n) (returned f o b t span)
+  returned_low n f None b t span least h = tt
+  returned_low n f (Some type) b t span least h = converted_low (IsLowStatement n) n t type span _ least h (λ v low. needs_promises (IsLowStatement n) (result_meets f b t type) E17 span _ (λ met. low))
 
   nothing_low : (n : ℕ) (o : Option CType) (span : Span) → Promises (IsLowStatement n) (returned_nothing o span)
   nothing_low n None span = omega arith
@@ -193,7 +193,7 @@ module _ (at : Places) where
 
   return_low : (s : Scope) → HaveFew s → (o : Option Expression) (span : Span) (n : ℕ) → 17 * (optional_expression_reach o).height + 1 ≤ n → Promises (IsLowStatement n) (return at s o span)
   return_low s few None span n h = nothing_low n s.result span
-  return_low s few (Some x) span n h = passing_promises (Low n) (IsLowStatement n) (typed at s x) _ (typed_low s few at x n (omega arith)) (λ t low. returned_low n s.flow s.result t span (omega arith) low)
+  return_low s few (Some x) span n h = passing_promises (Low n) (IsLowStatement n) (typed at s x) _ (typed_low s few at x n (omega arith)) (λ t low. returned_low n s.flow s.result s.result_bounds t span (omega arith) low)
 
   -- ---- statements
 

@@ -2,7 +2,7 @@
 use Rattle.std.proofs.Common.{◌≡◌, ℕ, ◌+◌, ◌*◌, ◌<◌, ◌≤◌, true, List, [], ◌∷◌, length, Option, Some, None, arith}
 use Rattle.std.specs.Prelude.{nat_lt, not, ◌||◌}
 use Rattle.ckc_text.specs.declared.place.Span.{Span}
-use Rattle.ckc_text.specs.declared.code.Code.TheVariants.{E08, E13, E15, E30}
+use Rattle.ckc_text.specs.declared.code.Code.TheVariants.{E08, E13, E15, E17, E30}
 use Rattle.ckc_tree.specs.declared.stmt.StoreOperator.{StoreOperator}
 use Rattle.ckc_tree.specs.declared.stmt.StoreOperator.TheVariants as stores
 use Rattle.ckc_tree.specs.Types.{TypeTree}
@@ -23,7 +23,7 @@ use Rattle.region_typing_rules.specs.Verdicts.{Verdict, Passes}
 use Rattle.region_typing_rules.specs.Scopes.{Scope}
 use Rattle.region_typing_rules.specs.Types.{is_scalar, without_stars, base_type}
 use Rattle.region_typing_rules.specs.Expressions.{Places, Typed, Value, AStruct, Called, Gives, GivesNothing, Lvalue, OfLocal, OfCell, ForNothing, ForArray, For, site_at, sum_node, operator_along, typed, call_typed}
-use Rattle.region_typing_rules.specs.Statements.{Walked, store, update, assigned, set_to, moved, updated_as, updated, stored, step_of, one, assignment, zero_value, with_local, initialised, bounded_local, declarator, declarators, declaration, at_alternative, before_step, in_loop, is_unchecked, condition, optional_condition, optional_step, first_part, alone, returned, returned_nothing, return, statement, statements}
+use Rattle.region_typing_rules.specs.Statements.{Walked, store, update, assigned, set_to, moved, updated_as, updated, stored, step_of, one, assignment, zero_value, with_local, initialised, bounded_local, declarator, declarators, declaration, at_alternative, before_step, in_loop, is_unchecked, condition, optional_condition, optional_step, first_part, alone, result_meets, returned, returned_nothing, return, statement, statements}
 use Rattle.region_typing_rules.specs.DeclaredBounds.{declared_bounds}
 use Rattle.region_typing_rules.specs.Knowing.{when, at_loop}
 use Rattle.region_typing_rules.proofs.Assigning.{assigning_promises, declared_promises}
@@ -180,9 +180,9 @@ module _ (at : Places) where
 
   -- ---- results
 
-  returned_light : (n : ℕ) (f : Knowledge) (o : Option CType) (t : Typed) (span : Span) → 2 ≤ n → Light n t → Promises (IsLightStatement (n + 1)) (returned f o t span)
-  returned_light n f None t span two h = tt
-  returned_light n f (Some type) t span two h = converted_light (IsLightStatement (n + 1)) n t type span _ two h (λ v light. met_promises (IsLightStatement (n + 1)) f t type span _ (omega arith))
+  returned_light : (n : ℕ) (f : Knowledge) (o : Option CType) (b : Option Bounds) (t : Typed) (span : Span) → 2 ≤ n → Light n t → Promises (IsLightStatement (n + 1)) (returned f o b t span)
+  returned_light n f None b t span two h = tt
+  returned_light n f (Some type) b t span two h = converted_light (IsLightStatement (n + 1)) n t type span _ two h (λ v light. needs_promises (IsLightStatement (n + 1)) (result_meets f b t type) E17 span _ (λ met. omega arith))
 
   nothing_light : (o : Option CType) (span : Span) → Promises (IsLightStatement 5) (returned_nothing o span)
   nothing_light None span = omega arith
@@ -193,7 +193,7 @@ module _ (at : Places) where
   return_light s (Some x) span =
       let n = 5 * tree.expression_weight x in
       passing_promises (Light n) (IsLightStatement (n + 5)) (typed at s x) _ (typed_light at s x)
-      (λ t light. promised_so (IsLightStatement (n + 1)) (IsLightStatement (n + 5)) (returned s.flow s.result t span) (returned_light n s.flow s.result t span (omega (arith, node_there x)) light) (λ v light'. omega arith))
+      (λ t light. promised_so (IsLightStatement (n + 1)) (IsLightStatement (n + 5)) (returned s.flow s.result s.result_bounds t span) (returned_light n s.flow s.result s.result_bounds t span (omega (arith, node_there x)) light) (λ v light'. omega arith))
 
   -- ---- statements
 

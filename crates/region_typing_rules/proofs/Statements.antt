@@ -21,6 +21,7 @@ use Rattle.bounds_flow.specs.Flows.{held_at}
 use Rattle.ckc_core.specs.Core as core
 use Rattle.ckc_core.specs.Meaning.{bounds_of}
 use Rattle.region_typing_rules.specs.Verdicts.{Verdict, Passes}
+use Rattle.bounds_flow_meaning.specs.Holding.{AreInts}
 use Rattle.region_typing_rules.specs.Scopes.{Scope}
 use Rattle.region_typing_rules.specs.Types.{is_number}
 use Rattle.region_typing_rules.specs.Expressions.{Places, Typed, Value, AStruct, ForNothing, ForArray, For, Called, Gives, GivesNothing, Lvalue, OfLocal, OfCell, site_at, typed, two_numbers, is_single_value, lacks_bounds, operator_along, sum_node, converted, bounds_met}
@@ -35,10 +36,10 @@ use Rattle.region_typing_rules.proofs.Growth.{Grows}
 module _ (g : Frame) (types : List CType) (all_scalar : AllByRecursion IsScalar types) where
   -- a statement that is one in every function and loop
   abbrev pub IsAny : core.Statement → Type 0
-  IsAny x = (result : Option CType) (loop : Bool) → IsStatement g types result loop x
+  IsAny x = (result : Option CType) (bounds : Option Bounds) (loop : Bool) → IsStatement g types result bounds loop x
 
   pub simple_any : (s : Scope) (x : core.Statement) → IsSimple g types s x → IsAny x
-  simple_any s x h = λ result loop. rules.simple h
+  simple_any s x h = λ result bounds loop. rules.simple h
 
   pub zero_typed : (s : Scope) (t : CType) → IsScalar t → HasType g types s (zero_value t) t
   zero_typed s Int h = rules.word refl
@@ -147,19 +148,6 @@ module _ (g : Frame) (types : List CType) (all_scalar : AllByRecursion IsScalar 
   optional_promises at s knows None = record { type = Int; typed = rules.word refl }
   optional_promises at s knows (Some x) = condition_promises at s knows x
 
-  returned_promises : (s : Scope) → Knows g types s → (result : Option CType) (loop : Bool) (o : Option CType) (t : Typed) (span : Span) → result ≡ o → Fits g types s t → Promises (IsStatement g types result loop) (returned s.flow o t span)
-  returned_promises s knows result loop None t span e h = tt
-  returned_promises s knows result loop (Some type) t span e h = value_promises s knows (IsStatement g types result loop) t type span core.Return h (λ v typed. rules.returned e typed)
-
-  nothing_promises : (result : Option CType) (loop : Bool) (o : Option CType) (span : Span) → result ≡ o → Promises (IsStatement g types result loop) (returned_nothing o span)
-  nothing_promises result loop None span e = rules.returned_nothing e
-  nothing_promises result loop (Some type) span e = tt
-
-  pub return_promises : (at : Places) (s : Scope) → Knows g types s → (o : Option Expression) (span : Span) → Promises (IsStatement g types s.result s.in_loop) (return at s o span)
-  return_promises at s knows None span = nothing_promises s.result s.in_loop s.result span refl
-  return_promises at s knows (Some x) span =
-      passing_promises (Fits g types s) (IsStatement g types s.result s.in_loop) (typed at s x) _ (typed_promises g types s knows at x) (λ t h. returned_promises s knows s.result s.in_loop s.result t span refl h)
-
   pub alone_typed : (s : Scope) (c : Called) → FitsCall g types s c → IsSimple g types s (alone c)
   alone_typed s (Gives type value) h = rules.evaluate h.0
   alone_typed s (GivesNothing call) h = h
@@ -173,14 +161,14 @@ module _ (g : Frame) (types : List CType) (all_scalar : AllByRecursion IsScalar 
   initialised_promises at s knows (Some (trees.Constants constants list)) t k span there = tt
 
   pub both_typed : (x y : core.Statement) → IsAny x → IsAny y → IsAny (both x y)
-  both_typed x y hx hy = λ result loop. rules.block (rules.then_more (hx result loop) (rules.then_more (hy result loop) rules.no_more))
+  both_typed x y hx hy = λ result bounds loop. rules.block (rules.then_more (hx result bounds loop) (rules.then_more (hy result bounds loop) rules.no_more))
 
   -- all locals of a scope are among those of the function
   abbrev pub Reaches : Scope → Type 0
   Reaches s = Extends s.locals types
 
-  pub knows_from : (s : Scope) → KnowsFile g s → IsFlow s.flow → ((k : ℕ) (b : Bounds) → (held_at s.flow.held k).bounds ≡ Some b → IsPointing s k b) → length s.locals ≤ s.flow.vars → Reaches s → Knows g types s
-  knows_from s file flow pointers few reaches = record { file = file; flow = flow; pointers = pointers; few = few; locals = reaches; scalar = all_scalar }
+  pub knows_from : (s : Scope) → KnowsFile g s → IsFlow s.flow → ((k : ℕ) (b : Bounds) → (held_at s.flow.held k).bounds ≡ Some b → IsPointing s k b) → length s.locals ≤ s.flow.vars → ((b : Bounds) → s.result_bounds ≡ Some b → AreInts s.locals b) → Reaches s → Knows g types s
+  knows_from s file flow pointers few result reaches = record { file = file; flow = flow; pointers = pointers; few = few; result = result; locals = reaches; scalar = all_scalar }
 
   -- where its locals are reached, what is behind it has a type
   abbrev pub Becomes : {A : Type 0} → (A → Type 0) → A × Scope → Type 0
@@ -191,16 +179,16 @@ module _ (g : Frame) (types : List CType) (all_scalar : AllByRecursion IsScalar 
 
   -- what is typed behind others is typed as they are
   abbrev pub IsIn : Scope → core.Statement → Type 0
-  IsIn s x = IsStatement g types s.result s.in_loop x
+  IsIn s x = IsStatement g types s.result s.result_bounds s.in_loop x
 
   abbrev pub AreIn : Scope → core.Statements → Type 0
-  AreIn s xs = AreStatements g types s.result s.in_loop xs
+  AreIn s xs = AreStatements g types s.result s.result_bounds s.in_loop xs
 
   pub statement_from : (a b : Scope) (x : core.Statement) → Grows a b → IsIn b x → IsIn a x
-  statement_from a b x h typed = subst (λ r. IsStatement g types r a.in_loop x) (sym h.result) (subst (λ l. IsStatement g types b.result l x) (sym h.loop) typed)
+  statement_from a b x h typed = subst (λ r. IsStatement g types r a.result_bounds a.in_loop x) (sym h.result) (subst (λ k. IsStatement g types b.result k a.in_loop x) (sym h.asked) (subst (λ l. IsStatement g types b.result b.result_bounds l x) (sym h.loop) typed))
 
   pub statements_from : (a b : Scope) (xs : core.Statements) → Grows a b → AreIn b xs → AreIn a xs
-  statements_from a b xs h typed = subst (λ r. AreStatements g types r a.in_loop xs) (sym h.result) (subst (λ l. AreStatements g types b.result l xs) (sym h.loop) typed)
+  statements_from a b xs h typed = subst (λ r. AreStatements g types r a.result_bounds a.in_loop xs) (sym h.result) (subst (λ k. AreStatements g types b.result k a.in_loop xs) (sym h.asked) (subst (λ l. AreStatements g types b.result b.result_bounds l xs) (sym h.loop) typed))
 
 pub in_loop_known : (g : Frame) (s : Scope) → KnowsFile g s → KnowsFile g (in_loop s)
 in_loop_known g s file = record { structs = file.structs; closed = file.closed; few_members = file.few_members; scalar_members = file.scalar_members; variables = file.variables; trusted = file.trusted; tainted = file.tainted }

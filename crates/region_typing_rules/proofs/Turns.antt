@@ -215,7 +215,7 @@ module _ (frame : Frame) (types : List CType) (all_scalar : AllByRecursion IsSca
 
   -- how a statement ends, and what is known there
   abbrev pub EndsIn : Scope → Scope → Flow → State → Type 0
-  EndsIn g h flow t = EndsAs frame g.result g.in_loop flow t × IsSo structs' h flow t
+  EndsIn g h flow t = EndsAs frame g.result g.result_bounds g.in_loop flow t × IsSo structs' h flow t
 
   pub chosen_runs : (n low : ℕ) (Q : Flow → State → Type 0) (test : Bool) (first second : Result Flow) → (test ≡ true → Runs frame budget n low types Q first) → (test ≡ false → Runs frame budget n low types Q second) → Runs frame budget n low types Q (choose test first second)
   chosen_runs n low Q true first second h k = h refl
@@ -247,7 +247,7 @@ module _ (frame : Frame) (types : List CType) (all_scalar : AllByRecursion IsSca
     changes = may structs' vars g walk marks many
 
     module _ (x_only : AssignsOnly changes x) (y_only : AssignsOnly changes y) (reaches : Reached last) (c_typed : HasType frame types head c ct)
-        (x_runs : (n : ℕ) → AllKnots n → (low : ℕ) (s : State) → Stands n low (in_loop (when c true head)) s → Runs frame budget n low types (λ flow t. EndsAs frame g.result true flow t × IsSo structs' inside flow t) (effect true here (K n) x s))
+        (x_runs : (n : ℕ) → AllKnots n → (low : ℕ) (s : State) → Stands n low (in_loop (when c true head)) s → Runs frame budget n low types (λ flow t. EndsAs frame g.result g.result_bounds true flow t × IsSo structs' inside flow t) (effect true here (K n) x s))
         (y_runs : (n : ℕ) → AllKnots n → (low : ℕ) (s : State) → Stands n low (before_step g inside) s → Runs frame budget n low types (λ flow t. IsNext flow t × IsKnown structs' last t) (effect true here (K n) y s)) where
       abbrev Q : Flow → State → Type 0
       Q = EndsIn g (behind_loop g head c last)
@@ -334,10 +334,10 @@ module _ (frame : Frame) (types : List CType) (all_scalar : AllByRecursion IsSca
       body_on : (n low : ℕ) (s t : State) → AllKnots n → suc budget ≤ low + n → Turns n s → IsMovedTo changes s t → Stands n low (in_loop (when c true head)) t
           → Runs frame budget n low types Q (and_then (effect true here (K n) x t) (behind_turn (λ u. and_then (effect true here (K n) y u) (on_next ((K n).turn c x y)))))
       body_on n low s t knots enough turns moved at =
-          runs_then frame budget n low types (λ flow u. (EndsAs frame g.result true flow u × IsSo structs' inside flow u) × IsMovedTo changes t u) Q (effect true here (K n) x t) _
-          (runs_both frame budget n low types (λ flow u. EndsAs frame g.result true flow u × IsSo structs' inside flow u) (λ flow u. IsMovedTo changes t u) (effect true here (K n) x t) (x_runs n knots low t at) (moves n x t x_only)) by
+          runs_then frame budget n low types (λ flow u. (EndsAs frame g.result g.result_bounds true flow u × IsSo structs' inside flow u) × IsMovedTo changes t u) Q (effect true here (K n) x t) _
+          (runs_both frame budget n low types (λ flow u. EndsAs frame g.result g.result_bounds true flow u × IsSo structs' inside flow u) (λ flow u. IsMovedTo changes t u) (effect true here (K n) x t) (x_runs n knots low t at) (moves n x t x_only)) by
         where
-          by : (flow : Flow) (u : State) → (EndsAs frame g.result true flow u × IsSo structs' inside flow u) × IsMovedTo changes t u → IsKept frame budget n low types u
+          by : (flow : Flow) (u : State) → (EndsAs frame g.result g.result_bounds true flow u × IsSo structs' inside flow u) × IsMovedTo changes t u → IsKept frame budget n low types u
               → Runs frame budget n low types Q (behind_turn (λ u. and_then (effect true here (K n) y u) (on_next ((K n).turn c x y))) flow u)
           by Next u k kept = step_on n low s u knots enough turns (moved_on changes s t u moved k.1) (record { kept = kept; known = steps_on u k.0.1 })
           by Broke u k kept = (breaks_out u k.0.1, kept)

@@ -27,7 +27,7 @@ use Rattle.region_typing_rules.specs.Scopes.{function_named}
 use Rattle.region_typing_rules.specs.Expressions.{Places, side_number}
 use Rattle.region_typing_rules.specs.Items.{Walk, walked, start}
 use Rattle.region_typing_rules.specs.Cores.{body_of, core_of}
-use Rattle.region_typing_rules.proofs.Sides.{trusted_functions, trusted_bounds, sides_of, sides_parted}
+use Rattle.region_typing_rules.proofs.Sides.{trusted_functions, trusted_bounds, trusted_results, sides_of, sides_parted}
 use Rattle.region_typing_rules.specs.Typed.{IsTyped}
 use Rattle.region_typing_rules.proofs.Safe.{IsSafeProgram, functions_typed, safe_there}
 use Rattle.region_typing_rules.specs.Lowerable.{IsRoomy, IsSmall, IsSmallCore}
@@ -60,21 +60,22 @@ safe_walk height entry a w h =
     let found = subst (λ n. slice_get (trusted_functions w.bodies w.scope.functions) n ≡ Some (body_of w.bodies m)) number there.found in
     let functions = functions_safe height entry w well h.follows.settled w.scope.functions well.declared well.named in
     let suits = body_suits height w.scope w.bodies m well.bodies (subst (λ x. function_named w.scope.functions x ≡ Some m) (named_self w.scope.functions entry m main.named) main.named) in
-    let it = safe_there (frame height entry w well h.follows.settled) (trusted_functions w.bodies w.scope.functions) (trusted_bounds w.scope.functions) _ (body_of w.bodies m) functions found in
+    let it = safe_there (frame height entry w well h.follows.settled) (trusted_functions w.bodies w.scope.functions) (trusted_bounds w.scope.functions) (trusted_results w.scope.functions) _ (body_of w.bodies m) functions found in
     record {
       typed = record {
         structs = w.scope.structs;
         bounds = trusted_bounds w.scope.functions;
+        result_bounds = trusted_results w.scope.functions;
         objects = objects_typed height entry w well h.follows.settled w.objects well.start;
-        functions = functions_typed (frame height entry w well h.follows.settled) (trusted_functions w.bodies w.scope.functions) (trusted_bounds w.scope.functions) functions;
-        main = (body_of w.bodies m, found, no_parameters (body_of w.bodies m) it.2.typed.parameters (suits.parameters ∙ main.none), suits.result ∙ main.int);
+        functions = functions_typed (frame height entry w well h.follows.settled) (trusted_functions w.bodies w.scope.functions) (trusted_bounds w.scope.functions) (trusted_results w.scope.functions) functions;
+        main = (body_of w.bodies m, found, no_parameters (body_of w.bodies m) it.safe.typed.parameters (suits.parameters ∙ main.none), suits.result ∙ main.int);
       };
       functions = functions;
     }
 
 -- at the start nothing is known
 start_well : (height : ℕ) (given : Given) → IsWell height (start given)
-start_well height given = record { closed = record { tagged = omega arith; of_members = λ n. tt; of_functions = tt; of_variables = tt; of_locals = tt }; few = λ n. omega arith; scalars = λ n. tt; start = tt; declared = tt; named = tt; bodies = tt; roomy = tt; bytes = omega arith; room = omega arith }
+start_well height given = record { closed = record { tagged = omega arith; of_members = λ n. tt; of_functions = tt; of_results = tt; of_variables = tt; of_locals = tt }; few = λ n. omega arith; scalars = λ n. tt; start = tt; declared = tt; named = tt; bodies = tt; roomy = tt; bytes = omega arith; room = omega arith }
 
 walked_safe : (height entry : ℕ) (a : Walk) (v : Verdict Walk) (c : Core) → Promises (Passed height entry a true) v → passing v (λ w. Passes (core_of entry w)) ≡ Passes c → IsSafeProgram (parted c)
 walked_safe height entry a (Passes w) c h e = let same : core_of entry w ≡ c = cc in subst IsSafeProgram (sides_parted entry w ∙ ap parted same) (safe_walk height entry a w h)

@@ -14,10 +14,10 @@ use Rattle.region_typing_rules.specs.Scopes.{Scope, Signature, FileVariable, bou
 use Rattle.region_typing_rules.specs.Expressions.{is_import, side_number}
 use Rattle.region_typing_rules.specs.Items.{Defined, Walk, count_of}
 use Rattle.region_typing_rules.specs.Cores.{body_of}
-use Rattle.region_typing_rules.proofs.Sides.{trusted_functions, trusted_bounds, tainted_functions, sides_of}
+use Rattle.region_typing_rules.proofs.Sides.{trusted_functions, trusted_bounds, trusted_results, tainted_functions, sides_of}
 use Rattle.region_typing_rules.specs.Typed as rules
 use Rattle.bounds_flow_meaning.specs.Rows.{HasRow}
-use Rattle.region_typing_rules.specs.Typed.{Frame, HaveRows, AreRows, IsScalar, IsInitial}
+use Rattle.region_typing_rules.specs.Typed.{Frame, HasResultBounds, HaveRows, AreRows, IsScalar, IsInitial}
 use Rattle.region_typing_rules.proofs.Safe.{AreSafe, IsSafe}
 use Rattle.region_typing_rules.specs.Lowerable.{objects_size, IsRoomy, IsSmall}
 use Rattle.region_typing_rules.proofs.Verdicts.{Extends}
@@ -82,7 +82,7 @@ pub record IsBody (height : ℕ) (s : Scope) (b : Defined) : Type 0 where
   pub named : function_named s.functions b.name ≡ Some signature
   pub parameters : take b.function.parameters b.function.locals ≡ signature.parameters
   pub result : b.function.result ≡ signature.result
-  pub safe : (g : Frame) → KnowsFile g s → IsSafe g (map bounds_in signature.bounds) b.function
+  pub safe : (g : Frame) → KnowsFile g s → IsSafe g (map bounds_in signature.bounds) (bounds_in signature.result_bounds) b.function
   pub few_parameters : b.function.parameters ≤ 16
   pub few_locals : length b.function.locals ≤ 256
   pub low : statements_stack b.function.body ≤ 17 * height
@@ -162,7 +162,7 @@ body_suits height s (b ∷ bodies) f all named = by (f.name == b.name) refl (bod
 
 module _ (height entry : ℕ) (w : Walk) (well : IsWell height w) (settled : AreSettled w.scope.structs w.scope.variables w.objects) where
   abbrev pub frame : Frame
-  frame = record { program = sides_of entry w; structs = w.scope.structs; bounds = trusted_bounds w.scope.functions }
+  frame = record { program = sides_of entry w; structs = w.scope.structs; bounds = trusted_bounds w.scope.functions; result_bounds = trusted_results w.scope.functions }
 
   trusted_known : (name : ℕ) (f : Signature) → function_named w.scope.functions name ≡ Some f → is_import f ≡ false → IsTrusted frame (side_number false w.scope.functions f.name 0) f
   trusted_known name f found side =
@@ -177,6 +177,8 @@ module _ (height entry : ℕ) (w : Walk) (well : IsWell height w) (settled : Are
         result = suits.result;
         scalar = (named_has IsDeclared w.scope.functions name f well.declared found).result;
         bounds = subst (λ n. slice_get (trusted_bounds w.scope.functions) n ≡ Some (map bounds_in f.bounds)) number there.bounds;
+        told = subst (λ n. slice_get (trusted_results w.scope.functions) n ≡ Some (bounds_in f.result_bounds)) number there.told;
+        sound = (named_has IsDeclared w.scope.functions name f well.declared found).sound;
         rows = (named_has IsDeclared w.scope.functions name f well.declared found).rows;
       }
 
@@ -209,29 +211,31 @@ module _ (height entry : ℕ) (w : Walk) (well : IsWell height w) (settled : Are
   }
 
   -- each function has types
-  body_safe : (bodies : List Defined) (f : Signature) → AllByRecursion (IsBody height w.scope) bodies → IsDeclared f → IsNamed w.scope.functions f → IsSafe frame (map bounds_in f.bounds) (body_of bodies f)
+  body_safe : (bodies : List Defined) (f : Signature) → AllByRecursion (IsBody height w.scope) bodies → IsDeclared f → IsNamed w.scope.functions f → IsSafe frame (map bounds_in f.bounds) (bounds_in f.result_bounds) (body_of bodies f)
   body_safe [] f all declared named = record {
-    typed = record { parameters = omega arith; locals = declared.scalars; result = declared.result; body = rules.no_more };
+    typed = record { bounds = bounds_in f.result_bounds; parameters = omega arith; locals = declared.scalars; result = declared.result; body = rules.no_more };
     rows = subst (λ ts. HaveRows ts (map bounds_in f.bounds)) (sym (take-length f.parameters)) declared.rows;
+    sound = subst (λ ts. HasResultBounds ts f.result (bounds_in f.result_bounds)) (sym (take-length f.parameters)) declared.sound;
+    keeps = λ budget sandbox trusted n x named low s. refl;
     runs = λ budget sandbox trusted n knots low s kept begun. (tt, kept);
   }
   body_safe (b ∷ bodies) f all declared named = chosen (f.name == b.name) refl (body_safe bodies f all.1 declared named)
     where
-      chosen : (test : Bool) → (f.name == b.name) ≡ test → IsSafe frame (map bounds_in f.bounds) (body_of bodies f) → IsSafe frame (map bounds_in f.bounds) (picked test b.function (body_of bodies f))
+      chosen : (test : Bool) → (f.name == b.name) ≡ test → IsSafe frame (map bounds_in f.bounds) (bounds_in f.result_bounds) (body_of bodies f) → IsSafe frame (map bounds_in f.bounds) (bounds_in f.result_bounds) (picked test b.function (body_of bodies f))
       chosen true e again =
           let name = numbers_equal f.name b.name e in
           let here : function_named w.scope.functions b.name ≡ Some f = subst (λ x. function_named w.scope.functions x ≡ Some f) name named in
           let there = all.0.named in
           let same : all.0.signature ≡ f = cc in
-          subst (λ (x : Signature). IsSafe frame (map bounds_in x.bounds) b.function) same (all.0.safe frame known)
+          subst (λ (x : Signature). IsSafe frame (map bounds_in x.bounds) (bounds_in x.result_bounds) b.function) same (all.0.safe frame known)
       chosen false e again = again
 
-  pub functions_safe : (functions : List Signature) → AllByRecursion IsDeclared functions → AllByRecursion (IsNamed w.scope.functions) functions → AreSafe frame (trusted_functions w.bodies functions) (trusted_bounds functions)
+  pub functions_safe : (functions : List Signature) → AllByRecursion IsDeclared functions → AllByRecursion (IsNamed w.scope.functions) functions → AreSafe frame (trusted_functions w.bodies functions) (trusted_bounds functions) (trusted_results functions)
   functions_safe [] all named = tt
   functions_safe (f ∷ functions) all named = chosen (is_import f) (body_safe w.bodies f well.bodies all.0 named.0) (functions_safe functions all.1 named.1)
     where
-      chosen : (test : Bool) → IsSafe frame (map bounds_in f.bounds) (body_of w.bodies f) → AreSafe frame (trusted_functions w.bodies functions) (trusted_bounds functions)
-          → AreSafe frame (picked test (trusted_functions w.bodies functions) (body_of w.bodies f ∷ trusted_functions w.bodies functions)) (picked test (trusted_bounds functions) (map bounds_in f.bounds ∷ trusted_bounds functions))
+      chosen : (test : Bool) → IsSafe frame (map bounds_in f.bounds) (bounds_in f.result_bounds) (body_of w.bodies f) → AreSafe frame (trusted_functions w.bodies functions) (trusted_bounds functions) (trusted_results functions)
+          → AreSafe frame (picked test (trusted_functions w.bodies functions) (body_of w.bodies f ∷ trusted_functions w.bodies functions)) (picked test (trusted_bounds functions) (map bounds_in f.bounds ∷ trusted_bounds functions)) (picked test (trusted_results functions) (bounds_in f.result_bounds ∷ trusted_results functions))
       chosen true h rest = rest
       chosen false h rest = (h, rest)
 

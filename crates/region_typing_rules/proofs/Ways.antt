@@ -10,7 +10,7 @@ use Rattle.pointer_modes.specs.declared.ctype.Kind.TheVariants as kinds
 use Rattle.pointer_modes.specs.Types.{CType, Int, Pointer, Structure}
 use Rattle.bounds_flow.specs.Flows.{Knowledge, left, cut_off, met}
 use Rattle.bounds_flow.specs.Conditions.{AreBoundsBelow}
-use Rattle.bounds_flow_meaning.specs.Holding.{IsInt}
+use Rattle.bounds_flow_meaning.specs.Holding.{AreInts, IsInt}
 use Rattle.bounds_flow_meaning.specs.Laws.{AreBeside}
 use Rattle.bounds_flow_meaning.proofs.AllSteps.{flows_hold}
 use Rattle.bounds_flow_meaning.proofs.Beside.{flows_stay_alike}
@@ -84,6 +84,9 @@ pub int_extends : (ts us : List CType) → Extends ts us → (o : Option ℕ) �
 int_extends ts us more None h = tt
 int_extends ts us more (Some x) h = more x Int h
 
+ints_extends : (ts us : List CType) (b : Bounds) → Extends ts us → AreInts ts b → AreInts us b
+ints_extends ts us b more ints = record { lo = int_extends ts us more b.lo.var ints.lo; hi = int_extends ts us more b.hi.var ints.hi }
+
 pub declared_extends : (structs : List Structure) (ts us : List CType) (p : ℕ) (b : Bounds) → Extends ts us → IsDeclared structs ts p b → IsDeclared structs us p b
 declared_extends structs ts us p b more d = record {
   some = d.some;
@@ -116,6 +119,7 @@ walk_knowing vars f g a beside w = record {
   few = w.few;
   beyond = λ p far. beside.declared p ∙ w.beyond p far;
   declared = λ p b e. w.declared p b (sym (beside.declared p) ∙ e);
+  result = w.result;
   outside = w.outside;
   breaks = between_same vars g.outside g.flow f g.breaks (λ p low. beside.declared p) w.breaks;
   continues = between_same vars g.outside g.flow f g.continues (λ p low. beside.declared p) w.continues;
@@ -142,6 +146,7 @@ walk_broken vars g w =
       few = c.few;
       beyond = c.beyond;
       declared = c.declared;
+      result = c.result;
       outside = c.outside;
       breaks = between_same vars g.outside g.flow (cut_off g.flow) (Some (with_way (way_out g) g.breaks)) (λ p low. refl)
           (between_way vars g.outside g.flow (way_out g) g.breaks (way_out_between vars g w) (way_out_outside vars g w) w.breaks);
@@ -156,6 +161,7 @@ walk_continued vars g w =
       few = c.few;
       beyond = c.beyond;
       declared = c.declared;
+      result = c.result;
       outside = c.outside;
       breaks = c.breaks;
       continues = between_same vars g.outside g.flow (cut_off g.flow) (Some (with_way (way_out g) g.continues)) (λ p low. refl)
@@ -193,6 +199,7 @@ walk_block vars g inside le at w =
         | inl low ↦ w.declared p b (sym (out.within p low) ∙ e)
         | inr far ↦ none_declared (declared_at (behind_block g inside).flow p) (IsDeclared inside.structs inside.locals p b) b (out.beyond p far) e
       ];
+      result = w.result;
       outside = w.outside;
       breaks = between_same vars inside.outside inside.flow (behind_block g inside).flow inside.breaks (λ p low. out.within p (omega (arith, low, at))) w.breaks;
       continues = between_same vars inside.outside inside.flow (behind_block g inside).flow inside.continues (λ p low. out.within p (omega (arith, low, at))) w.continues;
@@ -228,6 +235,7 @@ walk_behind vars g head c inside structs more at beside same few w h i =
         | inl low ↦ subst (λ structs. IsDeclared structs inside.locals p b) structs (declared_extends g.structs g.locals inside.locals p b more (w.declared p b (sym (others.1.within p low) ∙ e)))
         | inr far ↦ none_declared (declared_at (with_others inside.breaks no) p) (IsDeclared inside.structs inside.locals p b) b (others.1.beyond p far) e
       ];
+      result = i.result;
       outside = omega (arith, out_few, le);
       breaks = between_same vars g.outside g.flow (with_others inside.breaks no) g.breaks (λ p low. others.1.within p (omega (arith, low, out_few))) w.breaks;
       continues = between_same vars g.outside g.flow (with_others inside.breaks no) g.continues (λ p low. others.1.within p (omega (arith, low, out_few))) w.continues;
@@ -242,10 +250,10 @@ walk_meeting vars f g a beside w =
 pub walk_head : (vars : ℕ) (body : Statement) (step : Option Assignment) (g : Scope) → IsWalk vars g → IsWalk vars (at_loop body step g)
 walk_head vars body step g w =
     let beside = (flows_stay_alike.0 g.flow).enter_loop (assigned_in g body step) in
-    record { between = between_head vars (assigned_in g body step) g.flow w.between; few = w.few; beyond = λ p far. beside.declared p ∙ w.beyond p far; declared = λ p b e. w.declared p b (sym (beside.declared p) ∙ e); outside = omega arith; breaks = tt; continues = tt }
+    record { between = between_head vars (assigned_in g body step) g.flow w.between; few = w.few; beyond = λ p far. beside.declared p ∙ w.beyond p far; declared = λ p b e. w.declared p b (sym (beside.declared p) ∙ e); result = w.result; outside = omega arith; breaks = tt; continues = tt }
 
 pub walk_in_loop : (vars : ℕ) (g : Scope) → IsWalk vars g → IsWalk vars (in_loop g)
-walk_in_loop vars g w = record { between = w.between; few = w.few; beyond = w.beyond; declared = w.declared; outside = w.outside; breaks = w.breaks; continues = w.continues }
+walk_in_loop vars g w = record { between = w.between; few = w.few; beyond = w.beyond; declared = w.declared; result = w.result; outside = w.outside; breaks = w.breaks; continues = w.continues }
 
 -- bounds that may be declared for the local that comes next
 pub record MayCome (vars : ℕ) (structs : List Structure) (types : List CType) (t : CType) (declared : Option Bounds) : Type 0 where
@@ -265,6 +273,7 @@ walk_local vars name t declared g may w few =
       few = few;
       beyond = λ p far. entered_beyond (length g.locals) declared g.flow w.beyond p (omega (arith, far, longer));
       declared = local_declared;
+      result = λ b e. ints_extends g.locals (g.locals ++ t ∷ []) b (extends_append g.locals (t ∷ [])) (w.result b e);
       outside = omega (arith, at, longer);
       breaks = local_ways g.breaks w.breaks;
       continues = local_ways g.continues w.continues;

@@ -12,6 +12,7 @@ use Rattle.ckc_tree.specs.Expressions.{Expression, Expressions}
 use Rattle.ckc_tree.specs.Weights as tree
 use Rattle.bounds_flow.specs.Flows.{Knowledge}
 use Rattle.pointer_modes.specs.declared.ctype.Kind.TheVariants as kinds
+use Rattle.bounds_exprs.specs.declared.term.Bounds.{Bounds}
 use Rattle.pointer_modes.specs.Types.{CType, Int, Char, Struct, Pointer, Structure, members_of}
 use Rattle.pointer_modes.specs.Layout.{cells_of}
 use Rattle.ckc_core.specs.declared.program.Site.{Site}
@@ -334,9 +335,9 @@ arguments_light (e.Then first others) (a ∷ arguments) (t ∷ ts) all =
     converted_light (AreLight (e.Then first others)) (5 * tree.expression_weight first) a.0 t a.1 _ (omega (arith, node_there first)) all.0
     (λ v light. passing_promises (AreLight others) (AreLight (e.Then first others)) (arguments_as arguments ts) _ (arguments_light others arguments ts all.1) (λ rest h. omega arith))
 
-call_light : (n : ℕ) (result : Option CType) (callee : Callee) (values : core.Arguments) (site : Site) (structs : List Structure) → arguments_weight values ≤ n → LightCall (n + 2) (call_of structs result callee values site)
-call_light n (Some t) callee values site structs h = omega arith
-call_light n None callee values site structs h = omega arith
+call_light : (n : ℕ) (result : Option CType) (bounds : Option Bounds) (callee : Callee) (values : core.Arguments) (site : Site) (structs : List Structure) → arguments_weight values ≤ n → LightCall (n + 2) (call_of structs result bounds callee values site)
+call_light n (Some t) bounds callee values site structs h = omega arith
+call_light n None bounds callee values site structs h = omega arith
 
 first_light : (n : ℕ) (of : core.Expression → core.Statement) (values : core.Arguments) → ((v : core.Expression) → statement_weight (of v) ≡ 1 + expression_weight v) → arguments_weight values ≤ n → statement_weight (first_of of values) < n + 2
 first_light n of core.Done same h = omega arith
@@ -368,7 +369,7 @@ called_light s xs (Some f) name arguments site span all =
     needs_promises (LightCall (n + 2)) (length f.parameters == length arguments) E14 span _
     (λ many. crossing_promises (LightCall (n + 2)) (is_import f) arguments _
     (passing_promises (AreLight xs) (LightCall (n + 2)) (arguments_as arguments f.parameters) _ (arguments_light xs arguments f.parameters all)
-    (λ values h. all_met_promise (LightCall (n + 2)) s.flow _ _ arguments f.parameters f.bounds _ (call_light n f.result (declared_callee s f site) values site s.structs h))))
+    (λ values h. all_met_promise (LightCall (n + 2)) s.flow _ _ arguments f.parameters f.bounds _ (call_light n f.result _ (declared_callee s f site) values site s.structs h))))
 
 -- ---- the walk
 

@@ -4,7 +4,7 @@ use Rattle.std.proofs.Common.{ℤ}
 use Rattle.bounds_exprs.specs.declared.term.Term.{Term}
 use Rattle.bounds_exprs.specs.declared.term.Bounds.{Bounds}
 use Rattle.region_typing_rules.specs.Scopes.{WrittenBounds}
-use Rattle.region_typing_rules.specs.Expressions.{at_call}
+use Rattle.region_typing_rules.specs.Expressions.{at_call, result_at}
 use Rattle.region_typing_rules.specs.Items.{all_same_written}
 
 abbrev variable : ℕ → ℤ → Term
@@ -25,7 +25,8 @@ one_term = at_call (Some (variable 5 (pos 3)) ∷ []) (None ∷ []) (up_to (vari
 -- from n to m, where m stands for n and n for m, is from m to n
 abbrev pub exchanged : Type 0
 exchanged =
-    at_call (Some (variable 1 (pos 0)) ∷ Some (variable 0 (pos 0)) ∷ []) (None ∷ None ∷ []) (record { base = None; lo = variable 0 (pos 0); hi = variable 1 (pos 0) })
+    at_call (Some (variable 1 (pos 0)) ∷ Some (variable 0 (pos 0)) ∷ []) (None ∷ None ∷ [])
+    (record { base = None; lo = variable 0 (pos 0); hi = variable 1 (pos 0) })
     ≡ Some (record { base = None; lo = variable 1 (pos 0); hi = variable 0 (pos 0) })
 
 -- bounds from a parameter are those from the local pointer that stands for it
@@ -39,6 +40,12 @@ without_term = at_call (None ∷ []) (None ∷ []) (up_to (variable 0 (pos 0))) 
 
 abbrev pub without_pointer : Type 0
 without_pointer = at_call (None ∷ []) (None ∷ []) (record { base = Some 0; lo = constant (pos 0); hi = constant (pos 1) }) ≡ None
+
+-- 0 to n of a result, where x + 3 stands for n, and none where nothing does
+abbrev pub result : Type 0
+result =
+    (result_at (Some (variable 5 (pos 3)) ∷ []) (Some (up_to (variable 0 (pos 0)))) ≡ Some (up_to (variable 5 (pos 3))))
+    × (result_at (None ∷ []) (Some (up_to (variable 0 (pos 0)))) ≡ None) × (result_at (None ∷ []) (Some (up_to (constant (pos 2)))) ≡ Some (up_to (constant (pos 2))))
 
 -- ---- declarations
 

@@ -31,4 +31,5 @@ IsFormedIf structs types t (Some b) = IsFormedFor structs types t b
 
 -- where no rule is broken, what is declared is formed
 abbrev pub DeclaredFormed : Type 0
-DeclaredFormed = (s : Scope) (t : CType) (own : ℕ) (o : Option e.Bounds) (b : Option Bounds) → declared_bounds s t own o ≡ Passes b → IsFormedIf s.structs s.locals t b
+DeclaredFormed = (s : Scope) (t : CType) (own : ℕ) (o : Option e.Bounds) (b : Option Bounds) → declared_bounds s t own o ≡ Passes b
+    → IsFormedIf s.structs s.locals t b

@@ -40,7 +40,8 @@ use Rattle.ckc_names_rules.specs.declared.given.Given.{Given}
 use Rattle.bounds_flow.specs.Flows.{Knowledge, held_at}
 use Rattle.bounds_flow.specs.Settling.{Finding, Meets, WasLost, Falls, bounds_find}
 use Rattle.region_typing_rules.specs.Verdicts.{Verdict, Passes, Unnamed, passing, needs, breaks, picked}
-use Rattle.region_typing_rules.specs.Scopes.{Scope, Signature, WrittenBounds, bounds_in, Named, Local, Object, Array, Nothing, named, function_named, members_named}
+use Rattle.region_typing_rules.specs.Scopes.{Scope, Signature, WrittenBounds, bounds_in, Named, Local, Object, Array, Nothing}
+use Rattle.region_typing_rules.specs.Scopes.{named, function_named, members_named}
 use Rattle.region_typing_rules.specs.Readings.{constant, term, pointer_local, sum_bounds, own_bounds, based_bounds, is_null}
 use Rattle.region_typing_rules.specs.Types.{type_named, is_number, is_pointer, is_checked_pointer, are_comparable, converts}
 
@@ -516,10 +517,24 @@ abbrev pub callee_of : Bool → ℕ → Site → Callee
 callee_of true number site = callees.Tainted number site
 callee_of false number site = callees.Trusted number
 
+-- the bounds of a result over what stands for the parameters; none where something doesn't stand there
+abbrev pub result_at : List (Option Term) → Option Bounds → Option Bounds
+result_at terms None = None
+result_at terms (Some b) = ends_filled_in terms b
+
+-- bounds of a call: those that are declared for its result, or those of its type
+abbrev row_bounds : List Structure → Mode → CType → Option Bounds → Site → Option PointerBounds
+row_bounds structs mode target None site = bounds_at structs (Pointer mode kinds.Array target) site
+row_bounds structs mode target (Some b) site = Some (record { bounds = b; size = size_of structs target; site = site })
+
+abbrev pub call_bounds : List Structure → CType → Option Bounds → Site → Option PointerBounds
+call_bounds structs (Pointer mode kinds.Array target) bounds site = row_bounds structs mode target bounds site
+call_bounds structs type bounds site = bounds_at structs type site
+
 -- a call has its bounds from the start, since one that stands alone is evaluated too
-abbrev pub call_of : List Structure → Option CType → Callee → core.Arguments → Site → Called
-call_of structs (Some type) callee arguments site = Gives type (core.Call callee arguments (bounds_at structs type site))
-call_of structs None callee arguments site = GivesNothing (core.CallAlone callee arguments)
+abbrev pub call_of : List Structure → Option CType → Option Bounds → Callee → core.Arguments → Site → Called
+call_of structs (Some type) bounds callee arguments site = Gives type (core.Call callee arguments (call_bounds structs type bounds site))
+call_of structs None bounds callee arguments site = GivesNothing (core.CallAlone callee arguments)
 
 -- what stands for a parameter of a type at a call: the term of its argument, where both are an `int`, and the local pointer that it is
 abbrev pub term_for : List CType → Typed → CType → Option Term
@@ -595,7 +610,8 @@ declared_call s f arguments site span =
     (crossing (is_import f) arguments
     (passing (arguments_as arguments f.parameters) (λ values.
     arguments_met s.flow (terms_for s.locals arguments f.parameters) (pointers_for s.locals arguments) arguments f.parameters f.bounds
-    (Passes (call_of s.structs f.result (declared_callee s f site) values site)))))
+    (Passes (call_of s.structs f.result (result_at (terms_for s.locals arguments f.parameters) (bounds_in f.result_bounds))
+    (declared_callee s f site) values site)))))
 
 abbrev pub first_of : (core.Expression → core.Statement) → core.Arguments → core.Statement
 first_of of core.Done = core.Nothing

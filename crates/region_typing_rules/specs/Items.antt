@@ -1,10 +1,10 @@
 -- The rules of what stands at file level.
 use Rattle.std.specs.Prelude.{ℕ, zero, suc, ◌+◌, ◌-◌, Bool, true, false, not, ◌&&◌, ◌||◌, ◌==◌, nat_lt, nat_le, List, [], ◌∷◌, ◌++◌, length, map}
-use Rattle.std.specs.Prelude.{◌*◌, ◌^◌, Option, Some, None, is_some, option_map, pos, negsuc}
+use Rattle.std.specs.Prelude.{◌*◌, ◌^◌, Option, Some, None, is_none, is_some, option_map, pos, negsuc}
 use Rattle.std.proofs.Common.{ℤ}
 use Rattle.std.specs.List.{list_all}
 use Rattle.ckc_text.specs.declared.place.Span.{Span}
-use Rattle.ckc_text.specs.declared.code.Code.TheVariants.{E04, E08, E10, E13, E15, E27}
+use Rattle.ckc_text.specs.declared.code.Code.TheVariants.{E04, E08, E10, E13, E15, E16, E27, E29}
 use Rattle.ckc_tree.specs.declared.expr.UnaryOperator.TheVariants as unary
 use Rattle.ckc_tree.specs.declared.item.FunctionKind.{FunctionKind}
 use Rattle.ckc_tree.specs.declared.item.FunctionKind.TheVariants as function_kinds
@@ -15,7 +15,7 @@ use Rattle.ckc_names_rules.specs.Given.{given_in}
 use Rattle.ckc_names_rules.specs.Naming.{NamedTree}
 use Rattle.ckc_tree.specs.Types.{TypeTree, IntType, CharType, StructType, PointerType, type_span}
 use Rattle.ckc_tree.specs.Expressions as e
-use Rattle.ckc_tree.specs.Expressions.{Expression}
+use Rattle.ckc_tree.specs.Expressions.{Expression, bounds_span}
 use Rattle.ckc_tree.specs.Statements as s
 use Rattle.ckc_tree.specs.Statements.{Initializer, Declarator, Statements}
 use Rattle.ckc_tree.specs.declared.stmt.ArrayForm.{ArrayForm}
@@ -26,6 +26,7 @@ use Rattle.ckc_tree.specs.Items as i
 use Rattle.ckc_tree.specs.Items.{ResultForm, Parameters, Item}
 use Rattle.flat_bytes.specs.Blocks.{rounded_up}
 use Rattle.bounds_exprs.specs.declared.term.Bounds.{Bounds}
+use Rattle.bounds_exprs.specs.Changes.{is_named}
 use Rattle.bounds_flow.specs.Pointers.{same_bounds}
 use Rattle.bounds_flow.specs.Flows.{Knowledge, at_entry, entered}
 use Rattle.pointer_modes.specs.Types as types
@@ -40,6 +41,7 @@ use Rattle.region_typing_rules.specs.Scopes.{Scope, Signature, Visible, WrittenB
 use Rattle.region_typing_rules.specs.Types.{base_type, without_stars, type_named, is_scalar}
 use Rattle.region_typing_rules.specs.Expressions.{Places, Typed, Value, AStruct, is_tainted, typed}
 use Rattle.region_typing_rules.specs.DeclaredBounds.{declared_bounds}
+use Rattle.region_typing_rules.specs.KeptParameters.{all_changed}
 use Rattle.region_typing_rules.specs.Knowing.{all_declared, knowing}
 use Rattle.region_typing_rules.specs.Statements.{statements, with_local, is_unchecked, is_checked}
 
@@ -349,6 +351,23 @@ parameter_types g all (p ∷ parameters) done =
     (passing (type_named g p.type) (λ t. passing (declared_bounds (among_parameters g all) t (length done) p.bounds) (λ b.
     parameter_types g all parameters (done ++ record { name = p.name.number; type = t; bounds = written_as p.bounds b } ∷ []))))
 
+-- bounds of a result count from no pointer (E16, at the bounds)
+abbrev without_base : Option e.Bounds → Option Bounds → Verdict (Option Bounds)
+without_base None bounds = Passes bounds
+without_base (Some text) None = Passes None
+without_base (Some text) (Some b) = needs (is_none b.base) E16 (bounds_span text) (Passes (Some b))
+
+-- what has no result is no pointer
+abbrev pub type_of_result : Option CType → CType
+type_of_result None = Int
+type_of_result (Some t) = t
+
+-- what is written for the bounds of a result: they are read among the parameters, and there is no name for the result itself
+abbrev pub bounds_of_result : Scope → (all : List i.Member) → Option CType → Option e.Bounds → Verdict WrittenBounds
+bounds_of_result g all result bounds =
+    passing (declared_bounds (among_parameters g all) (type_of_result result) (length all) bounds) (λ b.
+    passing (without_base bounds b) (λ kept. Passes (written_as bounds kept)))
+
 -- stars make a raw pointer (E15)
 abbrev pub result_type : Scope → ResultForm → ℕ → Verdict (Option CType)
 result_type g (i.Void span) stars = needs (stars == 0) E15 span (Passes None)
@@ -386,7 +405,8 @@ same_kind _ _ = false
 abbrev pub agrees : Option Signature → Signature → Bool
 agrees None f = true
 agrees (Some g) f =
-    same_kind g.kind f.kind && (same_types g.parameters f.parameters && (same_result g.result f.result && all_same_written g.bounds f.bounds))
+    same_kind g.kind f.kind && (same_types g.parameters f.parameters && (same_result g.result f.result
+    && (all_same_written g.bounds f.bounds && same_written g.result_bounds f.result_bounds)))
 
 abbrev pub all_scalar : List CType → Bool
 all_scalar [] = true
@@ -418,13 +438,14 @@ limited limit n = picked (nat_lt limit n) limit n
 abbrev pub variables_in : (parameters : ℕ) → Statements → ℕ
 variables_in parameters body = limited 256 (parameters + all_declared body)
 
--- where the parameters are locals, and no bounds are declared
+-- where the parameters are locals, and no bounds are declared or asked
 abbrev pub before_bounds : Signature → List Parameter → Statements → Scope → Scope
 before_bounds f parameters body g =
     with_parameters parameters (record g {
       locals = [];
       visible = [];
       result = f.result;
+      result_bounds = None;
       in_loop = false;
       outside = 0;
       flow = at_entry (variables_in (length parameters) body);
@@ -435,7 +456,9 @@ before_bounds f parameters body g =
 -- where the body of a function stands
 abbrev pub inside : Signature → List Parameter → Statements → Scope → Scope
 inside f parameters body g =
-    knowing (with_bounds 0 parameters (before_bounds f parameters body g).flow) (before_bounds f parameters body g)
+    record (knowing (with_bounds 0 parameters (before_bounds f parameters body g).flow) (before_bounds f parameters body g)) {
+      result_bounds = bounds_in f.result_bounds;
+    }
 
 abbrev pub core_function : Signature → List Parameter → core.Statements → Scope → core.Function
 core_function f parameters body g = record { name = f.text; parameters = length parameters; locals = g.locals; result = f.result; body = body }
@@ -460,21 +483,40 @@ abbrev pub is_defined : List Item → ℕ → Bool
 is_defined [] name = false
 is_defined (x ∷ items) name = picked (defines name x) true (is_defined items name)
 
--- declarations-agree and signature-is-scalar: E13. body-unless-tainted: E10. region-is-checked: E15
-abbrev pub function_rules : List Item → i.Function → Signature → Option Signature → Walk → Verdict Walk
-function_rules all d f known w =
+-- a variable that bounds name
+abbrev pub names : Option Bounds → ℕ → Bool
+names None x = false
+names (Some b) x = is_named x b
+
+-- where the body of a function assigns a parameter first that the bounds of its result name
+abbrev pub first_changed_in : Scope → Signature → List Parameter → Option i.Body → Option Span
+first_changed_in g f parameters None = None
+first_changed_in g f parameters (Some body) =
+    let here = inside f parameters body.statements g in
+    all_changed (names (bounds_in f.result_bounds)) (length here.locals) here.visible body.statements
+
+-- kept-for-result: E29, at the assignment
+abbrev pub without_change : {A : Type 0} → Option Span → Verdict A → Verdict A
+without_change None next = next
+without_change (Some span) next = breaks E29 span
+
+-- declarations-agree and signature-is-scalar: E13. body-unless-tainted: E10. kept-for-result: E29. region-is-checked: E15
+abbrev pub function_rules : List Item → i.Function → Signature → Option Signature → (changed : Option Span) → Walk → Verdict Walk
+function_rules all d f known changed w =
     needs (agrees known f && (all_scalar f.parameters && scalar_result f.result)) E13 d.span
     (needs (picked (is_tainted d.kind) true (is_defined all d.name.number)) E10 d.span
-    (needs (not (is_unchecked d.mark)) E15 d.span (in_checked_region w.scope d.span w)))
+    (without_change changed
+    (needs (not (is_unchecked d.mark)) E15 d.span (in_checked_region w.scope d.span w))))
 
-abbrev pub signature_of : i.Function → Option CType → List Parameter → Signature
-signature_of d result parameters = record {
+abbrev pub signature_of : i.Function → Option CType → List Parameter → WrittenBounds → Signature
+signature_of d result parameters bounds = record {
   name = d.name.number;
   text = d.name.name;
   kind = d.kind;
   parameters = map (λ (p : Parameter). p.type) parameters;
   bounds = map (λ (p : Parameter). p.bounds) parameters;
   result = result;
+  result_bounds = bounds;
 }
 
 -- few-functions: at most 4,096, of which each counts once (E08)
@@ -482,11 +524,13 @@ abbrev pub function : Places → List Item → Walk → i.Function → Verdict W
 function at all w d =
     needs (is_some (function_named w.scope.functions d.name.number) || nat_lt (length w.scope.functions) 4096) E08 d.span
     (passing (result_type w.scope d.result d.stars) (λ result. passing (parameter_types w.scope (listed d.parameters) (listed d.parameters) []) (λ parameters.
-    walked (signature_of d result parameters) parameters (function_named w.scope.functions d.name.number))))
+    passing (bounds_of_result w.scope (listed d.parameters) result d.bounds) (λ bounds.
+    walked (signature_of d result parameters bounds) parameters (function_named w.scope.functions d.name.number)))))
   where
     walked : Signature → List Parameter → Option Signature → Verdict Walk
     walked f parameters known =
-        passing (function_body at (record w { scope = with_function known f w.scope }) f parameters d.body) (λ x. function_rules all d f known x)
+        passing (function_body at (record w { scope = with_function known f w.scope }) f parameters d.body)
+        (λ x. function_rules all d f known (first_changed_in (with_function known f w.scope) f parameters d.body) x)
 
 -- ---- the whole program
 
@@ -515,6 +559,7 @@ nothing_known given = record {
   locals = [];
   visible = [];
   result = None;
+  result_bounds = None;
   in_loop = false;
   outside = 0;
   is_off = false;

@@ -174,7 +174,8 @@ moved_from local (Some b) = cond (b.local == local) (Some b.elements) None
 abbrev pub value_assigned : Option CType → List CType → ℕ → core.Expression → Knowledge → Knowledge
 value_assigned (Some Int) types local value f = number_assigned local (term types value) f
 value_assigned (Some (Pointer mode kind target)) types local value f =
-    pointer_assigned local (source f.vars kind (held_at f.held local).declared value) (moved_from local (behind_local types value)) (is_not_null types f value) f
+    pointer_assigned local (source f.vars kind (held_at f.held local).declared value) (moved_from local (behind_local types value))
+    (is_not_null types f value) f
 value_assigned (Some Char) types local value f = f
 value_assigned (Some (Struct number)) types local value f = f
 value_assigned None types local value f = f

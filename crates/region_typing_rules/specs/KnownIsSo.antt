@@ -118,12 +118,13 @@ AreBetween vars outside f None = Unit {0}
 AreBetween vars outside f (Some h) = IsBetween vars h × IsOutside outside f h
 
 -- what a walk inside a function knows, whose flows have so many variables: a flow with a variable for each local, and others beside
--- it at the ways out of the innermost loop and to its next turn
+-- it at the ways out of the innermost loop and to its next turn. The bounds of the function's result speak of `int` locals
 pub record IsWalk (vars : ℕ) (g : Scope) : Type 0 where
   pub between : IsBetween vars g.flow
   pub few : length g.locals ≤ vars
   pub beyond : (p : ℕ) → length g.locals ≤ p → declared_at g.flow p ≡ None
   pub declared : (p : ℕ) (b : Bounds) → declared_at g.flow p ≡ Some b → IsDeclared g.structs g.locals p b
+  pub result : (b : Bounds) → g.result_bounds ≡ Some b → AreInts g.locals b
   pub outside : g.outside ≤ length g.locals
   pub breaks : AreBetween vars g.outside g.flow g.breaks
   pub continues : AreBetween vars g.outside g.flow g.continues

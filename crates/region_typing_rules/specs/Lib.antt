@@ -17,3 +17,5 @@ pub mod Lowerable
 pub mod Knowing
 pub mod KnowingExamples
 pub mod CallExamples
+pub mod KeptParameters
+pub mod KeptExamples

@@ -17,7 +17,7 @@ abbrev pub bounds_in : WrittenBounds → Option Bounds
 bounds_in None = None
 bounds_in (Some bounds) = bounds
 
--- a declared function: its name and how that is written, its kind, its parameters with what is written for their bounds, and what it returns
+-- a declared function: its name and how that is written, its kind, its parameters, and what it returns, with what is written for their bounds
 pub record Signature : Type 0 where
   pub name : ℕ
   pub text : List ℕ
@@ -25,6 +25,7 @@ pub record Signature : Type 0 where
   pub parameters : List CType
   pub bounds : List WrittenBounds
   pub result : Option CType
+  pub result_bounds : WrittenBounds
 
 -- a file-level variable; an array has so many elements of the type
 pub record FileVariable : Type 0 where
@@ -50,8 +51,10 @@ pub record Scope : Type 0 where
   -- the types of all locals of the function so far, and those that are visible, the innermost first
   pub locals : List CType
   pub visible : List Visible
-  -- what the function returns, whether a loop is around and how many locals there are outside of it, and whether the region is unchecked
+  -- what the function returns and the bounds that this is asked for, whether a loop is around and how many locals there are outside of it, and
+  -- whether the region is unchecked
   pub result : Option CType
+  pub result_bounds : Option Bounds
   pub in_loop : Bool
   pub outside : ℕ
   pub is_off : Bool

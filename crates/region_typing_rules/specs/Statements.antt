@@ -1,7 +1,7 @@
 -- The rules of statements, in the order in which they are asked of a node behind its children.
-use Rattle.std.specs.Prelude.{ℕ, Bool, true, false, not, ◌||◌, nat_lt, List, [], ◌∷◌, ◌++◌, length, Option, Some, None, pos}
+use Rattle.std.specs.Prelude.{◌&&◌, ℕ, Bool, true, false, not, ◌||◌, nat_lt, List, [], ◌∷◌, ◌++◌, length, Option, Some, None, pos}
 use Rattle.ckc_text.specs.declared.place.Span.{Span}
-use Rattle.ckc_text.specs.declared.code.Code.TheVariants.{E08, E12, E13, E15, E18, E30}
+use Rattle.ckc_text.specs.declared.code.Code.TheVariants.{E08, E12, E13, E15, E18, E30, E17}
 use Rattle.ckc_tree.specs.declared.stmt.Mark.{Mark}
 use Rattle.ckc_tree.specs.declared.stmt.Mark.TheVariants as marks
 use Rattle.ckc_tree.specs.declared.stmt.StoreOperator.{StoreOperator}
@@ -24,9 +24,10 @@ use Rattle.ckc_core.specs.Steps.{is_char}
 use Rattle.region_typing_rules.specs.Verdicts.{Verdict, Passes, passing, needs, breaks}
 use Rattle.region_typing_rules.specs.Scopes.{Scope}
 use Rattle.region_typing_rules.specs.Types.{is_scalar, without_stars, base_type}
-use Rattle.region_typing_rules.specs.Expressions.{Places, Typed, Value, AStruct, ForNothing, ForArray, For, Called, Gives, GivesNothing}
+use Rattle.region_typing_rules.specs.Expressions.{Places, Typed, Value, AStruct, ForNothing, ForArray, For, Called, Gives, GivesNothing, asked_of, meets}
 use Rattle.region_typing_rules.specs.Expressions.{Lvalue, OfLocal, OfCell, site_at}
-use Rattle.region_typing_rules.specs.Expressions.{typed, call_typed, scalar_of, converted, bounds_met, number_of, two_numbers, without_ptr, operator_along, sum_node}
+use Rattle.region_typing_rules.specs.Expressions.{typed, call_typed, scalar_of, converted, bounds_met, number_of, two_numbers}
+use Rattle.region_typing_rules.specs.Expressions.{without_ptr, operator_along, sum_node}
 use Rattle.region_typing_rules.specs.DeclaredBounds.{declared_bounds}
 use Rattle.region_typing_rules.specs.Readings.{told}
 use Rattle.region_typing_rules.specs.Knowing.{assigned_by, settling, outside_of, knowing, when, cut, broken, continued, with_others, at_loop}
@@ -235,9 +236,15 @@ abbrev pub alone : Called → core.Statement
 alone (Gives type value) = core.Evaluate value
 alone (GivesNothing call) = call
 
-abbrev pub returned : Knowledge → Option CType → Typed → Span → Verdict core.Statement
-returned f None t span = breaks E13 span
-returned f (Some type) t span = converted t type span (λ v. bounds_met f t type span (Passes (core.Return v)))
+-- the bounds of what is returned meet those that are declared for the result, or those of its type
+abbrev pub result_meets : Knowledge → Option Bounds → Typed → CType → Bool
+result_meets f None (Value type zero value place) to = zero || meets f value (asked_of type to)
+result_meets f (Some b) (Value type zero value place) to = zero || (meets f value (asked_of type to) && meets f value (Some b))
+result_meets f bounds (AStruct number place) to = true
+
+abbrev pub returned : Knowledge → Option CType → Option Bounds → Typed → Span → Verdict core.Statement
+returned f None bounds t span = breaks E13 span
+returned f (Some type) bounds t span = converted t type span (λ v. needs (result_meets f bounds t type) E17 span (Passes (core.Return v)))
 
 abbrev pub returned_nothing : Option CType → Span → Verdict core.Statement
 returned_nothing None span = Passes core.ReturnNothing
@@ -246,7 +253,7 @@ returned_nothing (Some type) span = breaks E13 span
 -- result-as-declared: a value exactly where the result isn't void, which converts (E13). bounds-are-met: E17
 abbrev pub return : Places → Scope → Option Expression → Span → Verdict core.Statement
 return at g None span = returned_nothing g.result span
-return at g (Some e) span = passing (typed at g e) (λ t. returned g.flow g.result t span)
+return at g (Some e) span = passing (typed at g e) (λ t. returned g.flow g.result g.result_bounds t span)
 
 abbrev mutual
   pub statement : Places → Scope → Statement → Verdict Walked

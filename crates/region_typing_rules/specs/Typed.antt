@@ -12,8 +12,8 @@ use Rattle.pointer_modes.specs.Types.{CType, Int, Char, Struct, Pointer, Structu
 use Rattle.pointer_modes.specs.Layout.{size_of}
 use Rattle.bounds_exprs.specs.declared.term.Bounds.{Bounds}
 use Rattle.bounds_exprs.specs.declared.term.Term.{Term}
-use Rattle.bounds_exprs.specs.Changes.{moved_by}
-use Rattle.bounds_flow_meaning.specs.Holding.{IsValid, HasSize, target_size, types_of}
+use Rattle.bounds_exprs.specs.Changes.{ends_filled_in, moved_by}
+use Rattle.bounds_flow_meaning.specs.Holding.{AreInts, IsValid, HasSize, target_size, types_of}
 use Rattle.bounds_flow_meaning.specs.Rows.{slots, HasRow, IsPlace}
 use Rattle.ckc_core.specs.declared.program.Site.{Site}
 use Rattle.act_words.specs.declared.operator.Operator.{Operator}
@@ -34,11 +34,13 @@ use Rattle.region_typing_rules.specs.Readings.{constant, against, term, pointer_
 use Rattle.region_typing_rules.specs.Expressions.{bounds_at, row_of, one_element, at_call}
 use Rattle.region_typing_rules.specs.KnownIsSo.{HasLocals, IsKnown, AreLimited}
 
--- what the parts of a program are typed in: its two sides, its structs, and for each trusted function the bounds of its parameters
+-- what the parts of a program are typed in: its two sides, its structs, and for each trusted function the bounds of its parameters and those of its
+-- result
 pub record Frame : Type 0 where
   pub program : Parted
   pub structs : List Structure
   pub bounds : List (List (Option Bounds))
+  pub result_bounds : List (Option Bounds)
 
 -- ---- values
 
@@ -71,15 +73,29 @@ IsNumberResult (Some t) = is_number t ≡ true
 
 -- parameters with bounds are pointers to arrays
 abbrev pub HaveRows : List CType → List (Option Bounds) → Type 0
-HaveRows types bounds = (x : ℕ) (b : Bounds) → slice_get bounds x ≡ Some (Some b) → (m : Mode) × (t : CType) × (slice_get types x ≡ Some (Pointer m kinds.Array t))
+HaveRows types bounds = (x : ℕ) (b : Bounds) → slice_get bounds x ≡ Some (Some b)
+    → (m : Mode) × (t : CType) × (slice_get types x ≡ Some (Pointer m kinds.Array t))
 
--- whom a call enters is there, takes arguments of these types, which are valid with these bounds, and has this result; only numbers cross to the
--- sandbox and back
-pub data IsCallee (g : Frame) : Callee → List CType → List (Option Bounds) → Option CType → Type 0 where
-  trusted : {n : ℕ} {f : Function} {bounds : List (Option Bounds)} → slice_get g.program.functions n ≡ Some f → slice_get g.bounds n ≡ Some bounds
-      → HaveRows (take f.parameters f.locals) bounds → IsCallee g (callees.Trusted n) (take f.parameters f.locals) bounds f.result
+-- the bounds of a result are those of a pointer to an array, count from no pointer, and their ends speak of parameters that are `int`
+pub record AreOfResult (types : List CType) (result : Option CType) (b : Bounds) : Type 0 where
+  pub mode : Mode
+  pub element : CType
+  pub is : result ≡ Some (Pointer mode kinds.Array element)
+  pub base : b.base ≡ None
+  pub ints : AreInts types b
+
+abbrev pub HasResultBounds : List CType → Option CType → Option Bounds → Type 0
+HasResultBounds types result bounds = (b : Bounds) → bounds ≡ Some b → AreOfResult types result b
+
+-- whom a call enters is there, takes arguments of these types, which are valid with these bounds, and has this result with its bounds; only numbers
+-- cross to the sandbox and back
+pub data IsCallee (g : Frame) : Callee → List CType → List (Option Bounds) → Option CType → Option Bounds → Type 0 where
+  trusted : {n : ℕ} {f : Function} {bounds : List (Option Bounds)} {result_bounds : Option Bounds} → slice_get g.program.functions n ≡ Some f
+      → slice_get g.bounds n ≡ Some bounds → slice_get g.result_bounds n ≡ Some result_bounds → HaveRows (take f.parameters f.locals) bounds
+      → HasResultBounds (take f.parameters f.locals) f.result result_bounds
+      → IsCallee g (callees.Trusted n) (take f.parameters f.locals) bounds f.result result_bounds
   tainted : {n : ℕ} {i : Import} {site : Site} → slice_get g.program.imports n ≡ Some i → IsNumberResult i.result
-      → IsCallee g (callees.Tainted n site) (replicate i.parameters Int) [] i.result
+      → IsCallee g (callees.Tainted n site) (replicate i.parameters Int) [] i.result None
 
 -- ---- bounds
 
@@ -97,7 +113,8 @@ LeadsToOne structs here b = (s : State) → IsKnown structs here s → (l : Loca
 
 -- the same of any bounds
 abbrev pub LeadsTo : List Structure → Scope → (from to : Bounds) → Type 0
-LeadsTo structs here b d = (s : State) → HasLocals here.locals s → IsKnown structs here s → (l : Local) → IsValid structs (Some b) l s → IsValid structs (Some d) l s
+LeadsTo structs here b d = (s : State) → HasLocals here.locals s → IsKnown structs here s → (l : Local)
+    → IsValid structs (Some b) l s → IsValid structs (Some d) l s
 
 -- an argument is valid with bounds over its caller: it is null, or its own bounds lead to these, or those that it has from a base
 pub data IsAsked (structs : List Structure) (here : Scope) (e : Expression) (d : Bounds) : Type 0 where
@@ -132,6 +149,14 @@ AreAsked structs here terms pointers core.Done bounds = Unit {0}
 AreAsked structs here terms pointers (core.More e rest) [] = Unit {0}
 AreAsked structs here terms pointers (core.More e rest) (b ∷ bounds) =
     IsAskedAt structs here terms pointers e b × AreAsked structs here terms pointers rest bounds
+
+-- the bounds of a call are those of its type, or those that are declared for its result, over what stands for the parameters
+pub data HasCallBounds (structs : List Structure) (locals : List CType) (terms : List (Option Term)) :
+    CType → Option Bounds → Option PointerBounds → Type 0 where
+  by_type : {t : CType} {declared : Option Bounds} {b : Option PointerBounds} → HasBounds structs t b → HasCallBounds structs locals terms t declared b
+  by_result : {mode : Mode} {target : CType} {declared : Bounds} {p : PointerBounds} → ends_filled_in terms declared ≡ Some p.bounds
+      → p.size ≡ size_of structs target → 0 < size_of structs target → AreLimited p.bounds → p.bounds.base ≡ None → AreInts locals p.bounds
+      → HasCallBounds structs locals terms (Pointer mode kinds.Array target) (Some declared) (Some p)
 
 -- so many values of the type stand in a row from the beginning of a block of this shape on
 abbrev pub AreRows : List Structure → Shape → CType → ℕ → Type 0
@@ -168,7 +193,8 @@ mutual
     word : {z : ℤ} → is_word_number z ≡ true → HasType g locals here (core.Number z) Int
     byte : {z : ℤ} → has_type Char (Number z) ≡ true → HasType g locals here (core.Number z) Char
     null : {mode : Mode} {kind : Kind} {t : CType} → HasType g locals here core.Null (Pointer mode kind t)
-    local : {k : ℕ} {t : CType} {b : Option PointerBounds} → slice_get here.locals k ≡ Some t → HasBounds g.structs t b → HasType g locals here (core.Local k b) t
+    local : {k : ℕ} {t : CType} {b : Option PointerBounds} → slice_get here.locals k ≡ Some t → HasBounds g.structs t b
+        → HasType g locals here (core.Local k b) t
     -- a pointer with the bounds that are in force
     bounded : {k : ℕ} {mode : Mode} {t : CType} {p : PointerBounds} → slice_get here.locals k ≡ Some (Pointer mode kinds.Array t) → p.size ≡ size_of g.structs t
         → AreLimited p.bounds → IsInForce g.structs here k p.bounds → HasType g locals here (core.Local k (Some p)) (Pointer mode kinds.Array t)
@@ -210,9 +236,10 @@ mutual
     both : {a b : Expression} {t t' : CType} → HasType g locals here a t → HasType g locals here b t' → HasType g locals here (core.AndAlso a b) Int
     either : {a b : Expression} {t t' : CType} → HasType g locals here a t → HasType g locals here b t' → HasType g locals here (core.OrElse a b) Int
     low_byte : {e : Expression} → HasType g locals here e Int → HasType g locals here (core.LowByte e) Char
-    call : {callee : Callee} {ts : List CType} {bs : List (Option Bounds)} {arguments : Arguments} {t : CType} {b : Option PointerBounds}
-        → IsCallee g callee ts bs (Some t) → HaveTypes g locals here arguments ts
-        → AreAsked g.structs here (terms_of here.locals arguments ts) (pointers_of here.locals arguments) arguments bs → HasBounds g.structs t b → HasType g locals here (core.Call callee arguments b) t
+    call : {callee : Callee} {ts : List CType} {bs : List (Option Bounds)} {r : Option Bounds} {arguments : Arguments} {t : CType} {b : Option PointerBounds}
+        → IsCallee g callee ts bs (Some t) r → HaveTypes g locals here arguments ts
+        → AreAsked g.structs here (terms_of here.locals arguments ts) (pointers_of here.locals arguments) arguments bs
+        → HasCallBounds g.structs here.locals (terms_of here.locals arguments ts) t r b → HasType g locals here (core.Call callee arguments b) t
     next_input : HasType g locals here core.NextInput Int
 
   -- arguments, and the types of the parameters
@@ -250,31 +277,42 @@ pub data IsSimple (g : Frame) (locals : List CType) (here : Scope) : Statement �
   update : {t : CType} {p : Place} {operator : Operator} {e : Expression} {site : Site} → is_number t ≡ true → HasPlace g locals here p t
       → HasType g locals here e Int → IsSimple g locals here (core.Update t p operator e site)
   evaluate : {e : Expression} {t : CType} → HasType g locals here e t → IsSimple g locals here (core.Evaluate e)
-  call_alone : {callee : Callee} {ts : List CType} {bs : List (Option Bounds)} {arguments : Arguments} → IsCallee g callee ts bs None
+  call_alone : {callee : Callee} {ts : List CType} {bs : List (Option Bounds)} {r : Option Bounds} {arguments : Arguments} → IsCallee g callee ts bs None r
       → HaveTypes g locals here arguments ts
-      → AreAsked g.structs here (terms_of here.locals arguments ts) (pointers_of here.locals arguments) arguments bs → IsSimple g locals here (core.CallAlone callee arguments)
+      → AreAsked g.structs here (terms_of here.locals arguments ts) (pointers_of here.locals arguments) arguments bs
+      → IsSimple g locals here (core.CallAlone callee arguments)
   print : {e : Expression} → HasType g locals here e Int → IsSimple g locals here (core.Print e)
   put_byte : {e : Expression} → HasType g locals here e Int → IsSimple g locals here (core.PutByte e)
 
-mutual
-  -- a statement in a function with these locals and this result, in a loop or not; each of its parts stands in a scope of its own
-  pub data IsStatement (g : Frame) (locals : List CType) (result : Option CType) : Bool → Statement → Type 0 where
-    simple : {here : Scope} {loop : Bool} {x : Statement} → IsSimple g locals here x → IsStatement g locals result loop x
-    block : {loop : Bool} {xs : Statements} → AreStatements g locals result loop xs → IsStatement g locals result loop (core.Block xs)
-    choice : {here : Scope} {loop : Bool} {e : Expression} {t : CType} {x y : Statement} → HasType g locals here e t
-        → IsStatement g locals result loop x → IsStatement g locals result loop y → IsStatement g locals result loop (core.If e x y)
-    repeat : {here : Scope} {loop : Bool} {e : Expression} {t : CType} {x y : Statement} → HasType g locals here e t
-        → IsStatement g locals result true x → IsStatement g locals result false y → IsStatement g locals result loop (core.Loop e x y)
-    returned : {here : Scope} {loop : Bool} {e : Expression} {t : CType} → result ≡ Some t → HasType g locals here e t
-        → IsStatement g locals result loop (core.Return e)
-    returned_nothing : {loop : Bool} → result ≡ None → IsStatement g locals result loop core.ReturnNothing
-    broken : IsStatement g locals result true core.Break
-    continued : IsStatement g locals result true core.Continue
+-- a pointer that is returned is valid with the bounds that are declared for the result
+abbrev pub IsReturned : List Structure → Scope → Expression → CType → Option Bounds → Type 0
+IsReturned structs here e Int bounds = Unit {0}
+IsReturned structs here e Char bounds = Unit {0}
+IsReturned structs here e (Struct number) bounds = Unit {0}
+IsReturned structs here e (Pointer mode kinds.One target) bounds = Unit {0}
+IsReturned structs here e (Pointer mode kinds.Nt target) bounds = Unit {0}
+IsReturned structs here e (Pointer mode kinds.Array target) None = Unit {0}
+IsReturned structs here e (Pointer mode kinds.Array target) (Some b) = IsAsked structs here e b
 
-  pub data AreStatements (g : Frame) (locals : List CType) (result : Option CType) : Bool → Statements → Type 0 where
-    no_more : {loop : Bool} → AreStatements g locals result loop core.NoMore
-    then_more : {loop : Bool} {x : Statement} {xs : Statements} → IsStatement g locals result loop x → AreStatements g locals result loop xs
-        → AreStatements g locals result loop (core.Then x xs)
+mutual
+  -- a statement in a function with these locals, this result and its bounds, in a loop or not; each of its parts stands in a scope of its own
+  pub data IsStatement (g : Frame) (locals : List CType) (result : Option CType) (bounds : Option Bounds) : Bool → Statement → Type 0 where
+    simple : {here : Scope} {loop : Bool} {x : Statement} → IsSimple g locals here x → IsStatement g locals result bounds loop x
+    block : {loop : Bool} {xs : Statements} → AreStatements g locals result bounds loop xs → IsStatement g locals result bounds loop (core.Block xs)
+    choice : {here : Scope} {loop : Bool} {e : Expression} {t : CType} {x y : Statement} → HasType g locals here e t
+        → IsStatement g locals result bounds loop x → IsStatement g locals result bounds loop y → IsStatement g locals result bounds loop (core.If e x y)
+    repeat : {here : Scope} {loop : Bool} {e : Expression} {t : CType} {x y : Statement} → HasType g locals here e t
+        → IsStatement g locals result bounds true x → IsStatement g locals result bounds false y → IsStatement g locals result bounds loop (core.Loop e x y)
+    returned : {here : Scope} {loop : Bool} {e : Expression} {t : CType} → result ≡ Some t → HasType g locals here e t
+        → IsReturned g.structs here e t bounds → IsStatement g locals result bounds loop (core.Return e)
+    returned_nothing : {loop : Bool} → result ≡ None → IsStatement g locals result bounds loop core.ReturnNothing
+    broken : IsStatement g locals result bounds true core.Break
+    continued : IsStatement g locals result bounds true core.Continue
+
+  pub data AreStatements (g : Frame) (locals : List CType) (result : Option CType) (bounds : Option Bounds) : Bool → Statements → Type 0 where
+    no_more : {loop : Bool} → AreStatements g locals result bounds loop core.NoMore
+    then_more : {loop : Bool} {x : Statement} {xs : Statements} → IsStatement g locals result bounds loop x → AreStatements g locals result bounds loop xs
+        → AreStatements g locals result bounds loop (core.Then x xs)
 
 -- ---- programs
 
@@ -286,10 +324,11 @@ IsScalarResult None = Unit {0}
 IsScalarResult (Some t) = IsScalar t
 
 pub record IsFunction (g : Frame) (f : Function) : Type 0 where
+  pub bounds : Option Bounds
   pub parameters : f.parameters ≤ length f.locals
   pub locals : AllByRecursion IsScalar f.locals
   pub result : IsScalarResult f.result
-  pub body : AreStatements g f.locals f.result false f.body
+  pub body : AreStatements g f.locals f.result bounds false f.body
 
 -- a cell before the run, which leads nowhere
 abbrev pub IsInitial : List Structure → Initial → Type 0
@@ -299,6 +338,8 @@ IsInitial structs i = HasValue structs [] i.type (initial_value i.type i.number)
 pub record IsTyped (program : Parted) : Type 0 where
   pub structs : List Structure
   pub bounds : List (List (Option Bounds))
+  pub result_bounds : List (Option Bounds)
   pub objects : AllByRecursion (AllByRecursion (IsInitial structs)) program.objects
-  pub functions : AllByRecursion (IsFunction (record { program = program; structs = structs; bounds = bounds })) program.functions
+  pub functions : AllByRecursion (IsFunction (record { program = program; structs = structs; bounds = bounds; result_bounds = result_bounds }))
+      program.functions
   pub main : (f : Function) × (slice_get program.functions program.main ≡ Some f) × (f.parameters ≡ 0) × (f.result ≡ Some Int)

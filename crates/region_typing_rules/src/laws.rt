@@ -21,6 +21,7 @@ ghost use Rattle.region_typing_rules.specs.Examples as examples;
 ghost use Rattle.region_typing_rules.specs.ReadingExamples as readings;
 ghost use Rattle.region_typing_rules.specs.KnowingExamples as knowing;
 ghost use Rattle.region_typing_rules.specs.CallExamples as calls;
+ghost use Rattle.region_typing_rules.specs.KeptExamples as kept;
 
 /// Programs and what they become, worked out from the rules.
 pub fn examples()
@@ -54,10 +55,18 @@ pub fn calls()
     ensures from_pointer { calls.from_pointer }
     ensures without_term { calls.without_term }
     ensures without_pointer { calls.without_pointer }
+    ensures result { calls.result }
     ensures same { calls.same }
     ensures other { calls.other }
     ensures none { calls.none }
     ensures unknown { calls.unknown }
+{}
+
+/// Where a body assigns first what may not be assigned.
+pub fn kept()
+    ensures first { kept.first }
+    ensures steps { kept.steps }
+    ensures hidden { kept.hidden }
 {}
 
 /// Bounds that are declared for a local or a parameter are formed: they are of a pointer to elements that have bytes, their ends speak of `int` locals, their

@@ -13,4 +13,5 @@ signature f = record {
   parameters = map ctype f.parameters.items;
   bounds = f.bounds.items;
   result = option_map ctype f.result;
+  result_bounds = f.result_bounds;
 }

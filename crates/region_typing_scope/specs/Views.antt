@@ -22,6 +22,7 @@ scope s = record {
   locals = map ctype s.locals.items;
   visible = reverse (map visible s.visible.items);
   result = option_map ctype s.result;
+  result_bounds = s.result_bounds;
   in_loop = s.in_loop;
   outside = s.outside;
   is_off = s.is_off;

@@ -20,6 +20,7 @@ use crate::refusals::CheckError;
 use crate::scope::{Scope, Variable};
 use crate::sides::is_import;
 use crate::signature::Signature;
+use bounds_exprs::term::Bounds;
 use bounds_flow::flow::Flow;
 use ckc_names_rules::given::Given;
 use ckc_text::fault::NoMemory;
@@ -52,6 +53,7 @@ impl Scope {
             locals: Vec::new(alloc),
             visible: Vec::new(alloc),
             result: None,
+            result_bounds: None,
             in_loop: false,
             outside: 0,
             is_off: false,
@@ -132,7 +134,8 @@ impl Scope {
         Ok(())
     }
 
-    /// Enters a function, of which no local is known yet, and whose flow has so many variables.
+    /// Enters a function, of which no local is known yet, whose result is asked for no bounds, and whose flow has so many
+    /// variables.
     pub fn enter(
         &mut self,
         context: &Context,
@@ -140,12 +143,13 @@ impl Scope {
         variables: u32,
     ) -> Result<(), NoMemory>
         requires { variables ≤ 256 }
-        ensures { OnOk result (scope_of self.new ≡ record (scope_of self.old) { locals = []; visible = []; result = option_map ctype_of returned; in_loop = false; outside = 0; flow = at_entry variables; breaks = None; continues = None }) }
+        ensures { OnOk result (scope_of self.new ≡ record (scope_of self.old) { locals = []; visible = []; result = option_map ctype_of returned; result_bounds = None; in_loop = false; outside = 0; flow = at_entry variables; breaks = None; continues = None }) }
     {
         let flow = Flow::new(context.alloc(), variables)?;
         self.locals = Vec::new(context.alloc());
         self.visible = Vec::new(context.alloc());
         self.result = returned;
+        self.result_bounds = None;
         self.in_loop = false;
         self.outside = 0;
         self.flow = flow;
@@ -155,9 +159,16 @@ impl Scope {
         Ok(())
     }
 
+    /// Asks what is returned for these bounds, or for those of its type alone.
+    pub fn ask_result(&mut self, bounds: Option<Bounds>)
+        ensures { scope_of self.new ≡ record (scope_of self.old) { result_bounds = bounds } }
+    {
+        self.result_bounds = bounds;
+    }
+
     /// Leaves a function, and gives the types of its locals.
     pub fn exit(&mut self, context: &Context) -> Result<Vec<CType>, NoMemory>
-        ensures known { OnOk result (scope_of self.new ≡ record (scope_of self.old) { locals = []; visible = []; result = None; in_loop = false; outside = 0; flow = at_entry 0; breaks = None; continues = None }) }
+        ensures known { OnOk result (scope_of self.new ≡ record (scope_of self.old) { locals = []; visible = []; result = None; result_bounds = None; in_loop = false; outside = 0; flow = at_entry 0; breaks = None; continues = None }) }
         ensures locals { IfOk result (λ locals. map ctype_of locals.items ≡ (scope_of self.old).locals) }
     {
         self.outside = 0;

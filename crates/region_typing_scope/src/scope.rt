@@ -11,6 +11,7 @@ ghost use Rattle.region_typing_scope.specs.Tracked.{HasVars};
 use crate::number_table::NumberTable;
 use crate::signature::Signature;
 use crate::visible::Visible;
+use bounds_exprs::term::Bounds;
 use bounds_flow::flow::Flow;
 use ckc_names_rules::given::Given;
 use pointer_modes::ctype::CType;
@@ -55,6 +56,8 @@ pub struct Scope {
     pub locals: Vec<CType>,
     pub visible: Vec<Visible>,
     pub result: Option<CType>,
+    /// The bounds that what is returned is asked for.
+    pub result_bounds: Option<Bounds>,
     pub in_loop: bool,
     /// How many locals there are outside of the innermost loop.
     pub outside: u32,

@@ -1,9 +1,9 @@
-// Declared functions, and what is written for the bounds of their parameters.
+// Declared functions, and what is written for the bounds of their parameters and of their results.
 
 ghost use Rattle.std.specs.Prelude.{◌≡◌, ◌≤◌, None, length, slice_index_or, IfOk};
 ghost use Rattle.bounds_flow.specs.Pointers.{same_bounds as same_bounds_of, same_term as same_term_of};
 ghost use Rattle.region_typing_rules.specs.Items.{same_written as same_written_of, all_same_written as all_same_written_of};
-ghost use Rattle.region_typing_rules.specs.Scopes.{bounds_in};
+ghost use Rattle.region_typing_rules.specs.Scopes.{bounds_in as bounds_in_written};
 
 use crate::context::Context;
 use bounds_exprs::term::{Bounds, Term};
@@ -23,18 +23,30 @@ pub struct Signature {
     /// What is written for the bounds of each parameter: nothing, that they are unknown, or bounds over the parameters.
     pub bounds: Vec<Option<Option<Bounds>>>,
     pub result: Option<CType>,
+    /// What is written for the bounds of the result.
+    pub result_bounds: Option<Option<Bounds>>,
     ghost few: { length parameters.items ≤ 16 },
 }
 
 impl Signature {
     /// The bounds that are written for a parameter, where some are, and not that they are unknown.
     pub fn bounds_of(&self, parameter: usize) -> Option<Bounds>
-        ensures { result ≡ bounds_in (slice_index_or self.now.bounds.items parameter None) }
+        ensures { result ≡ bounds_in_written (slice_index_or self.now.bounds.items parameter None) }
     {
         match self.bounds.get(parameter) {
             Some(Some(bounds)) => *bounds,
             _ => None,
         }
+    }
+}
+
+/// The bounds that are written, where some are, and not that they are unknown.
+pub fn bounds_in(written: &Option<Option<Bounds>>) -> Option<Bounds>
+    ensures { result ≡ bounds_in_written written.now }
+{
+    match written {
+        None => None,
+        Some(bounds) => *bounds,
     }
 }
 
@@ -56,7 +68,8 @@ fn same_bounds(a: &Option<Bounds>, b: &Option<Bounds>) -> bool
     }
 }
 
-fn same_written(a: &Option<Option<Bounds>>, b: &Option<Option<Bounds>>) -> bool
+/// Whether the same is written for two bounds.
+pub fn same_written(a: &Option<Option<Bounds>>, b: &Option<Option<Bounds>>) -> bool
     ensures { result ≡ same_written_of a.now b.now }
 {
     match (a, b) {

@@ -9,3 +9,5 @@ pub mod Sequences
 pub mod Settling
 pub mod Ways
 pub mod MarkedLocals
+pub mod KeptLocals
+pub mod ReturnedBounds

@@ -2,7 +2,7 @@
 use Rattle.std.specs.Prelude.{ℕ, Bool, true, false, List, [], ◌∷◌, Option, None}
 use Rattle.bounds_flow.specs.Flows.{Knowledge}
 use Rattle.ckc_text.specs.declared.place.Span.{Span}
-use Rattle.ckc_text.specs.declared.code.Code.TheVariants.{E13}
+use Rattle.ckc_text.specs.declared.code.Code.TheVariants.{E13, E17}
 use Rattle.pointer_modes.specs.Types.{CType}
 use Rattle.ckc_core.specs.Core as core
 use Rattle.ckc_core.specs.declared.program.Stmt.{Stmt}
@@ -10,12 +10,12 @@ use Rattle.ckc_tree.specs.declared.stmt.Stmt as trees
 use Rattle.ckc_tree.specs.declared.stmt.Stmt.TheVariants as stmts
 use Rattle.ckc_tree.specs.Expressions.{Expression}
 use Rattle.ckc_tree.specs.Statements.{Statement, Assignment, ForInitial}
-use Rattle.region_typing_rules.specs.Verdicts.{Verdict, Passes, passing, breaks}
-use Rattle.region_typing_rules.specs.Expressions.{Places, typed, converted, bounds_met, call_typed}
+use Rattle.region_typing_rules.specs.Verdicts.{Verdict, Passes, passing, needs, breaks}
+use Rattle.region_typing_rules.specs.Expressions.{Places, typed, converted, call_typed}
 use Rattle.region_typing_rules.specs.Readings.{told}
 use Rattle.region_typing_rules.specs.Knowing.{knowing, when, with_others, at_loop}
 use Rattle.region_typing_rules.specs.Statements.{both, alone, statement, behind_block, meeting}
-use Rattle.region_typing_rules.specs.Statements.{condition, optional_condition, optional_step, first_part, returned}
+use Rattle.region_typing_rules.specs.Statements.{condition, optional_condition, optional_step, first_part, result_meets, returned}
 use Rattle.region_typing_rules.specs.Scopes.{Scope}
 use Rattle.region_typing_statements.specs.declared.statements.Branch as code
 use Rattle.region_typing_scope.specs.OnHeap as on_heap
@@ -108,7 +108,8 @@ abbrev pub refused_value : Places → Scope → Expression → Span → Verdict 
 refused_value at g e span = passing (typed at g e) (λ t. breaks E13 span)
 
 abbrev pub converted_return : Places → Scope → CType → Expression → Span → Verdict core.Statement
-converted_return at g type e span = passing (typed at g e) (λ t. converted t type span (λ v. bounds_met g.flow t type span (Passes (core.Return v))))
+converted_return at g type e span =
+    passing (typed at g e) (λ t. converted t type span (λ v. needs (result_meets g.flow g.result_bounds t type) E17 span (Passes (core.Return v))))
 
 abbrev pub value_returned : Places → Scope → Option CType → Expression → Span → Verdict core.Statement
-value_returned at g result e span = passing (typed at g e) (λ t. returned g.flow result t span)
+value_returned at g result e span = passing (typed at g e) (λ t. returned g.flow result g.result_bounds t span)

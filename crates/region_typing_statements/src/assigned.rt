@@ -89,7 +89,11 @@ fn hide(visible: &mut Vec<Visible>, beyond: u32, declared: &[Declarator]) -> Res
 }
 
 // Hides the locals of the names that a statement declares for those behind it.
-fn hide_by(visible: &mut Vec<Visible>, beyond: u32, written: &Stmt) -> Result<(), NoMemory>
+pub(crate) fn hide_by(
+    visible: &mut Vec<Visible>,
+    beyond: u32,
+    written: &Stmt,
+) -> Result<(), NoMemory>
     ensures hidden { OnOk result (seen visible.new.items ≡ hidden_by beyond (statement_tree written.now) (seen visible.old.items)) }
     ensures added { OnOk result (Adds visible.old.items visible.new.items) }
 {
@@ -102,7 +106,11 @@ fn hide_by(visible: &mut Vec<Visible>, beyond: u32, written: &Stmt) -> Result<()
 }
 
 // Hides the locals of the names that are declared first in the head of a `for`.
-fn hide_first(visible: &mut Vec<Visible>, beyond: u32, initial: &ForInitial) -> Result<(), NoMemory>
+pub(crate) fn hide_first(
+    visible: &mut Vec<Visible>,
+    beyond: u32,
+    initial: &ForInitial,
+) -> Result<(), NoMemory>
     ensures hidden { OnOk result (seen visible.new.items ≡ hidden_first beyond (initial_tree initial.now) (seen visible.old.items)) }
     ensures added { OnOk result (Adds visible.old.items visible.new.items) }
 {

@@ -15,15 +15,16 @@ function_body-requires-clause-outside c =
     let g = scope c.args.walk.now.scope in
     declared_outside (function_named g.functions c.args.known.now.signature.name) (signature c.args.known.now.signature) g (scope c.declare.new.scope) c.in_ok-declare.ensures c.requires.outside
 
-pub returns-in_err-function_body : goal.returns-in_err-function_body
-returns-in_err-function_body c =
-    let broken = rw c.as_slice-parameters.ensures.value at c.in_err-function_body.ensures in
+pub returns-in_err-changed : goal.returns-in_err-changed
+returns-in_err-changed c =
+    let broken = rw c.as_slice-parameters.ensures.value at c.in_err-changed.ensures.core in
     behind_scope (place_at c.args.context.now) (map trees.item c.args.listing.now.items.now) (walk c.args.walk.now) (trees.function c.args.d.now) (declared c.args.known.now) (scope c.declare.new.scope) c.in_ok-declare.ensures
-    (refused _ c.from_residual-in_err-function_body.result c.from_residual-in_err-function_body.ensures.1 broken)
+    (refused _ c.from_residual-in_err-changed.result c.from_residual-in_err-changed.ensures.1 broken)
 
 pub returns : goal.returns
 returns c =
-    let passes = rw c.as_slice-parameters.ensures.value at c.in_ok-function_body.ensures in
-    let judged = rw c.fits-suits.ensures at c.keep_rules.ensures in
+    let passes = rw c.as_slice-parameters.ensures.value at c.in_ok-changed.ensures.core in
+    let changed = rw c.as_slice-parameters.ensures.value at c.in_ok-changed.ensures.changed in
+    let judged = rw (c.fits-suits.ensures, changed) at c.keep_rules.ensures in
     behind_scope (place_at c.args.context.now) (map trees.item c.args.listing.now.items.now) (walk c.args.walk.now) (trees.function c.args.d.now) (declared c.args.known.now) (scope c.declare.new.scope) c.in_ok-declare.ensures
     (goes_on _ passes (kept_last _ _ c.keep_rules.result judged))

@@ -6,8 +6,8 @@ use Rattle.region_typing_scope.specs.Views.{scope}
 use Rattle.region_typing.proofs.ParameterBounds.{count_ahead}
 use Rattle.region_typing.proofs.parameters.among_parameters.Goals as goal
 
-pub returns-then-any_bounds-clause-few : goal.returns-then-any_bounds-clause-few
-returns-then-any_bounds-clause-few c =
+pub returns-then-asked-clause-few : goal.returns-then-asked-clause-few
+returns-then-asked-clause-few c =
     let ps = c.args.written.now in
     let types = c.in_ok-types.types.items in
     let same : length types ≡ length ps =
