@@ -158,6 +158,23 @@ const BEFORE_CALL: &str =
 
 const BEHIND_CALL: &str = "); }\n";
 
+// What stands before the head of a function and behind it.
+const BEFORE_HEAD: &str = " int id(int x) { return x; }\n\n";
+
+const BEHIND_HEAD: &str = " { return 0; }\nint main(void) { return 0; }\n";
+
+// Functions whose results have bounds, and the front of a `main` with the numbers of `BEFORE_BOUNDED`.
+const BEFORE_RESULTS: &str =
+    " array_ptr<int> first(int n) : count(n) { if (n <= 10) return a; return NULL; } array_ptr<int> back(array_ptr<int> p : count(n), int n) : count(n) { return p; } array_ptr<int> rest(array_ptr<int> p : count(n), int n) : count(n - 1) { if (n > 0) return p + 1; return NULL; } array_ptr<int> more(int n) : count(n + 1) { if (n < 10) return a; return NULL; } array_ptr<int> words(int n) : byte_count(n * sizeof(int)) { if (n <= 10) return a; return NULL; } array_ptr<char> text(int n) : byte_count(n) { if (n <= 4) return c; return NULL; } array_ptr<int> three(void) : count(3) { return a + 4; } array_ptr<int> empty(void) : count(0) { return a + 10; } array_ptr<int> below(void) : count(0 - 1) { return a; } array_ptr<int> any(void) : bounds(unknown) { return a; } array_ptr<int> none(int n) : count(n) { return NULL; } array_ptr<struct s> rows(int n) : count(n) { if (n <= 3) return v; return NULL; } array_ptr<int> second(char x, int n) : count(n) { if (n <= 8) return a + 2; return NULL; } ptr<int> one(void) { return a + 6; } int last(array_ptr<int> p : count(n), int n) { return p[n - 1]; } int half(array_ptr<int> p : count(n - 2), int n) { return p[n - 3]; } int within(array_ptr<int> b : count(n), array_ptr<int> p : bounds(b, b + n), int n) { return *p; }\nint main(void) { int n = g; int m = h; int i = 0;\n";
+
+// What stands between a head and the statements of its function, behind these, and behind what `main` returns.
+const BEFORE_STATEMENTS: &str = " { int i = 0;\n";
+
+const BEFORE_VALUE: &str =
+    "\nreturn 0; }\nint main(void) { array_ptr<int> e : count(10) = a; return ";
+
+const BEHIND_VALUE: &str = "; }\n";
+
 // Whether the run of a program of these pieces prints this.
 fn pieces_print(alloc: Global, pieces: &[&str], expected: &str) -> bool {
     let mut source = String::new(alloc);
@@ -219,6 +236,37 @@ pub fn body_prints(alloc: Global, row: &str, expected: &str) -> bool {
         BEFORE_CALL,
         arguments,
         BEHIND_CALL,
+    ];
+    pieces_print(alloc, &pieces, expected)
+}
+
+/// Whether the run of a program prints this that has a function with this head, in its third line.
+pub fn head_prints(alloc: Global, head: &str, expected: &str) -> bool {
+    let pieces = [BEFORE_FUNCTIONS, BEFORE_HEAD, head, BEHIND_HEAD];
+    pieces_print(alloc, &pieces, expected)
+}
+
+/// Whether the run of a program with functions whose results have bounds, numbers of which nothing is known, and these
+/// statements in its third line prints this.
+pub fn results_print(alloc: Global, statements: &str, expected: &str) -> bool {
+    let pieces = [BEFORE_FUNCTIONS, BEFORE_RESULTS, statements, BEHIND];
+    pieces_print(alloc, &pieces, expected)
+}
+
+/// Whether the run of a program prints this that calls a function: a row has its head, what `main` returns, and its
+/// statements in the third line.
+pub fn returns_print(alloc: Global, row: &str, expected: &str) -> bool {
+    let (head, row) = field(row);
+    let (value, statements) = field(row);
+    let pieces = [
+        BEFORE_FUNCTIONS,
+        "\n",
+        head,
+        BEFORE_STATEMENTS,
+        statements,
+        BEFORE_VALUE,
+        value,
+        BEHIND_VALUE,
     ];
     pieces_print(alloc, &pieces, expected)
 }

@@ -48,6 +48,8 @@ mod random_facts;
 #[cfg(test)]
 mod recordings;
 #[cfg(test)]
+mod results;
+#[cfg(test)]
 mod rows;
 #[cfg(test)]
 mod rules;

@@ -581,6 +581,8 @@ const PROGRAMS: &str =
 [exit 1]@int a _Checked[2] = {1}; ptr<int> f(array_ptr<int> p : count(n), int n) { if (n > 0) return p; return NULL; } int main(void) { return *f(a, 2); }
 [check C1 1:135 null]@int a _Checked[2] = {1}; ptr<int> f(array_ptr<int> p : count(n), int n) { if (n > 0) return p; return NULL; } int main(void) { return *f(a, 0); }
 [exit 3]@int a _Checked[3] = {1, 2, 3}; array_ptr<int> f(array_ptr<int> p : count(n), int n) { return p; } int main(void) { array_ptr<int> r = f(a, 3); if (r == a) return a[2]; return 0; }
+[exit 0]@array_ptr<int> f(array_ptr<int> p : count(1)) : count(1) { return p; } int main(void) { return 0; }
+[refused E16 1:37 bounds form]@array_ptr<int> f(array_ptr<int> p : count(-1)) : bounds(unknown) { return p; } int main(void) { return 0; }
 [refused E18 1:111 no bounds]@int a _Checked[3]; array_ptr<int> f(array_ptr<int> p : count(n), int n) { return p; } int main(void) { return f(a, 3)[0]; }
 [refused E17 1:125 bounds not proved]@int a _Checked[3]; array_ptr<int> f(array_ptr<int> p : count(n), int n) { return p; } int main(void) { array_ptr<int> r = f(f(a, 3), 3); return 0; }
 [refused E18 1:63 no bounds]@int f(array_ptr<array_ptr<int>> p : count(n), int n) { return p[0][0]; } int main(void) { return 0; }
@@ -618,8 +620,6 @@ const NOT_BUILT: &str =
 [refused E09 1:1 not built yet]@int f(array_ptr<char> p : count(strlen(p))) { return 0; } int main(void) { return 0; }
 [refused E09 1:1 not built yet]@int f(array_ptr<int> p : count(sizeof(nt_array_ptr<char>))) { return 0; } int main(void) { return 0; }
 [refused E09 1:1 not built yet]@int f(array_ptr<int> p : count(-1), nt_array_ptr<char> s) { return 0; } int main(void) { return 0; }
-[refused E09 1:1 not built yet]@array_ptr<int> f(array_ptr<int> p : count(1)) : count(1) { return p; } int main(void) { return 0; }
-[refused E09 1:1 not built yet]@array_ptr<int> f(array_ptr<int> p : count(-1)) : bounds(unknown) { return p; } int main(void) { return 0; }
 [refused E09 1:1 not built yet]@array_ptr<int> p : count(1); int f(array_ptr<int> p : count(1)) { return 0; } int main(void) { return 0; }
 [refused E09 1:1 not built yet]@int f(array_ptr<int> p : count(n), int n) { int b _Checked[2]; return 0; } int main(void) { return 0; }
 [refused E09 1:1 not built yet]@int f(array_ptr<int> p : count(n), int n) { _Bundled { p = NULL; n = 3; } return 0; } int main(void) { return 0; }

@@ -3,8 +3,8 @@
 use crate::actors::gives_all;
 use crate::acts::is_act;
 use crate::calls::{
-    arguments_print, body_prints, bounded_print, call_prints, elements_print, parameters_print,
-    run_prints, statements_print, value_prints,
+    arguments_print, body_prints, bounded_print, call_prints, elements_print, head_prints,
+    parameters_print, results_print, returns_print, run_prints, statements_print, value_prints,
 };
 use crate::lines::is_number;
 use crate::shapes::has_shape;
@@ -48,6 +48,13 @@ pub enum Question {
     /// What the run of a program prints that calls a function; the case has its parameters, the arguments, and the
     /// statements of its body.
     Body,
+    /// What the run of a program prints that has a function with this head.
+    Head,
+    /// What the run of a program prints that has functions whose results have bounds, and these statements.
+    Results,
+    /// What the run of a program prints that calls a function; the case has its head, what `main` returns, and the
+    /// statements of its body.
+    Returns,
     /// What a call prints; the case has the words, the acts and the source.
     Call,
 }
@@ -70,6 +77,9 @@ pub fn is_answer(alloc: Global, question: Question, case: &str, expected: &str) 
         Question::Parameters => parameters_print(alloc, case, expected),
         Question::Arguments => arguments_print(alloc, case, expected),
         Question::Body => body_prints(alloc, case, expected),
+        Question::Head => head_prints(alloc, case, expected),
+        Question::Results => results_print(alloc, case, expected),
+        Question::Returns => returns_print(alloc, case, expected),
         Question::Call => call_prints(alloc, case, expected),
     }
 }

@@ -40,7 +40,7 @@ const FORMS: &str =
 [refused E09 1:1 not built yet]@char g _Nt_checked[3]; int main(void) { return 0; }
 [refused E09 1:1 not built yet]@int g _Checked[3] : count(3); int main(void) { return 0; }
 [refused E09 1:1 not built yet]@nt_array_ptr<char> f(void); int main(void) { return 0; }
-[refused E09 1:1 not built yet]@int f(void) : count(1) { return 0; } int main(void) { return 0; }";
+[refused E09 1:1 not built yet]@_Tainted int t(void) : count(1); int main(void) { return 0; }";
 
 const FORMS_OF_STATEMENTS: &str = r#"[refused E09 1:1 not built yet]@nt_array_ptr<char> a;
 [refused E09 1:1 not built yet]@_TPtr<int> p;

@@ -14,6 +14,7 @@ use crate::options::options;
 use crate::parameters::parameters;
 use crate::printing::printing;
 use crate::recordings::keeps_acts;
+use crate::results::results;
 use crate::rows::expect;
 use crate::rules::names_and_types;
 use crate::runs::{dumps, runs};
@@ -39,9 +40,15 @@ fn programs(rt: HostRuntime) -> Result<(), Fail> {
     dumps(alloc)?;
     arrays(alloc)?;
     bounded(alloc)?;
-    parameters(alloc)?;
     limits(alloc)?;
     options(alloc)
+}
+
+#[test]
+fn signatures(rt: HostRuntime) -> Result<(), Fail> {
+    let alloc = rt.alloc();
+    parameters(alloc)?;
+    results(alloc)
 }
 
 #[test]
