@@ -34,10 +34,10 @@ module _ (of : Numbers) where
     expression_same (e.Name name) = refl
     expression_same (e.Call callee arguments span) = rw (expressions_same arguments) refl
     expression_same (e.SizeOf type span) = rw (type_same type.base) refl
-    expression_same (e.Cast word type operand span) = refl
-    expression_same (e.BoundedCast word type operand bounds span) = refl
-    expression_same (e.Malloc word type size span) = refl
-    expression_same (e.Calloc word type count size span) = refl
+    expression_same (e.Cast word type operand span) = rw (type_same type.base, expression_same operand) refl
+    expression_same (e.BoundedCast word type operand bounds span) = rw (type_same type.base, expression_same operand, bounds_same bounds) refl
+    expression_same (e.Malloc word type size span) = rw (type_same type.base, expression_same size) refl
+    expression_same (e.Calloc word type count size span) = rw (type_same type.base, expression_same count, expression_same size) refl
     expression_same (e.Index base index span) = rw (expression_same base, expression_same index) refl
     expression_same (e.Dot base member span) = rw (expression_same base) refl
     expression_same (e.Arrow base member span) = rw (expression_same base) refl
@@ -48,16 +48,19 @@ module _ (of : Numbers) where
     expressions_same e.NoMore = refl
     expressions_same (e.Then first others) = rw (expression_same first, expressions_same others) refl
 
+    bounds_same : (b : Bounds) → built_bounds (number_bounds of b) ≡ built_bounds b
+    bounds_same (e.Count count span) = expression_same count
+    bounds_same (e.ByteCount count span) = expression_same count
+    bounds_same (e.Unknown span) = refl
+    bounds_same (e.Range low high span) = rw (expression_same low, expression_same high) refl
+
   optional_expression_same : (o : Option Expression) → optional built_expression (option_map (number_expression of) o) ≡ optional built_expression o
   optional_expression_same None = refl
   optional_expression_same (Some x) = expression_same x
 
-  bounds_same : (o : Option Bounds) → optional built_bounds (option_map (number_bounds of) o) ≡ optional built_bounds o
-  bounds_same None = refl
-  bounds_same (Some (e.Count count span)) = expression_same count
-  bounds_same (Some (e.ByteCount count span)) = expression_same count
-  bounds_same (Some (e.Unknown span)) = refl
-  bounds_same (Some (e.Range low high span)) = rw (expression_same low, expression_same high) refl
+  optional_bounds_same : (o : Option Bounds) → optional built_bounds (option_map (number_bounds of) o) ≡ optional built_bounds o
+  optional_bounds_same None = refl
+  optional_bounds_same (Some b) = bounds_same b
 
   initializer_same : (o : Option Initializer) → optional built_initializer (option_map (number_initializer of) o) ≡ optional built_initializer o
   initializer_same None = refl
@@ -66,7 +69,7 @@ module _ (of : Numbers) where
 
   declarators_same : (ds : List Declarator) → list_all built_declarator (map (number_declarator of) ds) ≡ list_all built_declarator ds
   declarators_same [] = refl
-  declarators_same (d ∷ ds) = rw (bounds_same d.bounds, initializer_same d.initializer, declarators_same ds) refl
+  declarators_same (d ∷ ds) = rw (optional_bounds_same d.bounds, initializer_same d.initializer, declarators_same ds) refl
 
   variables_same : (ds : List Declarator) → list_all built_variable (map (number_declarator of) ds) ≡ list_all built_variable ds
   variables_same [] = refl
@@ -116,7 +119,7 @@ module _ (of : Numbers) where
   members_same (m ∷ ms) = rw (member_same m, members_same ms) refl
 
   parameter_same : (m : Member) → built_parameter (number_member of m) ≡ built_parameter m
-  parameter_same m = rw (type_same m.type.base, bounds_same m.bounds) refl
+  parameter_same m = rw (type_same m.type.base, optional_bounds_same m.bounds) refl
 
   listed_same : (ms : List Member) → list_all built_parameter (map (number_member of) ms) ≡ list_all built_parameter ms
   listed_same [] = refl
@@ -153,7 +156,7 @@ module _ (of : Numbers) where
   body_same (Some b) = statements_same b.statements
 
   result_bounds_same : (kind : FunctionKind) (b : Option Bounds) → built_result_bounds kind (option_map (number_bounds of) b) ≡ built_result_bounds kind b
-  result_bounds_same function_kinds.Trusted b = bounds_same b
+  result_bounds_same function_kinds.Trusted b = optional_bounds_same b
   result_bounds_same function_kinds.Tainted b = is_none_same (number_bounds of) b
   result_bounds_same function_kinds.Callback b = is_none_same (number_bounds of) b
 

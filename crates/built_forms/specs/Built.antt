@@ -4,6 +4,10 @@ use Rattle.std.specs.List.{list_all}
 use Rattle.ckc_names_rules.specs.Given.{strlen}
 use Rattle.ckc_tree.specs.declared.item.FunctionKind.{FunctionKind}
 use Rattle.ckc_tree.specs.declared.item.FunctionKind.TheVariants as function_kinds
+use Rattle.ckc_tree.specs.declared.expr.MallocWord.{MallocWord}
+use Rattle.ckc_tree.specs.declared.expr.MallocWord.TheVariants as malloc_words
+use Rattle.ckc_tree.specs.declared.expr.CallocWord.{CallocWord}
+use Rattle.ckc_tree.specs.declared.expr.CallocWord.TheVariants as calloc_words
 use Rattle.ckc_tree.specs.declared.type_form.PointerMode.{PointerMode}
 use Rattle.ckc_tree.specs.declared.type_form.PointerMode.TheVariants as modes
 use Rattle.ckc_tree.specs.declared.type_form.PointerKind.{PointerKind}
@@ -46,8 +50,17 @@ is_number_type (PointerType word element stars span) = false
 
 -- ---- expressions
 
+-- of the words for new memory, `malloc` and `calloc` are built: those that give tainted memory, or memory that a zero ends, aren't
+abbrev pub is_built_malloc : MallocWord → Bool
+is_built_malloc malloc_words.Malloc = true
+is_built_malloc malloc_words.TMalloc = false
+
+abbrev pub is_built_calloc : CallocWord → Bool
+is_built_calloc calloc_words.Calloc = true
+is_built_calloc calloc_words.NtCalloc = false
+
 abbrev mutual
-  -- strings, casts and allocations aren't built, nor is `strlen`
+  -- strings aren't built, nor is `strlen`
   pub built_expression : Expression → Bool
   built_expression (e.Number value span) = true
   built_expression (e.Character value span) = true
@@ -55,10 +68,10 @@ abbrev mutual
   built_expression (e.Name name) = true
   built_expression (e.Call callee arguments span) = not (bytes_eq callee.name strlen) && built_expressions arguments
   built_expression (e.SizeOf type span) = built_type type.base
-  built_expression (e.Cast word type operand span) = false
-  built_expression (e.BoundedCast word type operand bounds span) = false
-  built_expression (e.Malloc word type size span) = false
-  built_expression (e.Calloc word type count size span) = false
+  built_expression (e.Cast word type operand span) = built_type type.base && built_expression operand
+  built_expression (e.BoundedCast word type operand bounds span) = built_type type.base && (built_expression operand && built_bounds bounds)
+  built_expression (e.Malloc word type size span) = is_built_malloc word && (built_type type.base && built_expression size)
+  built_expression (e.Calloc word type count size span) = is_built_calloc word && (built_type type.base && (built_expression count && built_expression size))
   built_expression (e.Index base index span) = built_expression base && built_expression index
   built_expression (e.Dot base member span) = built_expression base
   built_expression (e.Arrow base member span) = built_expression base
@@ -69,11 +82,11 @@ abbrev mutual
   built_expressions e.NoMore = true
   built_expressions (e.Then first others) = built_expression first && built_expressions others
 
-abbrev pub built_bounds : Bounds → Bool
-built_bounds (e.Count count span) = built_expression count
-built_bounds (e.ByteCount count span) = built_expression count
-built_bounds (e.Unknown span) = true
-built_bounds (e.Range low high span) = built_expression low && built_expression high
+  pub built_bounds : Bounds → Bool
+  built_bounds (e.Count count span) = built_expression count
+  built_bounds (e.ByteCount count span) = built_expression count
+  built_bounds (e.Unknown span) = true
+  built_bounds (e.Range low high span) = built_expression low && built_expression high
 
 -- ---- statements
 

@@ -7,7 +7,7 @@ ghost use Rattle.ckc_tree.specs.Expressions.{bounds, expression};
 ghost use Rattle.built_forms.specs.Built as built;
 
 use ckc_names_rules::given::STRLEN;
-use ckc_tree::expr::{BoundsText, Expr};
+use ckc_tree::expr::{BoundsText, CallocWord, Expr, MallocWord};
 use ckc_tree::type_form::{PointerKind, PointerMode, TypeForm};
 
 /// Whether a type has only forms that are built.
@@ -50,6 +50,24 @@ pub fn is_number_type(base: &TypeForm) -> bool
     }
 }
 
+fn is_built_malloc(word: MallocWord) -> bool
+    ensures { result ≡ built.is_built_malloc word }
+{
+    match word {
+        MallocWord::Malloc => true,
+        MallocWord::TMalloc => false,
+    }
+}
+
+fn is_built_calloc(word: CallocWord) -> bool
+    ensures { result ≡ built.is_built_calloc word }
+{
+    match word {
+        CallocWord::Calloc => true,
+        CallocWord::NtCalloc => false,
+    }
+}
+
 /// Whether an expression has only forms that are built.
 #[cycle(expressions)]
 pub fn built_expression(written: &Expr) -> bool
@@ -57,13 +75,42 @@ pub fn built_expression(written: &Expr) -> bool
 {
     match written {
         Expr::Number { .. } | Expr::Character { .. } | Expr::Name { .. } => true,
-        Expr::Text { .. } | Expr::Cast { .. } | Expr::Malloc { .. } | Expr::Calloc { .. } => false,
+        Expr::Text { .. } => false,
         Expr::Call {
             callee,
             arguments,
             ..
         } => callee.name.as_bytes() != STRLEN.as_slice() && built_arguments(arguments.as_slice()),
         Expr::SizeOf { type_name, .. } => built_type(&type_name.base),
+        Expr::Cast {
+            type_name,
+            operand,
+            bounds: Some(bounds),
+            ..
+        } => built_type(&type_name.base) && built_expression(operand) && built_bounds(bounds),
+        Expr::Cast {
+            type_name,
+            operand,
+            ..
+        } => built_type(&type_name.base) && built_expression(operand),
+        Expr::Malloc {
+            word,
+            type_name,
+            size,
+            ..
+        } => is_built_malloc(*word) && built_type(&type_name.base) && built_expression(size),
+        Expr::Calloc {
+            word,
+            type_name,
+            count,
+            size,
+            ..
+        } => {
+            is_built_calloc(*word)
+                && built_type(&type_name.base)
+                && built_expression(count)
+                && built_expression(size)
+        }
         Expr::Index { base, index, .. } => built_expression(base) && built_expression(index),
         Expr::Dot { base, .. } | Expr::Arrow { base, .. } => built_expression(base),
         Expr::Unary { operand, .. } => built_expression(operand),
@@ -85,6 +132,7 @@ fn built_arguments(arguments: &[Expr]) -> bool
 }
 
 /// Whether the expressions in bounds have only forms that are built.
+#[cycle(expressions)]
 pub fn built_bounds(written: &BoundsText) -> bool
     ensures { result ≡ built.built_bounds (bounds written.now) }
 {

@@ -20,13 +20,7 @@ use Rattle.lowering_code.specs.Correct.{counted_from, IsCell, IsFunction, IsLowe
 use Rattle.region_typing_rules.specs.Lowerable.{cells_size, objects_size, IsRoomy, IsSmall, HasFewFunctions, IsSmallCore}
 use Rattle.region_typing_rules.specs.Typed as typed
 use Rattle.region_typing_rules.specs.Typed.{Frame, IsTyped}
-use Rattle.ccbox_call.proofs.Sized.{sized_statements}
-
-width_is : (t : CType) → width_if (is_char t) ≤ scalar_size t
-width_is Int = omega arith
-width_is Char = omega arith
-width_is (Struct number) = omega arith
-width_is (Pointer mode kind target) = omega arith
+use Rattle.ccbox_call.proofs.Sized.{sized_statements, width_is}
 
 cell_is : (i : Initial) → IsRoomy i → IsCell i
 cell_is i roomy = record { room = omega (arith, width_is i.type, roomy.room); typed = roomy.typed; word = roomy.word; null = roomy.null }
@@ -52,7 +46,7 @@ function_is g f rules small light = record {
   held = small.held;
   frame = omega (arith, small.few_locals, small.low, same_body f);
   few_nodes = omega (arith, light, few_in_statements f.body);
-  sized = sized_statements (length f.locals) f.body rules.body;
+  sized = sized_statements (length f.locals) (omega arith) f.body rules.body;
 }
 
 -- `main` with its checks

@@ -1,11 +1,10 @@
 -- Inside: what a file-level variable is initialised with, as the code holds it.
-use Rattle.std.specs.Prelude.{◌≡◌, ℕ, ◌<◌, ◌+◌, ◌-◌, ◌^◌, Bool, true, false, ◌&&◌, nat_lt, nat_le, Option, Some, None, pos}
-use Rattle.std.specs.Prelude.{List, [], ◌∷◌, ◌++◌, length, map, slice_index}
+use Rattle.std.specs.Prelude.{◌≡◌, ℕ, ◌<◌, ◌-◌, ◌^◌, Bool, true, false, ◌&&◌, nat_lt, nat_le, Option, Some, None, pos}
+use Rattle.std.specs.Prelude.{List, [], ◌∷◌, ◌++◌, length, map}
 use Rattle.std.proofs.Common.{ℤ}
 use Rattle.ckc_text.specs.declared.place.Span.{Span}
 use Rattle.ckc_text.specs.declared.code.Code.TheVariants.{E04, E13}
-use Rattle.pointer_modes.specs.Types.{CType, Int, Char, Struct, Pointer, Member, Structure, members_of}
-use Rattle.pointer_modes.specs.Layout.{cells_of, size_of}
+use Rattle.pointer_modes.specs.Types.{CType, Int, Char, Struct, Pointer, Structure}
 use Rattle.ckc_tree.specs.declared.expr.UnaryOperator.TheVariants as unary
 use Rattle.ckc_tree.specs.Expressions as e
 use Rattle.ckc_tree.specs.Expressions.{Expression}
@@ -15,7 +14,8 @@ use Rattle.ckc_core.specs.Steps.{low_byte}
 use Rattle.region_typing_rules.specs.Verdicts.{Verdict, Passes, passing, needs, breaks, picked}
 use Rattle.ckc_tree.specs.declared.stmt.SignedConstant.{SignedConstant}
 use Rattle.region_typing_rules.specs.Items as rules
-use Rattle.region_typing_rules.specs.Items.{cells_with, is_zero, unsigned_constant, signed_constant, number_or_break}
+use Rattle.region_typing_rules.specs.Cells.{cells_with}
+use Rattle.region_typing_rules.specs.Items.{is_zero, unsigned_constant, signed_constant, number_or_break}
 use Rattle.region_typing_rules.specs.Items.{unsigned_number, signed_number, small_constants, zeros_of, are_zeros}
 use Rattle.region_typing.specs.declared.initials.Judged as code
 use Rattle.region_typing.specs.declared.initials.Judged.TheVariants as forms
@@ -108,19 +108,3 @@ magnitude given a = unsigned_constant given a
 -- a constant has at most 31 bits
 abbrev pub IsSmall : Given → Expression → Type 0
 IsSmall given a = (n : ℕ) → magnitude given a ≡ Some n → n < 2147483648
-
--- a struct with these members
-abbrev pub IsStructOf : List Structure → CType → List Member → Type 0
-IsStructOf structs (Struct number) members = members ≡ members_of structs number
-IsStructOf structs Int members = ⊥
-IsStructOf structs Char members = ⊥
-IsStructOf structs (Pointer mode kind target) members = ⊥
-
--- the place of the cell behind one, or the end
-abbrev pub next_place : List Structure → CType → ℕ → ℕ
-next_place structs t k =
-    picked (nat_lt (k + 1) (length (cells_of structs t))) (slice_index (map (λ c. c.offset) (cells_of structs t)) (k + 1)) (size_of structs t)
-
--- the bytes from a cell to the next one, or to the end
-abbrev pub stride_at : List Structure → CType → ℕ → ℕ
-stride_at structs t k = next_place structs t k - slice_index (map (λ c. c.offset) (cells_of structs t)) k

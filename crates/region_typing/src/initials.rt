@@ -2,15 +2,14 @@
 
 ghost use Rattle.std.specs.Prelude.{◌≡◌, ◌<◌, ◌≤◌, ◌==◌, ◌++◌, true, pos, None, Some, length, map, slice_index_or, IfOk, IfSome, OnOk};
 ghost use Rattle.ckc_tree.specs.Expressions.{expression as expression_tree};
-ghost use Rattle.pointer_modes.specs.Types.{ctype as ctype_of, member as member_of};
-ghost use Rattle.pointer_modes.specs.Layout.{cells_of as cells_in};
+ghost use Rattle.pointer_modes.specs.Types.{ctype as ctype_of};
 ghost use Rattle.ckc_core.specs.Core.{initial as initial_of};
 ghost use Rattle.ckc_core.specs.Steps.{low_byte as low_byte_of};
-ghost use Rattle.region_typing_rules.specs.Types.{is_scalar};
-ghost use Rattle.region_typing_rules.specs.Items.{Written, are_zeros as are_zeros_in, is_zero_constant as is_zero_in, negative as negative_of, null_number as null_number_of, unsigned_constant as unsigned_of, signed_constant as signed_of, zeros_of, cells_with as cells_as};
+ghost use Rattle.region_typing_rules.specs.Cells.{cells_with as cells_as};
+ghost use Rattle.region_typing_rules.specs.Items.{Written, are_zeros as are_zeros_in, is_zero_constant as is_zero_in, negative as negative_of, null_number as null_number_of, unsigned_constant as unsigned_of, signed_constant as signed_of, zeros_of};
 ghost use Rattle.region_typing_scope.specs.Answering.{Answers};
 ghost use Rattle.region_typing_scope.specs.Typed.{typed as typed_view};
-ghost use Rattle.region_typing.specs.Initials.{IsSmall, elements_of, judged_numbers, kept_as as kept_as_in, listed, may_be_listed as may_be_listed_for, number_listed, number_more, numbers_listed, IsStructOf, judged_as, judged_cells, cell_number as cell_number_as, constant_cells as constant_cells_as, judged as judged_of, stride_at};
+ghost use Rattle.region_typing.specs.Initials.{IsSmall, elements_of, judged_numbers, kept_as as kept_as_in, listed, may_be_listed as may_be_listed_for, number_listed, number_more, numbers_listed, judged_as, judged_cells, cell_number as cell_number_as, constant_cells as constant_cells_as, judged as judged_of};
 
 use ckc_core::program::Initial;
 use ckc_names_rules::given::Given;
@@ -19,12 +18,12 @@ use ckc_text::fault::NoMemory;
 use ckc_text::place::Span;
 use ckc_tree::expr::{Expr, UnaryOperator};
 use ckc_tree::stmt::{Constant, SignedConstant};
-use pointer_modes::ctype::{CType, Member};
+use pointer_modes::ctype::CType;
 use pointer_modes::structs::Structs;
 use region_typing_scope::context::Context;
+use region_typing_scope::initial_cells::{cells_with, push_cells};
 use region_typing_scope::refusals::{CheckError, refusal};
 use region_typing_scope::typed::{Typed, is_zero};
-use region_typing_scope::types::copied;
 
 /// What a variable is initialised with.
 #[derive(Drop)]
@@ -161,100 +160,6 @@ pub fn judged_value(given: Given, e: &Expr, t: &Typed) -> Judged
         zero: is_zero(t),
         number: signed_constant(given, e),
     }
-}
-
-// The bytes from a cell of a type to the next one, or to the end.
-fn stride(structs: &Structs, t: &CType, cells: u32, i: u32) -> u32
-    requires all { cells ≡ length (cells_in structs.now (ctype_of t.now)) }
-    requires within { i < cells }
-    ensures { result ≡ stride_at structs.now (ctype_of t.now) i }
-{
-    let end = if i + 1 < cells {
-        structs.offset_of_cell(t, i + 1)
-    } else {
-        structs.size_of(t)
-    };
-    end.saturating_sub(structs.offset_of_cell(t, i))
-}
-
-// Pushes the only cell of a scalar.
-fn push_scalar_cell(
-    context: &Context,
-    structs: &Structs,
-    t: &CType,
-    number: i32,
-    cells: &mut Vec<Initial>,
-) -> Result<(), NoMemory>
-    requires { is_scalar (ctype_of t.now) ≡ true }
-    ensures { OnOk result (map initial_of cells.new.items ≡ map initial_of cells.old.items ++ cells_as structs.now (ctype_of t.now) number) }
-{
-    let cell = Initial {
-        ctype: copied(context, t)?,
-        stride: structs.size_of(t),
-        number,
-    };
-    cells.push(cell)?;
-    Ok(())
-}
-
-// Pushes a cell for each member of a struct.
-fn push_member_cells(
-    context: &Context,
-    structs: &Structs,
-    t: &CType,
-    members: &[Member],
-    number: i32,
-    cells: &mut Vec<Initial>,
-) -> Result<(), NoMemory>
-    requires are { IsStructOf structs.now (ctype_of t.now) (map member_of members.now) }
-    requires few { length members.now ≤ 64 }
-    ensures { OnOk result (map initial_of cells.new.items ≡ map initial_of cells.old.items ++ cells_as structs.now (ctype_of t.now) number) }
-{
-    for i in 0..members.len() {
-        let ctype = copied(context, &members[i].ctype)?;
-        let stride = stride(structs, t, members.len() as u32, i as u32);
-        cells.push(Initial {
-            ctype,
-            stride,
-            number,
-        })?;
-    }
-    Ok(())
-}
-
-// Pushes the cells of a value of a type, each with this number.
-fn push_cells(
-    context: &Context,
-    structs: &Structs,
-    t: &CType,
-    number: i32,
-    cells: &mut Vec<Initial>,
-) -> Result<(), NoMemory>
-    ensures { OnOk result (map initial_of cells.new.items ≡ map initial_of cells.old.items ++ cells_as structs.now (ctype_of t.now) number) }
-{
-    match t {
-        CType::Int | CType::Char | CType::Pointer(..) => push_scalar_cell(
-            context, structs, t, number, cells,
-        ),
-        CType::Struct(struct_number) => {
-            let members = structs.members(*struct_number);
-            push_member_cells(context, structs, t, members, number, cells)
-        }
-    }
-}
-
-// The cells of a variable, each with this number.
-fn cells_with(
-    context: &Context,
-    structs: &Structs,
-    t: &CType,
-    number: i32,
-) -> Result<Vec<Initial>, NoMemory>
-    ensures { IfOk result (λ v. map initial_of v.items ≡ cells_as structs.now (ctype_of t.now) number) }
-{
-    let mut cells = Vec::new(context.alloc());
-    push_cells(context, structs, t, number, &mut cells)?;
-    Ok(cells)
 }
 
 // Pushes the cells of so many elements, each with zeros.

@@ -6,7 +6,7 @@ ghost use Rattle.ckc_tree.specs.Expressions.{bounds as bounds_tree};
 ghost use Rattle.bounds_exprs.specs.Normal.{how as how_of};
 ghost use Rattle.pointer_modes.specs.Types.{ctype as ctype_of};
 ghost use Rattle.bounds_flow.specs.Conditions.{AreBoundsBelow};
-ghost use Rattle.region_typing_rules.specs.Expressions.{is_row as row_type};
+ghost use Rattle.region_typing_rules.specs.Types.{is_row as row_type};
 ghost use Rattle.region_typing_rules.specs.DeclaredBounds.{how_written, normal_bounds as normal_bounds_of, declared_bounds as declared_bounds_of};
 ghost use Rattle.region_typing_scope.specs.Answering.{Answers};
 ghost use Rattle.region_typing_scope.specs.Views.{scope as scope_of};
@@ -96,7 +96,7 @@ fn written_bounds(
 ///
 /// # Errors
 ///
-/// What a type under `sizeof` breaks, and E13 at strings, casts and allocations, from left to right; then E16 at the
+/// What a type under `sizeof` breaks, and E13 at strings, from left to right; then E16 at the
 /// bounds where the local is no pointer to an array, or one to elements without bytes, and where they have no normal form.
 pub fn bounds_at(
     context: &Context,
@@ -136,4 +136,26 @@ pub fn declared_bounds(
         visible: scope.visible.as_slice(),
     };
     bounds_at(context, &place, t, own, written)
+}
+
+/// The bounds that are written in a cast to a type, which have no name for what it gives.
+///
+/// # Errors
+///
+/// Those of `bounds_at`.
+pub fn unnamed_bounds(
+    context: &Context,
+    scope: &Scope,
+    t: &CType,
+    written: &BoundsText,
+) -> Result<Option<Bounds>, CheckError>
+    ensures { Answers (λ b. b) (declared_bounds_of (scope_of scope.now) (ctype_of t.now) (length (scope_of scope.now).locals) (Some (bounds_tree written.now))) result }
+{
+    let place = Place {
+        scope,
+        locals: scope.locals.as_slice(),
+        visible: scope.visible.as_slice(),
+    };
+    let own = scope.locals.len() as u32;
+    written_bounds(context, &place, t, own, written)
 }

@@ -3,11 +3,11 @@
 ghost use Rattle.std.specs.Prelude.{◌≡◌, IfOk};
 ghost use Rattle.ckc_text.specs.declared.place.Span.{Span};
 ghost use Rattle.ckc_tree.specs.Types.{type_name as type_name_of};
-ghost use Rattle.ckc_tree.specs.Expressions.{expression as expression_of, SizeOf};
+ghost use Rattle.ckc_tree.specs.Expressions.{expression as expression_of, bounds as bounds_tree, SizeOf};
 ghost use Rattle.ckc_tree.specs.Walks.{expression_list};
 ghost use Rattle.bounds_exprs.specs.Sums.{Other, sum};
 ghost use Rattle.region_typing_rules.specs.Verdicts.{Passes, passing};
-ghost use Rattle.region_typing_rules.specs.DeclaredBounds.{operation_sum, sum_written, all_written};
+ghost use Rattle.region_typing_rules.specs.DeclaredBounds.{operation_sum, sum_written, all_written, parts_written};
 ghost use Rattle.region_typing_scope.specs.Answering.{Answers};
 ghost use Rattle.region_typing_bounds.specs.Views.{bounded as bounded_view, place as place_view};
 
@@ -16,7 +16,7 @@ use crate::place::Place;
 use bounds_exprs::form::SumForm;
 use ckc_text::code::Code;
 use ckc_text::fault::NoMemory;
-use ckc_tree::expr::{BinaryOperator, Expr};
+use ckc_tree::expr::{BinaryOperator, BoundsText, Expr};
 use ckc_tree::type_form::TypeName;
 use region_typing_scope::context::Context;
 use region_typing_scope::refusals::{CheckError, refusal};
@@ -94,13 +94,26 @@ pub fn sum_form(
     match e {
         Expr::Number { value, .. } => Ok(SumForm::Number(*value as i64)),
         Expr::Character { value, .. } => Ok(SumForm::Number(*value as i64)),
-        Expr::Text { span, .. }
-        | Expr::Cast { span, .. }
-        | Expr::Malloc { span, .. }
-        | Expr::Calloc { span, .. } => Err(refusal(Code::E13, *span)),
+        Expr::Text { span, .. } => Err(refusal(Code::E13, *span)),
         Expr::Name { name } => Ok(name_form(place, p, name.number)),
         Expr::Call { arguments, .. } => all_forms(context, place, p, arguments.as_slice()),
         Expr::SizeOf { type_name, .. } => size_form(context, place, p, type_name),
+        Expr::Cast {
+            operand,
+            bounds,
+            ..
+        } => match bounds {
+            None => other_form(context, place, p, operand),
+            Some(bounds) => {
+                let _operand = sum_form(context, place, p, operand)?;
+                parts_form(context, place, p, bounds)
+            }
+        },
+        Expr::Malloc { size, .. } => other_form(context, place, p, size),
+        Expr::Calloc { count, size, .. } => {
+            let _count = sum_form(context, place, p, count)?;
+            other_form(context, place, p, size)
+        }
         Expr::Index { base, index, .. } => {
             let _base = sum_form(context, place, p, base)?;
             other_form(context, place, p, index)
@@ -148,4 +161,26 @@ fn all_forms(
         let _argument = sum_form(context, place, p, argument)?;
     }
     Ok(SumForm::Other)
+}
+
+// The bounds of a cast, which has no place in bounds.
+#[cycle(sums)]
+fn parts_form(
+    context: &Context,
+    place: &Place,
+    p: &Bounded,
+    written: &BoundsText,
+) -> Result<SumForm, CheckError>
+    ensures { Answers sum (parts_written (place_view place.now) (bounded_view p.now) (bounds_tree written.now)) result }
+{
+    match written {
+        BoundsText::Count { count, .. } | BoundsText::ByteCount { count, .. } => {
+            other_form(context, place, p, count)
+        }
+        BoundsText::Unknown { .. } => Ok(SumForm::Other),
+        BoundsText::Range { low, high, .. } => {
+            let _low = sum_form(context, place, p, low)?;
+            other_form(context, place, p, high)
+        }
+    }
 }

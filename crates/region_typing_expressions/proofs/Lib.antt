@@ -1,6 +1,9 @@
+mod CastParts
 mod Crossing
+mod Elements
 mod Leading
 mod Unmet
+mod Written
 pub mod Arguments
 pub mod Comparing
 pub mod Continuing

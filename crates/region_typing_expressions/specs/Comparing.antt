@@ -7,10 +7,10 @@ use Rattle.pointer_modes.specs.Types.{CType}
 use Rattle.ckc_core.specs.declared.program.Site.{Site}
 use Rattle.ckc_core.specs.Core as core
 use Rattle.act_words.specs.declared.operator.Comparison.{Comparison}
-use Rattle.region_typing_rules.specs.Types.{is_number, is_pointer, are_comparable}
+use Rattle.region_typing_rules.specs.Types.{is_number, is_pointer, is_row, are_comparable}
 use Rattle.region_typing_rules.specs.Verdicts.{Verdict, needs}
 use Rattle.region_typing_rules.specs.Readings.{based_bounds}
-use Rattle.region_typing_rules.specs.Expressions.{Typed, Value, AStruct, number, two_scalars, is_row, have_one_base}
+use Rattle.region_typing_rules.specs.Expressions.{Typed, Value, AStruct, number, two_scalars, have_one_base}
 
 abbrev pub is_number_value : Typed → Bool
 is_number_value (Value type zero value place) = is_number type

@@ -6,3 +6,4 @@ pub mod Comparing
 pub mod Equality
 pub mod Unbounded
 pub mod Moves
+pub mod Allocations

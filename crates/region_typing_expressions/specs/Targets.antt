@@ -12,9 +12,9 @@ use Rattle.ckc_core.specs.Core as core
 use Rattle.ckc_core.specs.Core.{place}
 use Rattle.region_typing_rules.specs.Verdicts.{Verdict, Passes, passing, needs, breaks, picked}
 use Rattle.region_typing_rules.specs.Scopes.{Scope}
-use Rattle.region_typing_rules.specs.Types.{is_scalar, is_pointer}
+use Rattle.region_typing_rules.specs.Types.{is_scalar, is_pointer, is_single, is_row}
 use Rattle.region_typing_rules.specs.Expressions.{Typed, Value, AStruct, ForNothing, ForArray, For, Lvalue, OfLocal, OfCell, number_of}
-use Rattle.region_typing_rules.specs.Expressions.{is_single, is_row, is_single_value, lacks_bounds, operator_along, sum_node}
+use Rattle.region_typing_rules.specs.Expressions.{is_single_value, lacks_bounds, operator_along, sum_node}
 use Rattle.region_typing_rules.specs.Statements.{update, moved}
 use Rattle.region_typing_expressions.specs.declared.assignments.Lvalue as code
 use Rattle.region_typing_expressions.specs.declared.assignments.Lvalue.TheVariants as lvalues

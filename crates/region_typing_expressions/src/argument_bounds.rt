@@ -5,12 +5,14 @@ ghost use Rattle.pointer_modes.specs.Types.{ctype as ctype_of};
 ghost use Rattle.region_typing_rules.specs.Expressions.{argument_meets as argument_meets_in, at_call as at_call_in, pointers_for as pointers_in, result_at as result_at_in, terms_for as terms_in};
 ghost use Rattle.region_typing_scope.specs.Answering.{Answers};
 ghost use Rattle.region_typing_scope.specs.Typed.{typed as inline_typed};
-ghost use Rattle.region_typing_scope.specs.Views.{scope as scope_of, signature};
+ghost use Rattle.region_typing_scope.specs.Points.{point as point_of};
+ghost use Rattle.region_typing_scope.specs.Views.{signature};
 ghost use Rattle.region_typing_expressions.specs.Calls.{argument};
 ghost use Rattle.region_typing_expressions.specs.ArgumentBounds.{first_unmet as first_unmet_in, first_unmet_of, result_bounds_of, is_unasked as is_unasked_in, pointer_for as pointer_for_in, term_for as term_for_in, term_of as term_of_in, unless_unmet as unless_unmet_at};
 
 use crate::calls::Argument;
 use bounds_exprs::term::{Bounds, Term};
+use bounds_flow::flow::Flow;
 use ckc_text::code::Code;
 use ckc_text::fault::NoMemory;
 use ckc_text::place::Span;
@@ -18,8 +20,9 @@ use pointer_modes::ctype::CType;
 use region_typing_flow::conditions::is_null;
 use region_typing_flow::readings::{local_term, pointer, pointer_local, term};
 use region_typing_scope::context::Context;
+use region_typing_scope::entailment::{has_bounds, is_met};
+use region_typing_scope::point::Point;
 use region_typing_scope::refusals::{CheckError, refusal};
-use region_typing_scope::scope::Scope;
 use region_typing_scope::signature::{Signature, bounds_in};
 use region_typing_scope::typed::Typed;
 
@@ -144,23 +147,23 @@ pub fn is_unasked(t: &Typed) -> bool
 
 // Whether the bounds of an argument meet those that are declared for its parameter, or those of its type.
 fn argument_meets(
-    scope: &Scope,
+    flow: &Flow,
     passed: &Passed,
     t: &Typed,
     to: &CType,
     declared: Option<Bounds>,
 ) -> Result<bool, NoMemory>
-    ensures { IfOk result (λ met. met ≡ argument_meets_in scope.now.flow passed.now.terms.items passed.now.pointers.items (inline_typed t.now) (ctype_of to.now) declared) }
+    ensures { IfOk result (λ met. met ≡ argument_meets_in flow.now passed.now.terms.items passed.now.pointers.items (inline_typed t.now) (ctype_of to.now) declared) }
 {
     match declared {
-        None => scope.is_met(t, to),
+        None => is_met(flow, t, to),
         Some(b) => {
             if is_unasked(t) {
                 return Ok(true);
             }
             match at_call(passed, &b) {
                 None => Ok(false),
-                Some(asked) => scope.has_bounds(t, &asked),
+                Some(asked) => has_bounds(flow, t, &asked),
             }
         }
     }
@@ -168,19 +171,19 @@ fn argument_meets(
 
 // Where the first argument stands whose bounds aren't met, by what stands for the parameters.
 fn first_unmet_by(
-    scope: &Scope,
+    flow: &Flow,
     passed: &Passed,
     f: &Signature,
     arguments: &[Argument],
 ) -> Result<Option<Span>, NoMemory>
     requires { length arguments.now ≡ length f.now.parameters.items }
-    ensures { IfOk result (λ unmet. unmet ≡ first_unmet_in scope.now.flow passed.now.terms.items passed.now.pointers.items (map argument arguments.now) (signature f.now).parameters (signature f.now).bounds) }
+    ensures { IfOk result (λ unmet. unmet ≡ first_unmet_in flow.now passed.now.terms.items passed.now.pointers.items (map argument arguments.now) (signature f.now).parameters (signature f.now).bounds) }
 {
     let types = f.parameters.as_slice();
     for i in 0..arguments.len() {
         let argument = &arguments[i];
         let declared = f.bounds_of(i);
-        if !argument_meets(scope, passed, &argument.typed, &types[i], declared)? {
+        if !argument_meets(flow, passed, &argument.typed, &types[i], declared)? {
             return Ok(Some(argument.span));
         }
     }
@@ -200,20 +203,20 @@ fn result_at(terms: &[Option<Term>], bounds: Option<Bounds>) -> Option<Bounds>
 /// The bounds at a call of a function.
 pub fn bounds_at_call(
     context: &Context,
-    scope: &Scope,
+    point: &Point<'_>,
     f: &Signature,
     arguments: &[Argument],
 ) -> Result<BoundsAtCall, NoMemory>
     requires { length arguments.now ≡ length f.now.parameters.items }
-    ensures unmet { IfOk result (λ at_call. at_call.unmet ≡ first_unmet_of (scope_of scope.now) (signature f.now) (map argument arguments.now)) }
-    ensures bounds { IfOk result (λ at_call. at_call.result ≡ result_bounds_of (scope_of scope.now) (signature f.now) (map argument arguments.now)) }
+    ensures unmet { IfOk result (λ at_call. at_call.unmet ≡ first_unmet_of (point_of point.now) (signature f.now) (map argument arguments.now)) }
+    ensures bounds { IfOk result (λ at_call. at_call.result ≡ result_bounds_of (point_of point.now) (signature f.now) (map argument arguments.now)) }
 {
-    let locals = scope.locals.as_slice();
+    let locals = point.scope.locals.as_slice();
     let passed = Passed {
         terms: terms_for(context, locals, arguments, f.parameters.as_slice())?,
         pointers: pointers_for(context, locals, arguments)?,
     };
-    let unmet = first_unmet_by(scope, &passed, f, arguments)?;
+    let unmet = first_unmet_by(point.flow, &passed, f, arguments)?;
     let declared = bounds_in(&f.result_bounds);
     let result = result_at(passed.terms.as_slice(), declared);
     Ok(BoundsAtCall { unmet, result })

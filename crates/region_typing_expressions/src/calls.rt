@@ -6,6 +6,7 @@ ghost use Rattle.pointer_modes.specs.Types.{ctype as ctype_of};
 ghost use Rattle.ckc_core.specs.Core.{expression, arguments_of, Print, PutByte};
 ghost use Rattle.region_typing_rules.specs.Expressions.{with_result as with_result_of, arguments_as as arguments_in, predefined_call as predefined_in, writes, callee_of as callee_in, declared_callee as declared_callee_in, call_bounds as call_bounds_in, call_of as call_in, is_checked_argument as checked_argument, without_checked as without_checked_in, crossing as crossing_in, declared_call as declared_in, called as called_in};
 ghost use Rattle.region_typing_rules.specs.Scopes.{function_named};
+ghost use Rattle.region_typing_scope.specs.Points.{point as point_of};
 ghost use Rattle.region_typing_scope.specs.Views.{scope as scope_of, signature};
 ghost use Rattle.region_typing_scope.specs.Answering.{Answers};
 ghost use Rattle.region_typing_rules.specs.Verdicts.{Passes};
@@ -25,6 +26,7 @@ use pointer_modes::structs::Structs;
 use region_typing_scope::bounds::bounds_at;
 use region_typing_scope::context::Context;
 use region_typing_scope::conversions::converted;
+use region_typing_scope::point::Point;
 use region_typing_scope::refusals::{CheckError, needs, refusal};
 use region_typing_scope::scope::Scope;
 use region_typing_scope::sides::is_import;
@@ -157,8 +159,8 @@ fn declared_callee(scope: &Scope, f: &Signature, site: Site) -> Callee
     callee_of(import, scope.side_number(import, f.name), site)
 }
 
-// The bounds of a call: those that are declared for its result, or those of its type.
-fn call_bounds(
+/// The bounds of a call: those that are declared for its result, or those of its type.
+pub fn call_bounds(
     structs: &Structs,
     t: &CType,
     declared: Option<Bounds>,
@@ -247,57 +249,64 @@ fn crossing(import: bool, arguments: &[Argument]) -> Result<(), CheckError>
 // A call of a declared function, where the arguments convert and their bounds are met.
 fn call_with(
     context: &Context,
-    scope: &Scope,
+    point: &Point<'_>,
     f: &Signature,
     arguments: Vec<Argument>,
     site: Site,
 ) -> Result<Called, CheckError>
     requires { length arguments.items ≡ length f.now.parameters.items }
-    ensures { Answers called_as (converted_call (scope_of scope.now) (signature f.now) (map argument arguments.items) site) result }
+    ensures { Answers called_as (converted_call (point_of point.now) (signature f.now) (map argument arguments.items) site) result }
 {
-    let asked = bounds_at_call(context, scope, f, arguments.as_slice())?;
+    let asked = bounds_at_call(context, point, f, arguments.as_slice())?;
     let types = f.parameters.as_slice();
     let arguments = arguments_as(context, VecDeque::from_vec(arguments), types)?;
     unless_unmet(asked.unmet)?;
-    let callee = declared_callee(scope, f, site);
+    let callee = declared_callee(point.scope, f, site);
     let call = Call { callee, arguments };
-    Ok(call_of(context, &scope.structs, &f.result, asked.result, call, site)?)
+    Ok(call_of(
+        context,
+        &point.scope.structs,
+        &f.result,
+        asked.result,
+        call,
+        site,
+    )?)
 }
 
 // A call of a declared function.
 fn declared(
     context: &Context,
-    scope: &Scope,
+    point: &Point<'_>,
     f: &Signature,
     arguments: Vec<Argument>,
     site: Site,
     span: Span,
 ) -> Result<Called, CheckError>
-    ensures { Answers called_as (declared_in (scope_of scope.now) (signature f.now) (map argument arguments.items) site span) result }
+    ensures { Answers called_as (declared_in (point_of point.now) (signature f.now) (map argument arguments.items) site span) result }
 {
     if f.parameters.len() != arguments.len() {
         return Err(refusal(Code::E14, span));
     }
     crossing(is_import(f), arguments.as_slice())?;
-    call_with(context, scope, f, arguments, site)
+    call_with(context, point, f, arguments, site)
 }
 
 /// A call of a function by its name.
 pub fn call(
     context: &Context,
-    scope: &Scope,
+    point: &Point<'_>,
     name: usize,
     arguments: Vec<Argument>,
     site: Site,
     span: Span,
 ) -> Result<Called, CheckError>
-    ensures { Answers called_as (called_in (scope_of scope.now) (function_named (scope_of scope.now).functions name) name (map argument arguments.items) site span) result }
+    ensures { Answers called_as (called_in (point_of point.now) (function_named (point_of point.now).functions name) name (map argument arguments.items) site span) result }
 {
-    match scope.function(name) {
-        Some(f) => declared(context, scope, f, arguments, site, span),
+    match point.scope.function(name) {
+        Some(f) => declared(context, point, f, arguments, site, span),
         None => predefined(
             context,
-            scope.given,
+            point.scope.given,
             name,
             VecDeque::from_vec(arguments),
             span,

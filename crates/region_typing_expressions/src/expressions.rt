@@ -3,21 +3,24 @@
 ghost use Rattle.std.specs.Prelude.{◌≡◌, IfOk, map, false};
 ghost use Rattle.ckc_text.specs.Places.{place_at};
 ghost use Rattle.ckc_tree.specs.Types.{type_name as type_name_of};
-ghost use Rattle.ckc_tree.specs.Expressions.{expression as expression_of, Call, Name, Index, Dot, Arrow, Unary};
+ghost use Rattle.ckc_tree.specs.Expressions.{expression as expression_of, bounds as bounds_tree, Call, Cast, BoundedCast, Malloc, Name, Index, Dot, Arrow, Unary};
 ghost use Rattle.pointer_modes.specs.Types.{Int, ctype as ctype_of};
 ghost use Rattle.ckc_core.specs.Core.{Number};
 ghost use Rattle.region_typing_rules.specs.Verdicts.{Passes};
 ghost use Rattle.region_typing_rules.specs.Scopes.{object_of};
-ghost use Rattle.region_typing_rules.specs.Expressions.{constant_typed, Value, ForNothing, site_at, typed as typed_of, name_typed, all_typed as all_typed_of, call_typed as call_typed_of};
+ghost use Rattle.region_typing_rules.specs.Expressions.{beside, constant_typed, Value, ForNothing, site_at, typed as typed_of, name_typed, all_typed as all_typed_of, call_typed as call_typed_of};
 ghost use Rattle.region_typing_scope.specs.Answering.{Answers};
+ghost use Rattle.region_typing_scope.specs.Points.{point as point_of};
 ghost use Rattle.region_typing_scope.specs.Views.{scope as scope_of};
 ghost use Rattle.region_typing_scope.specs.OnHeap.{typed as typed_view};
-ghost use Rattle.region_typing_scope.specs.Typed.{number_typed, size_typed};
+ghost use Rattle.region_typing_scope.specs.Typed.{number_typed, size_typed, typed as inline_typed};
 ghost use Rattle.region_typing_expressions.specs.Calls.{argument, called as called_as, called_with};
 ghost use Rattle.region_typing_expressions.specs.Unbounded.{name_verdict, element_verdict, dotted_verdict, arrowed_verdict, unary_verdict};
 ghost use Rattle.region_typing_expressions.specs.Slices.{expression_list};
 
+use crate::allocations::{calloc, malloc};
 use crate::calls::{Argument, Called, call, with_result};
+use crate::casts::{cast, cast_bounds};
 use crate::members::{arrowed, dotted};
 use crate::operators::{binary, unary};
 use crate::places::indexed;
@@ -26,14 +29,16 @@ use ckc_core::program::Site;
 use ckc_text::code::Code;
 use ckc_text::fault::NoMemory;
 use ckc_text::place::Span;
-use ckc_tree::expr::{Expr, UnaryOperator};
+use ckc_tree::expr::{BinaryOperator, BoundsText, CastWord, Expr, MallocWord, UnaryOperator};
 use ckc_tree::identifier::Identifier;
 use ckc_tree::type_form::TypeName;
 use pointer_modes::ctype::CType;
 use region_typing_scope::bounds::{array, with_bounds};
 use region_typing_scope::context::Context;
 use region_typing_scope::lookups::KnownObject;
+use region_typing_scope::point::Point;
 use region_typing_scope::refusals::{CheckError, refusal};
+use region_typing_scope::right_operands::{left_truth, told_by};
 use region_typing_scope::scope::Scope;
 use region_typing_scope::typed::{Base, Typed, at_base, at_local};
 use region_typing_scope::types::{copied, type_named};
@@ -96,15 +101,16 @@ fn object_value(
 // What a name stands for.
 fn named(
     context: &Context,
-    scope: &Scope,
+    point: &Point<'_>,
     name: usize,
     site: Site,
 ) -> Result<Box<Typed>, CheckError>
-    ensures { Answers typed_view (name_verdict (scope_of scope.now) name site) result }
+    ensures { Answers typed_view (name_verdict (point_of point.now) name site) result }
 {
+    let scope = point.scope;
     if let Some(local) = scope.local(name) {
         let ctype = copied(context, local.ctype)?;
-        let value = at_local(&scope.structs, &scope.flow, ctype, local.number, site);
+        let value = at_local(&scope.structs, point.flow, ctype, local.number, site);
         return Ok(context.boxed(value)?);
     }
     if let Some(object) = scope.object(name) {
@@ -118,11 +124,15 @@ fn named(
 }
 
 // A name as an expression.
-fn name_value(context: &Context, scope: &Scope, name: &Identifier) -> Result<Box<Typed>, CheckError>
-    ensures { Answers typed_view (typed_of (place_at context.now) (scope_of scope.now) (Name name.now)) result }
+fn name_value(
+    context: &Context,
+    point: &Point<'_>,
+    name: &Identifier,
+) -> Result<Box<Typed>, CheckError>
+    ensures { Answers typed_view (typed_of (place_at context.now) (point_of point.now) (Name name.now)) result }
 {
-    let t = named(context, scope, name.number, context.site(name.span))?;
-    with_bounds(context, scope, t, name.span)
+    let t = named(context, point, name.number, context.site(name.span))?;
+    with_bounds(context, point.scope, t, name.span)
 }
 
 // An element.
@@ -139,46 +149,97 @@ fn element_of(
     with_bounds(context, scope, t, span)
 }
 
-/// What an expression is.
+// What an expression is.
 #[cycle(expressions)]
-pub fn typed(context: &Context, scope: &Scope, e: &Expr) -> Result<Box<Typed>, CheckError>
-    ensures { Answers typed_view (typed_of (place_at context.now) (scope_of scope.now) (expression_of e.now)) result }
+fn typed_at(context: &Context, point: &Point<'_>, e: &Expr) -> Result<Box<Typed>, CheckError>
+    ensures { Answers typed_view (typed_of (place_at context.now) (point_of point.now) (expression_of e.now)) result }
 {
     match e {
         Expr::Number { value, span } => number(context, *value, *span),
         Expr::Character { value, .. } => Ok(character(context, *value)?),
-        Expr::Text { span, .. }
-        | Expr::Cast { span, .. }
-        | Expr::Malloc { span, .. }
-        | Expr::Calloc { span, .. } => Err(refusal(Code::E13, *span)),
-        Expr::Name { name } => name_value(context, scope, name),
+        Expr::Text { span, .. } => Err(refusal(Code::E13, *span)),
+        Expr::Name { name } => name_value(context, point, name),
         Expr::Call {
             callee,
             arguments,
             span,
-        } => call_value(context, scope, callee, arguments.as_slice(), *span),
-        Expr::SizeOf { type_name, .. } => size_of(context, scope, type_name),
+        } => call_value(context, point, callee, arguments.as_slice(), *span),
+        Expr::SizeOf { type_name, .. } => size_of(context, point.scope, type_name),
         Expr::Index { base, index, span } => {
-            let base = typed(context, scope, base)?;
-            let index = typed(context, scope, index)?;
-            element_of(context, scope, base, index, *span)
+            let base = typed_at(context, point, base)?;
+            let index = typed_at(context, point, index)?;
+            element_of(context, point.scope, base, index, *span)
         }
-        Expr::Dot { base, member, span } => member_of(context, scope, base, member, *span),
-        Expr::Arrow { base, member, span } => member_through(context, scope, base, member, *span),
+        Expr::Dot { base, member, span } => member_of(context, point, base, member, *span),
+        Expr::Arrow { base, member, span } => member_through(context, point, base, member, *span),
         Expr::Unary {
             operator,
             operand,
             span,
-        } => unary_of(context, scope, *operator, operand, *span),
+        } => unary_of(context, point, *operator, operand, *span),
         Expr::Binary {
             operator,
             left,
             right,
             span,
         } => {
-            let left = typed(context, scope, left)?;
-            let right = typed(context, scope, right)?;
-            binary(context, scope, *operator, left, right, *span)
+            let left = typed_at(context, point, left)?;
+            let right = right_typed(context, point, *operator, right, &left)?;
+            binary(context, point.scope, *operator, left, right, *span)
+        }
+        Expr::Cast {
+            word,
+            type_name,
+            operand,
+            bounds,
+            span,
+        } => match bounds {
+            None => cast_value(context, point, *word, type_name, operand, *span),
+            Some(bounds) => {
+                bounded_cast(context, point, *word, type_name, operand, bounds, *span)
+            }
+        },
+        Expr::Malloc {
+            word,
+            type_name,
+            size,
+            span,
+        } => malloc_of(context, point, *word, type_name, size, *span),
+        Expr::Calloc {
+            word,
+            type_name,
+            count,
+            size,
+            span,
+        } => {
+            let t = type_named(context, point.scope, type_name)?;
+            let count = typed_at(context, point, count)?;
+            let _size = typed_at(context, point, size)?;
+            calloc(context, point.scope, *word, t, count, size, *span)
+        }
+    }
+}
+
+// What the right operand of an operator is: that of `&&` and that of `||` know what the left one told.
+#[cycle(expressions)]
+fn right_typed(
+    context: &Context,
+    point: &Point<'_>,
+    operator: BinaryOperator,
+    right: &Expr,
+    left: &Typed,
+) -> Result<Box<Typed>, CheckError>
+    ensures { Answers typed_view (typed_of (place_at context.now) (beside operator (inline_typed left.now) (point_of point.now)) (expression_of right.now)) result }
+{
+    match left_truth(operator) {
+        None => typed_at(context, point, right),
+        Some(truth) => {
+            let flow = told_by(point, left, truth)?;
+            let behind = Point {
+                scope: point.scope,
+                flow: &flow,
+            };
+            typed_at(context, &behind, right)
         }
     }
 }
@@ -187,91 +248,144 @@ pub fn typed(context: &Context, scope: &Scope, e: &Expr) -> Result<Box<Typed>, C
 #[cycle(expressions)]
 fn call_value(
     context: &Context,
-    scope: &Scope,
+    point: &Point<'_>,
     callee: &Identifier,
     arguments: &[Expr],
     span: Span,
 ) -> Result<Box<Typed>, CheckError>
-    ensures { Answers typed_view (typed_of (place_at context.now) (scope_of scope.now) (Call callee.now (expression_list arguments.now) span)) result }
+    ensures { Answers typed_view (typed_of (place_at context.now) (point_of point.now) (Call callee.now (expression_list arguments.now) span)) result }
 {
-    let call = called(context, scope, callee.number, arguments, span)?;
+    let call = called(context, point, callee.number, arguments, span)?;
     with_result(context, call, span)
+}
+
+// A cast without bounds.
+#[cycle(expressions)]
+fn cast_value(
+    context: &Context,
+    point: &Point<'_>,
+    word: CastWord,
+    t: &TypeName,
+    operand: &Expr,
+    span: Span,
+) -> Result<Box<Typed>, CheckError>
+    ensures { Answers typed_view (typed_of (place_at context.now) (point_of point.now) (Cast word (type_name_of t.now) (expression_of operand.now) span)) result }
+{
+    let to = type_named(context, point.scope, t)?;
+    let operand = typed_at(context, point, operand)?;
+    cast(context, point.scope, word, to, operand, None, span)
+}
+
+// A cast with bounds.
+#[cycle(expressions)]
+fn bounded_cast(
+    context: &Context,
+    point: &Point<'_>,
+    word: CastWord,
+    t: &TypeName,
+    operand: &Expr,
+    bounds: &BoundsText,
+    span: Span,
+) -> Result<Box<Typed>, CheckError>
+    ensures { Answers typed_view (typed_of (place_at context.now) (point_of point.now) (BoundedCast word (type_name_of t.now) (expression_of operand.now) (bounds_tree bounds.now) span)) result }
+{
+    let to = type_named(context, point.scope, t)?;
+    let operand = typed_at(context, point, operand)?;
+    let written = cast_bounds(context, point, &to, bounds)?;
+    cast(context, point.scope, word, to, operand, written, span)
+}
+
+// New memory of a size.
+#[cycle(expressions)]
+fn malloc_of(
+    context: &Context,
+    point: &Point<'_>,
+    word: MallocWord,
+    t: &TypeName,
+    size: &Expr,
+    span: Span,
+) -> Result<Box<Typed>, CheckError>
+    ensures { Answers typed_view (typed_of (place_at context.now) (point_of point.now) (Malloc word (type_name_of t.now) (expression_of size.now) span)) result }
+{
+    let t = type_named(context, point.scope, t)?;
+    let value = typed_at(context, point, size)?;
+    malloc(context, point.scope, word, t, size, value, span)
 }
 
 // A member of a struct, before its bounds are noted.
 #[cycle(expressions)]
 fn dotted_by(
     context: &Context,
-    scope: &Scope,
+    point: &Point<'_>,
     base: &Expr,
     member: &Identifier,
     span: Span,
 ) -> Result<Box<Typed>, CheckError>
-    ensures { Answers typed_view (dotted_verdict (place_at context.now) (scope_of scope.now) (expression_of base.now) member.now.number span) result }
+    ensures { Answers typed_view (dotted_verdict (place_at context.now) (point_of point.now) (expression_of base.now) member.now.number span) result }
 {
-    let base = typed(context, scope, base)?;
+    let base = typed_at(context, point, base)?;
     let site = context.site(span);
-    dotted(context, scope, base, member.number, site, span)
+    dotted(context, point.scope, base, member.number, site, span)
 }
 
 // A member of a struct.
 #[cycle(expressions)]
 fn member_of(
     context: &Context,
-    scope: &Scope,
+    point: &Point<'_>,
     base: &Expr,
     member: &Identifier,
     span: Span,
 ) -> Result<Box<Typed>, CheckError>
-    ensures { Answers typed_view (typed_of (place_at context.now) (scope_of scope.now) (Dot (expression_of base.now) member.now span)) result }
+    ensures { Answers typed_view (typed_of (place_at context.now) (point_of point.now) (Dot (expression_of base.now) member.now span)) result }
 {
-    let t = dotted_by(context, scope, base, member, span)?;
-    with_bounds(context, scope, t, span)
+    let t = dotted_by(context, point, base, member, span)?;
+    with_bounds(context, point.scope, t, span)
 }
 
 // A member of the struct that a pointer points to, before its bounds are noted.
 #[cycle(expressions)]
 fn arrowed_by(
     context: &Context,
-    scope: &Scope,
+    point: &Point<'_>,
     base: &Expr,
     member: &Identifier,
     span: Span,
 ) -> Result<Box<Typed>, CheckError>
-    ensures { Answers typed_view (arrowed_verdict (place_at context.now) (scope_of scope.now) (expression_of base.now) member.now.number span) result }
+    ensures { Answers typed_view (arrowed_verdict (place_at context.now) (point_of point.now) (expression_of base.now) member.now.number span) result }
 {
-    let base = typed(context, scope, base)?;
+    let base = typed_at(context, point, base)?;
     let site = context.site(span);
-    arrowed(context, scope, base, member.number, site, span)
+    arrowed(context, point.scope, base, member.number, site, span)
 }
 
 // A member of the struct that a pointer points to.
 #[cycle(expressions)]
 fn member_through(
     context: &Context,
-    scope: &Scope,
+    point: &Point<'_>,
     base: &Expr,
     member: &Identifier,
     span: Span,
 ) -> Result<Box<Typed>, CheckError>
-    ensures { Answers typed_view (typed_of (place_at context.now) (scope_of scope.now) (Arrow (expression_of base.now) member.now span)) result }
+    ensures { Answers typed_view (typed_of (place_at context.now) (point_of point.now) (Arrow (expression_of base.now) member.now span)) result }
 {
-    let t = arrowed_by(context, scope, base, member, span)?;
-    with_bounds(context, scope, t, span)
+    let t = arrowed_by(context, point, base, member, span)?;
+    with_bounds(context, point.scope, t, span)
 }
 
 // An operator before its operand, before the bounds of what it gives are noted.
 #[cycle(expressions)]
 fn operated_by(
     context: &Context,
-    scope: &Scope,
+    point: &Point<'_>,
     operator: UnaryOperator,
     operand: &Expr,
     span: Span,
 ) -> Result<Box<Typed>, CheckError>
-    ensures { Answers typed_view (unary_verdict (place_at context.now) (scope_of scope.now) operator (expression_of operand.now) span) result }
+    ensures { Answers typed_view (unary_verdict (place_at context.now) (point_of point.now) operator (expression_of operand.now) span) result }
 {
-    let operand = typed(context, scope, operand)?;
+    let operand = typed_at(context, point, operand)?;
     unary(context, operator, operand, context.site(span), span)
 }
 
@@ -279,29 +393,29 @@ fn operated_by(
 #[cycle(expressions)]
 fn unary_of(
     context: &Context,
-    scope: &Scope,
+    point: &Point<'_>,
     operator: UnaryOperator,
     operand: &Expr,
     span: Span,
 ) -> Result<Box<Typed>, CheckError>
-    ensures { Answers typed_view (typed_of (place_at context.now) (scope_of scope.now) (Unary operator (expression_of operand.now) span)) result }
+    ensures { Answers typed_view (typed_of (place_at context.now) (point_of point.now) (Unary operator (expression_of operand.now) span)) result }
 {
-    let t = operated_by(context, scope, operator, operand, span)?;
-    with_bounds(context, scope, t, span)
+    let t = operated_by(context, point, operator, operand, span)?;
+    with_bounds(context, point.scope, t, span)
 }
 
 /// What arguments are, from left to right.
 #[cycle(expressions)]
 fn all_typed(
     context: &Context,
-    scope: &Scope,
+    point: &Point<'_>,
     arguments: &[Expr],
 ) -> Result<Vec<Argument>, CheckError>
-    ensures { Answers (λ v. map argument v.items) (all_typed_of (place_at context.now) (scope_of scope.now) (expression_list arguments.now)) result }
+    ensures { Answers (λ v. map argument v.items) (all_typed_of (place_at context.now) (point_of point.now) (expression_list arguments.now)) result }
 {
     let mut built = Vec::new(context.alloc());
     for written in arguments {
-        let typed = typed(context, scope, written)?;
+        let typed = typed_at(context, point, written)?;
         built.push(Argument {
             typed,
             span: written.span(),
@@ -314,20 +428,27 @@ fn all_typed(
 #[cycle(expressions)]
 fn called(
     context: &Context,
-    scope: &Scope,
+    point: &Point<'_>,
     name: usize,
     arguments: &[Expr],
     span: Span,
 ) -> Result<Called, CheckError>
-    ensures { Answers called_as (called_with (place_at context.now) (scope_of scope.now) name (expression_list arguments.now) span) result }
+    ensures { Answers called_as (called_with (place_at context.now) (point_of point.now) name (expression_list arguments.now) span) result }
 {
-    let arguments = all_typed(context, scope, arguments)?;
-    call(context, scope, name, arguments, context.site(span), span)
+    let arguments = all_typed(context, point, arguments)?;
+    call(context, point, name, arguments, context.site(span), span)
 }
 
-/// A call that stands alone.
-pub fn call_typed(context: &Context, scope: &Scope, e: &Expr) -> Result<Called, CheckError>
-    ensures { Answers called_as (call_typed_of (place_at context.now) (scope_of scope.now) (expression_of e.now)) result }
+/// What an expression is.
+pub fn typed(context: &Context, scope: &Scope, e: &Expr) -> Result<Box<Typed>, CheckError>
+    ensures { Answers typed_view (typed_of (place_at context.now) (scope_of scope.now) (expression_of e.now)) result }
+{
+    typed_at(context, &scope.point(), e)
+}
+
+// A call that stands alone, at a point.
+fn call_at(context: &Context, point: &Point<'_>, e: &Expr) -> Result<Called, CheckError>
+    ensures { Answers called_as (call_typed_of (place_at context.now) (point_of point.now) (expression_of e.now)) result }
 {
     match e {
         Expr::Call {
@@ -336,8 +457,15 @@ pub fn call_typed(context: &Context, scope: &Scope, e: &Expr) -> Result<Called, 
             span,
         } => {
             let arguments = arguments.as_slice();
-            called(context, scope, callee.number, arguments, *span)
+            called(context, point, callee.number, arguments, *span)
         }
         _ => Err(refusal(Code::E13, Span { from: 0, to: 0 })),
     }
+}
+
+/// A call that stands alone.
+pub fn call_typed(context: &Context, scope: &Scope, e: &Expr) -> Result<Called, CheckError>
+    ensures { Answers called_as (call_typed_of (place_at context.now) (scope_of scope.now) (expression_of e.now)) result }
+{
+    call_at(context, &scope.point(), e)
 }

@@ -1,9 +1,11 @@
 // What an expression or an assignment is by the rules of types, where the names around it are known.
 #![tactic(auto)]
 
+mod allocations;
 pub mod argument_bounds;
 pub mod assignments;
 pub mod calls;
+mod casts;
 mod equality;
 pub mod expressions;
 mod members;

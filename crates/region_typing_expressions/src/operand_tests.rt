@@ -3,7 +3,8 @@
 ghost use Rattle.std.specs.Prelude.{◌≡◌, ◌&&◌};
 ghost use Rattle.pointer_modes.specs.Types.{ctype as ctype_of};
 ghost use Rattle.region_typing_rules.specs.Verdicts.{Passes};
-ghost use Rattle.region_typing_rules.specs.Expressions.{have_one_base as one_base, is_single as single_type, is_row as row_type, is_single_value as single_value, lacks_bounds as lacking_bounds, without_ptr as without_ptr_in};
+ghost use Rattle.region_typing_rules.specs.Types.{is_single as single_type, is_row as row_type};
+ghost use Rattle.region_typing_rules.specs.Expressions.{have_one_base as one_base, is_single_value as single_value, lacks_bounds as lacking_bounds, without_ptr as without_ptr_in};
 ghost use Rattle.region_typing_scope.specs.Answering.{Answers};
 ghost use Rattle.region_typing_scope.specs.Typed.{typed};
 ghost use Rattle.region_typing_expressions.specs.Comparing.{is_number_value as number_value_of, is_pointer_value as pointer_value_of, is_comparable_value, are_comparable_values as comparable_values, is_row_value as row_value, based_value as based_value_of, are_related_values as related_values};

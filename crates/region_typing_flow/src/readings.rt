@@ -10,7 +10,7 @@ ghost use Rattle.ckc_core.specs.declared.program.PointerBounds.{PointerBounds as
 ghost use Rattle.ckc_core.specs.declared.program.Site.{Site};
 ghost use Rattle.ckc_core.specs.Core.{Expression, Arithmetic, Local, Sum, expression as expression_of};
 ghost use Rattle.ckc_core.specs.Meaning.{bounds_of as bounds_at_node};
-ghost use Rattle.region_typing_rules.specs.Readings.{term as term_of, constant as constant_of, against as against_of, sum_bounds as sum_bounds_of, own_bounds as own_bounds_of, based_bounds as based_bounds_of, pointer_local as pointer_local_of, behind_local as behind_local_of};
+ghost use Rattle.region_typing_rules.specs.Readings.{term as term_of, constant as constant_of, against as against_of, sum_bounds as sum_bounds_of, own_bounds as own_bounds_of, based_bounds as based_bounds_of, with_base as with_base_of, pointer_local as pointer_local_of, behind_local as behind_local_of};
 ghost use Rattle.region_typing_flow.specs.Conditions.{IsLocalBelow};
 ghost use Rattle.region_typing_flow.specs.Views.{behind, constant_behind};
 
@@ -127,14 +127,31 @@ pub fn local_bounds(local: u32, noted: Option<PointerBounds>) -> Option<Bounds>
     }
 }
 
-/// The bounds from a base that a pointer has beside those at its node: a local pointer counts as its own base, and a sum has
-/// those of its pointer.
+// The bounds at a node, where they have a base.
+fn with_base(noted: Option<PointerBounds>) -> Option<Bounds>
+    ensures { result ≡ with_base_of (option_map (λ b. b.bounds) noted) }
+{
+    match noted {
+        None => None,
+        Some(noted) => {
+            if noted.bounds.base.is_some() {
+                Some(noted.bounds)
+            } else {
+                None
+            }
+        }
+    }
+}
+
+/// The bounds from a base that a pointer has beside those at its node: a local pointer counts as its own base, a sum has those
+/// of its pointer, and a cast has its own, where they have a base.
 pub fn based_bounds(value: &Expr) -> Option<Bounds>
     ensures { result ≡ based_bounds_of (expression_of value.now) }
 {
     match value {
         Expr::Local { local, bounds } => local_bounds(*local, *bounds),
         Expr::Sum { pointer, .. } => based_bounds(pointer),
+        Expr::Cast { bounds, .. } => with_base(*bounds),
         _ => None,
     }
 }

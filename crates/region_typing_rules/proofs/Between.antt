@@ -41,34 +41,26 @@ use Rattle.region_typing_rules.proofs.Told.{told_here, told_is}
 
 -- ---- limited bounds
 
-limited_if : (test : Bool) (a b : Option Bounds) → AreLimitedIf a → AreLimitedIf b → AreLimitedIf (cond test a b)
-limited_if true a b h k = h
-limited_if false a b h k = k
-
-bare_if : (test : Bool) (a b : Option Bounds) → a ≡ None → b ≡ None → cond test a b ≡ None
-bare_if true a b h k = h
-bare_if false a b h k = k
+one_of : (test : Bool) (a b : Option Bounds) → a ≡ b → cond test a b ≡ b
+one_of true a b e = e
+one_of false a b e = refl
 
 limited_met : (f g : Knowledge) → length g.held ≡ length f.held → ((p : ℕ) → IsLimited (held_at f.held p)) → (p : ℕ) → IsLimited (held_at (met f g).held p)
 limited_met f g same h p =
     let k = h p in
     subst IsLimited (sym (joined_at f.held g.held (sym same) p))
-    (record {
-      declared = k.declared;
-      bounds = limited_if (same_bounds (held_at f.held p).bounds (held_at g.held p).bounds) (held_at f.held p).bounds (held_at f.held p).declared k.bounds k.declared;
-      bare = λ none. bare_if (same_bounds (held_at f.held p).bounds (held_at g.held p).bounds) (held_at f.held p).bounds (held_at f.held p).declared (k.bare none) none;
-    })
+    (record { declared = k.declared; in_force = one_of (same_bounds (held_at f.held p).bounds (held_at g.held p).bounds) (held_at f.held p).bounds (held_at f.held p).declared k.in_force })
 
 limited_same : (h k : Held) → k.declared ≡ h.declared → k.bounds ≡ h.bounds → IsLimited h → IsLimited k
-limited_same h k declared bounds it = record { declared = subst AreLimitedIf (sym declared) it.declared; bounds = subst AreLimitedIf (sym bounds) it.bounds; bare = λ none. bounds ∙ it.bare (sym declared ∙ none) }
+limited_same h k declared bounds it = record { declared = subst AreLimitedIf (sym declared) it.declared; in_force = bounds ∙ (it.in_force ∙ sym declared) }
 
 limited_reset : (h : Held) → IsLimited h → IsLimited (with_declared h)
-limited_reset h it = record { declared = it.declared; bounds = it.declared; bare = λ none. none }
+limited_reset h it = record { declared = it.declared; in_force = refl }
 
 limited_head : (changed : List ℕ) (f : Knowledge) → ((p : ℕ) → IsLimited (held_at f.held p)) → (p : ℕ) → IsLimited (held_at (at_head changed f).held p)
 limited_head changed f h p =
     let at = head_at changed f p in
-    record { declared = subst AreLimitedIf (sym at.declared) (h p).declared; bounds = subst AreLimitedIf (sym at.bounds) (h p).declared; bare = λ none. at.bounds ∙ (sym at.declared ∙ none) }
+    record { declared = subst AreLimitedIf (sym at.declared) (h p).declared; in_force = at.bounds ∙ sym at.declared }
 
 -- ---- declared bounds
 
@@ -138,7 +130,7 @@ pub met_beside : (vars : ℕ) (f g : Knowledge) → IsBetween vars f → IsBetwe
 met_beside vars f g a b = (flows_stay_alike.0 f).join g (same_lengths vars f g a b)
 
 fresh_limited : (declared : Option Bounds) → AreLimitedIf declared → IsLimited (fresh declared)
-fresh_limited declared h = record { declared = h; bounds = h; bare = λ none. none }
+fresh_limited declared h = record { declared = h; in_force = refl }
 
 abbrev Limited : ℕ → Held → Type 0
 Limited q h = IsLimited h
@@ -156,7 +148,7 @@ between_left vars x f b = record {
   flow = (are_kept.steps f b.flow).leave x;
   size = b.size;
   settled = (flows_stay_alike.1 f).leave x b.settled;
-  limited = each_put Limited (map (after_leaving x) f.held) x no_pointer (record { declared = tt; bounds = tt; bare = λ none. refl })
+  limited = each_put Limited (map (after_leaving x) f.held) x no_pointer (record { declared = tt; in_force = refl })
       (each_map Limited (after_leaving x) refl f.held (λ q. leaving IsLimited (held_at f.held q) x (b.limited q) (limited_reset (held_at f.held q) (b.limited q))));
 }
 
@@ -257,11 +249,10 @@ between_same vars n f g (Some h) same b = (b.0, record { within = λ p low. b.1.
 
 -- ---- in the midst of an assignment
 
--- bounds of a pointer to which nothing happened are limited, and so are those that are declared for it
+-- declared bounds are limited, and of a pointer to which nothing happened they are in force
 pub record IsLimitedAmid (h : Held) : Type 0 where
   pub declared : AreLimitedIf h.declared
-  pub bounds : h.mark ≡ marks.Settled → AreLimitedIf h.bounds
-  pub bare : h.mark ≡ marks.Settled → h.declared ≡ None → h.bounds ≡ None
+  pub in_force : h.mark ≡ marks.Settled → h.bounds ≡ h.declared
 
 -- a flow in which declared bounds are as in another one
 pub record IsAmid (f g : Knowledge) : Type 0 where
@@ -270,7 +261,7 @@ pub record IsAmid (f g : Knowledge) : Type 0 where
   pub limited : (p : ℕ) → IsLimitedAmid (held_at g.held p)
 
 amid_limited : (h : Held) → IsLimited h → IsLimitedAmid h
-amid_limited h it = record { declared = it.declared; bounds = λ _. it.bounds; bare = λ _. it.bare }
+amid_limited h it = record { declared = it.declared; in_force = λ _. it.in_force }
 
 pub amid_here : (vars : ℕ) (f : Knowledge) → IsBetween vars f → IsAmid f f
 amid_here vars f b = record { flow = b.flow; beside = record { vars = refl; declared = λ p. refl }; limited = λ p. amid_limited (held_at f.held p) (b.limited p) }
@@ -278,8 +269,8 @@ amid_here vars f b = record { flow = b.flow; beside = record { vars = refl; decl
 -- ---- one pointer
 
 moved_amid : (o : Option Bounds) (h : Held) → AreLimitedIf h.declared → IsLimitedAmid (moved_to o h)
-moved_amid None h d = record { declared = d; bounds = λ e. absurd (cc); bare = λ e. absurd (cc) }
-moved_amid (Some b) h d = record { declared = d; bounds = λ e. absurd (cc); bare = λ e. absurd (cc) }
+moved_amid None h d = record { declared = d; in_force = λ e. absurd (cc) }
+moved_amid (Some b) h d = record { declared = d; in_force = λ e. absurd (cc) }
 
 cond_amid : (test : Bool) (h k : Held) → IsLimitedAmid h → IsLimitedAmid k → IsLimitedAmid (cond test h k)
 cond_amid true h k a b = a
@@ -295,15 +286,15 @@ shift_amid x c h a = where_amid h.bounds (is_named x) (λ b. moved_to (moved_bac
 number_amid : (x : ℕ) (assigned : List Bool) (h : Held) → IsLimitedAmid h → IsLimitedAmid (after_number x assigned h)
 number_amid x assigned h a =
     where_amid h.bounds (is_named x) (λ b. dropped assigned h) h a
-    (λ b. cond_amid _ (with_declared h) (lost h) (record { declared = a.declared; bounds = λ e. a.declared; bare = λ e none. none }) (record { declared = a.declared; bounds = λ e. tt; bare = λ e none. refl }))
+    (λ b. cond_amid _ (with_declared h) (lost h) (record { declared = a.declared; in_force = λ e. refl }) (record { declared = a.declared; in_force = λ e. absurd (cc) }))
 
 base_amid : (p : ℕ) (moved : Option ℤ) (h : Held) → IsLimitedAmid h → IsLimitedAmid (after_base p moved h)
 base_amid p moved h a = where_amid h.bounds (λ b. is_var p b.base) (λ b. moved_to (moved_off moved b) h) h a (λ b. moved_amid (moved_off moved b) h a.declared)
 
 assigned_one_amid : (p : ℕ) (from : Source) (moved : Option ℤ) (known : Bool) (h : Held) → IsLimitedAmid h → IsLimitedAmid (assigned_from p from moved known h)
-assigned_one_amid p sources.Null moved known h a = record { declared = a.declared; bounds = λ e. absurd (cc); bare = λ e. absurd (cc) }
-assigned_one_amid p sources.Lost moved known h a = record { declared = a.declared; bounds = λ e. absurd (cc); bare = λ e. absurd (cc) }
-assigned_one_amid p (sources.Known b) moved known h a = record { declared = a.declared; bounds = λ e. absurd (cc); bare = λ e. absurd (cc) }
+assigned_one_amid p sources.Null moved known h a = record { declared = a.declared; in_force = λ e. absurd (cc) }
+assigned_one_amid p sources.Lost moved known h a = record { declared = a.declared; in_force = λ e. absurd (cc) }
+assigned_one_amid p (sources.Known b) moved known h a = record { declared = a.declared; in_force = λ e. absurd (cc) }
 
 abbrev Amid : ℕ → Held → Type 0
 Amid q h = IsLimitedAmid h
@@ -416,19 +407,13 @@ pub settling_promises : (f : Knowledge) (span : Span) → Promises (IsSettling f
 settling_promises f span = settled_promises (first_found f.facts f.held) f span refl
 
 settled_limited : (h : Held) → IsLimitedAmid h → IsLimited (settled_pointer h)
-settled_limited h a = record { declared = a.declared; bounds = by h.mark refl; bare = bare h.mark refl }
+settled_limited h a = record { declared = a.declared; in_force = by h.mark refl }
   where
-    bare : (mark : Mark) → h.mark ≡ mark → h.declared ≡ None → cond (is_settled mark) h.bounds h.declared ≡ None
-    bare marks.Settled e none = a.bare e none
-    bare marks.Changed e none = none
-    bare marks.Lost e none = none
-    bare marks.WasNull e none = none
-
-    by : (mark : Mark) → h.mark ≡ mark → AreLimitedIf (cond (is_settled mark) h.bounds h.declared)
-    by marks.Settled e = a.bounds e
-    by marks.Changed e = a.declared
-    by marks.Lost e = a.declared
-    by marks.WasNull e = a.declared
+    by : (mark : Mark) → h.mark ≡ mark → cond (is_settled mark) h.bounds h.declared ≡ h.declared
+    by marks.Settled e = a.in_force e
+    by marks.Changed e = refl
+    by marks.Lost e = refl
+    by marks.WasNull e = refl
 
 pub settled_beside : (f g k : Knowledge) → IsAmid f g → IsSettling g k → AreBeside f k
 settled_beside f g k amid is =

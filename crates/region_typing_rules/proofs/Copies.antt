@@ -15,14 +15,15 @@ use Rattle.ckc_core.specs.Steps.{low_byte}
 use Rattle.ckc_names_rules.specs.declared.given.Given.{Given}
 use Rattle.ckc_text.specs.declared.code.Code.TheVariants.{E13}
 use Rattle.region_typing_rules.specs.Verdicts.{picked}
-use Rattle.region_typing_rules.specs.Items.{negative, unsigned_number, signed_number, strides_of, cell_types, numbered_cells, cells_with, Walked, Missing, Written, Constants, zeros_of, are_zeros, cells_listed, cells_or_break, object_cells, count_of}
+use Rattle.region_typing_rules.specs.Cells.{strides_of, cell_types, numbered_cells, cells_with}
+use Rattle.region_typing_rules.specs.Items.{negative, unsigned_number, signed_number, Walked, Missing, Written, Constants, zeros_of, are_zeros, cells_listed, cells_or_break, object_cells, count_of}
 use Rattle.bounds_flow_meaning.specs.Rows.{Slot, slots, HasRow}
 use Rattle.region_typing_rules.specs.Typed.{IsScalar, AreRows}
 use Rattle.region_typing_rules.specs.Lowerable.{cells_size, IsRoomy}
 use Rattle.region_typing_rules.proofs.Verdicts.{Promises, needs_promises, promised_so, Extends}
 use Rattle.region_typing_rules.proofs.Layouts.{IsStart, AreCellsOf, AreSmall, IsWalked, behind_cell, scalar_width, bytes_kept, row_kept, strides_whole, cells_row, whole_size, negative_fits, int_of, char_of, zero_cells, written_promises}
 
-abbrev shape_of : List Initial → Shape
+abbrev pub shape_of : List Initial → Shape
 shape_of cells = shape (object_block cells)
 
 -- ---- cells in front of others
@@ -43,11 +44,11 @@ type_front (x ∷ xs) ys byte t h =
     by false false (Some n) None again h = let none = again h in absurd (cc)
     by false false (Some n) (Some k) again h = again h
 
-size_append : (xs ys : List Initial) → cells_size (xs ++ ys) ≡ cells_size xs + cells_size ys
+pub size_append : (xs ys : List Initial) → cells_size (xs ++ ys) ≡ cells_size xs + cells_size ys
 size_append [] ys = omega arith
 size_append (x ∷ xs) ys = omega (arith, size_append xs ys)
 
-row_front : (structs : List Structure) (t : CType) (xs ys : List Initial) (byte : ℕ) → HasRow structs (shape_of xs) byte t → HasRow structs (shape_of (xs ++ ys)) byte t
+pub row_front : (structs : List Structure) (t : CType) (xs ys : List Initial) (byte : ℕ) → HasRow structs (shape_of xs) byte t → HasRow structs (shape_of (xs ++ ys)) byte t
 row_front structs t xs ys byte h = record {
   stands = record { there = h.stands.there; each = λ k slot e. type_front xs ys (byte + slot.offset) slot.type (h.stands.each k slot e); open_ended = refl };
   room = omega (arith, h.room, strides_whole xs, strides_whole (xs ++ ys), size_append xs ys);
@@ -66,7 +67,7 @@ type_behind (x ∷ xs) ys byte all =
     ap (type_at (shape_of (x ∷ (xs ++ ys)))) same
     ∙ (behind_cell x.type (shape_of (xs ++ ys)).types x.stride (shape_of (xs ++ ys)).strides false (cells_size xs + byte) wide ∙ type_behind xs ys byte all.1)
 
-row_behind : (structs : List Structure) (t : CType) (xs ys : List Initial) (byte : ℕ) → AllByRecursion IsRoomy xs → HasRow structs (shape_of ys) byte t → HasRow structs (shape_of (xs ++ ys)) (cells_size xs + byte) t
+pub row_behind : (structs : List Structure) (t : CType) (xs ys : List Initial) (byte : ℕ) → AllByRecursion IsRoomy xs → HasRow structs (shape_of ys) byte t → HasRow structs (shape_of (xs ++ ys)) (cells_size xs + byte) t
 row_behind structs t xs ys byte all h = record {
   stands = record { there = h.stands.there; each = each; open_ended = refl };
   room = omega (arith, h.room, strides_whole ys, strides_whole (xs ++ ys), size_append xs ys);
@@ -84,7 +85,7 @@ pub data Copies (structs : List Structure) (t : CType) : ℕ → List Initial �
   no_copy : Copies structs t 0 []
   one_more : {n : ℕ} {cells others : List Initial} → AreCellsOf structs t cells → Copies structs t n others → Copies structs t (suc n) (cells ++ others)
 
-all_beside : (P : Initial → Type 0) (xs ys : List Initial) → AllByRecursion P xs → AllByRecursion P ys → AllByRecursion P (xs ++ ys)
+pub all_beside : (P : Initial → Type 0) (xs ys : List Initial) → AllByRecursion P xs → AllByRecursion P ys → AllByRecursion P (xs ++ ys)
 all_beside P [] ys first second = second
 all_beside P (x ∷ xs) ys first second = (first.0, all_beside P xs ys first.1 second)
 

@@ -31,11 +31,10 @@ use Rattle.bounds_flow_meaning.proofs.Validity.{both_true, int_from, int_to}
 use Rattle.ckc_core.specs.States.{same_mode, same_type}
 use Rattle.region_typing_rules.specs.Verdicts.{Verdict, Passes, Stops, passing, needs, picked}
 use Rattle.region_typing_rules.specs.Scopes.{Scope}
-use Rattle.region_typing_rules.specs.Types.{type_named}
-use Rattle.region_typing_rules.specs.Expressions.{is_row}
+use Rattle.region_typing_rules.specs.Types.{type_named, is_row}
 use Rattle.region_typing_rules.specs.Knowing.{local_number}
 use Rattle.region_typing_rules.specs.KnownIsSo.{AreLimited}
-use Rattle.region_typing_rules.specs.DeclaredBounds.{Bounded, local_sum, name_sum, operation_sum, sum_written, all_written, how_written, normal_bounds, bounded_of, declared_bounds}
+use Rattle.region_typing_rules.specs.DeclaredBounds.{Bounded, local_sum, name_sum, operation_sum, sum_written, all_written, parts_written, how_written, normal_bounds, bounded_of, declared_bounds}
 use Rattle.region_typing_rules.specs.DeclaredFormed.{IsFormedIf, DeclaredFormed}
 use Rattle.region_typing_rules.proofs.Verdicts.{Promises, passing_promises, needs_promises, anything_promised, promised_so, promise_kept}
 use Rattle.region_typing_rules.proofs.SameTypes.{mode_equal, same_equal}
@@ -264,6 +263,13 @@ module _ (s : Scope) (p : Bounded) where
   other_formed (Passes value) = tt
   other_formed (Stops stop) = tt
 
+  parts_formed : (b : e.Bounds) → Promises IsWritten (parts_written s p b)
+  parts_formed (e.Count count span) = other_formed (sum_written s p count)
+  parts_formed (e.ByteCount count span) = other_formed (sum_written s p count)
+  parts_formed (e.Unknown span) = tt
+  parts_formed (e.Range low high span) =
+      passing_promises (λ a. Unit {0}) IsWritten (sum_written s p low) (λ a. passing (sum_written s p high) (λ part. Passes sums.Other)) (anything_promised (sum_written s p low)) (λ a h. other_formed (sum_written s p high))
+
   mutual
     written_formed : (x : Expression) → Promises IsWritten (sum_written s p x)
     written_formed (e.Number value span) = tt
@@ -273,10 +279,12 @@ module _ (s : Scope) (p : Bounded) where
     written_formed (e.Call callee arguments span) = all_formed arguments
     written_formed (e.SizeOf type span) =
         passing_promises (λ t. Unit {0}) IsWritten (type_named s type) (λ t. Passes (sums.Size (size_of s.structs t) (same_type p.element t))) (anything_promised (type_named s type)) (λ t h. tt)
-    written_formed (e.Cast word type operand span) = tt
-    written_formed (e.BoundedCast word type operand bounds span) = tt
-    written_formed (e.Malloc word type size span) = tt
-    written_formed (e.Calloc word type count size span) = tt
+    written_formed (e.Cast word type operand span) = other_formed (sum_written s p operand)
+    written_formed (e.BoundedCast word type operand bounds span) =
+        passing_promises (λ a. Unit {0}) IsWritten (sum_written s p operand) (λ a. parts_written s p bounds) (anything_promised (sum_written s p operand)) (λ a h. parts_formed bounds)
+    written_formed (e.Malloc word type size span) = other_formed (sum_written s p size)
+    written_formed (e.Calloc word type count size span) =
+        passing_promises (λ a. Unit {0}) IsWritten (sum_written s p count) (λ a. passing (sum_written s p size) (λ part. Passes sums.Other)) (anything_promised (sum_written s p count)) (λ a h. other_formed (sum_written s p size))
     written_formed (e.Index base index span) =
         passing_promises (λ a. Unit {0}) IsWritten (sum_written s p base) (λ a. passing (sum_written s p index) (λ part. Passes sums.Other)) (anything_promised (sum_written s p base)) (λ a h. other_formed (sum_written s p index))
     written_formed (e.Dot base member span) = other_formed (sum_written s p base)

@@ -32,7 +32,7 @@ use Rattle.region_typing_rules.specs.Knowing.{assigned_by, settling, knowing}
 use Rattle.region_typing_rules.specs.Statements.{Walked, both, assignment, assigning, zero_value, with_local, initialised, first_value, declared, bounded_local, declarator, declarators, declaration, optional_step, first_part}
 use Rattle.region_typing_rules.specs.DeclaredBounds.{declared_bounds}
 use Rattle.region_typing_rules.specs.DeclaredFormed.{IsFormedIf}
-use Rattle.region_typing_rules.specs.KnownIsSo.{WhereGiven, AreLimited, AreLimitedIf, declared_at, HoldsAlike, FitsAlike, IsKnown, IsDeclared, IsWalk, HasLocals}
+use Rattle.region_typing_rules.specs.KnownIsSo.{WhereGiven, AreLimitedIf, declared_at, HoldsAlike, FitsAlike, IsKnown, IsDeclared, IsWalk, HasLocals}
 use Rattle.region_typing_rules.proofs.DeclaredBounds.{declared_formed, formed_below}
 use Rattle.region_typing_rules.proofs.Sure.{sure_further}
 use Rattle.region_typing_rules.proofs.Terms.{formed_later, so_both}
@@ -120,8 +120,8 @@ module _ (frame : Frame) (types : List CType) (all_scalar : AllByRecursion IsSca
   are_moving n low knots g w reaches few typed.nothing s at = tt
   are_moving n low knots g w reaches few (typed.set_local {k = x} {t = t} {e = e} found h) s at = λ c is.
       so_both (IsBehind frame.structs g.locals e) (IsGivenTo frame.structs (length g.locals) c e) (value true running (ticking n) e s)
-      (behind_so frame budget n sandbox trusted (ticking n) (knots n (omega arith)) low types g w.between.flow reaches h s (at.known, at.kept))
-      (given_to_so frame budget n sandbox trusted (ticking n) (knots n (omega arith)) low types g w.between.flow reaches c (subst (HasType frame types g e) (same_type t c (sym found ∙ reaches x c is)) h) s (at.known, at.kept))
+      (behind_so frame budget n sandbox trusted (ticking n) (knots n (omega arith)) low types g w.between.flow (few_vars g w) reaches h s (at.known, at.kept))
+      (given_to_so frame budget n sandbox trusted (ticking n) (knots n (omega arith)) low types g w.between.flow (few_vars g w) reaches c (subst (HasType frame types g e) (same_type t c (sym found ∙ reaches x c is)) h) s (at.known, at.kept))
     where
       same_type : (a b : CType) → Some a ≡ Some b → a ≡ b
       same_type a b q = cc
@@ -139,7 +139,7 @@ module _ (frame : Frame) (types : List CType) (all_scalar : AllByRecursion IsSca
   simple_goes g w x plain reaches simple n knots low s at =
       runs_further frame budget n low types (λ flow t. IsNext flow t × OnNext (HoldsAlike frame.structs (length g.locals) (assigned_by g.locals x g.flow)) flow t) (Onward (HoldsAlike frame.structs (length g.locals) (assigned_by g.locals x g.flow))) (effect true running (ticking n) x s)
       (runs_both frame budget n low types IsNext (OnNext (HoldsAlike frame.structs (length g.locals) (assigned_by g.locals x g.flow))) (effect true running (ticking n) x s)
-      (simple_runs frame budget n sandbox trusted (ticking n) (knots n (omega arith)) low types g w.between.flow reaches simple s (at.known, at.kept))
+      (simple_runs frame budget n sandbox trusted (ticking n) (knots n (omega arith)) low types g w.between.flow (few_vars g w) reaches simple s (at.known, at.kept))
       (plain_so true running (ticking n) (moving n) frame.structs g.locals g.flow w.between.flow (few_vars g w) x plain s (are_moving n low knots g w reaches (few_vars g w) simple s at) (has_of n low g s reaches at.kept) (λ t alike. (at.known t alike).holds)))
       (onward_of (HoldsAlike frame.structs (length g.locals) (assigned_by g.locals x g.flow)))
 
@@ -163,14 +163,10 @@ module _ (frame : Frame) (types : List CType) (all_scalar : AllByRecursion IsSca
 
   -- a pointer whose bounds are in force has elements, and its bounds are limited
   pointers_known : (g : Scope) → IsWalk vars g → (k : ℕ) (b : Bounds) → (held_at g.flow.held k).bounds ≡ Some b → IsPointing g k b
-  pointers_known g w k b e = by (declared_at g.flow k) refl
-    where
-      limited : AreLimited b
-      limited = subst AreLimitedIf e (w.between.limited k).bounds
-
-      by : (o : Option Bounds) → declared_at g.flow k ≡ o → IsPointing g k b
-      by None none = absurd (let q : None ≡ Some b = sym ((w.between.limited k).bare none) ∙ e in cc)
-      by (Some d) declared = let it = w.declared k d declared in record { mode = it.mode; element = it.element; own = it.own; some = it.some; limited = limited }
+  pointers_known g w k b e =
+      let declared : declared_at g.flow k ≡ Some b = sym (w.between.limited k).in_force ∙ e in
+      let it = w.declared k b declared in
+      record { mode = it.mode; element = it.element; own = it.own; some = it.some; limited = subst AreLimitedIf declared (w.between.limited k).declared; ints = it.ints; base = it.base }
 
   -- what is known of the file where a walk stands
   pub knows_here : (g : Scope) → IsWalk vars g → KnowsFile frame g → Reaching g → Knows frame types g
@@ -338,7 +334,7 @@ module _ (frame : Frame) (types : List CType) (all_scalar : AllByRecursion IsSca
     zero_goes reaches n knots low s at =
         sure_further (λ flow u. (IsNext flow u × (IsMovedTo (λ y. y == length g.locals) s u × IsZero (length g.locals) t u)) × IsKept frame budget n low types u) (λ flow u. Onward IsEntered flow u × IsKept frame budget n low types u) (effect true running (ticking n) zero s)
         (runs_both frame budget n low types IsNext (λ (flow : Flow) (u : State). IsMovedTo (λ y. y == length g.locals) s u × IsZero (length g.locals) t u) (effect true running (ticking n) zero s)
-        (simple_runs frame budget n sandbox trusted (ticking n) (knots n (omega arith)) low types g w.between.flow (before reaches) (zero_in g reaches) s (at.known, at.kept))
+        (simple_runs frame budget n sandbox trusted (ticking n) (knots n (omega arith)) low types g w.between.flow (few_vars g w) (before reaches) (zero_in g reaches) s (at.known, at.kept))
         (so_both (λ (flow : Flow) (u : State). IsMovedTo (λ y. y == length g.locals) s u) (λ (flow : Flow) (u : State). IsZero (length g.locals) t u) (effect true running (ticking n) zero s)
         (effect_moves true running (ticking n) (moving n) (λ y. y == length g.locals) zero s (itself_equal (length g.locals))) (zero_set (length g.locals) t n s scalar)))
         (λ flow u k.

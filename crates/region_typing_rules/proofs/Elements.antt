@@ -1,6 +1,6 @@
 -- Pointers that are valid with the bounds at their nodes: what accesses and sums come to.
 use Rattle.std.proofs.Common.{◌≡◌, ℕ, zero, suc, ◌+◌, ◌*◌, ◌<◌, ◌≤◌, ℤ, pos, negsuc, neg_ℤ, ◌+ℤ◌, ◌*ℤ◌, ◌≤ℤ◌, Bool, true, false, List, Option, Some, None, refl, sym, ap, ◌∙◌, subst, arith}
-use Rattle.std.specs.Prelude.{◌&&◌, is_some, slice_get, int_le, int_lt, nat_le, sum}
+use Rattle.std.specs.Prelude.{◌&&◌, is_some, option_map, slice_get, int_le, int_lt, nat_le, sum}
 use Rattle.std.proofs.lemmas.Int.{ints}
 use Rattle.std.proofs.lemmas.Bool.{and_from}
 use Rattle.std.proofs.lemmas.Bool.Decides.{nat_tests}
@@ -23,7 +23,7 @@ use Rattle.ckc_core.specs.States.{Value, Number, Null, At, Block, Local, State, 
 use Rattle.ckc_core.specs.Bounds.{Ends, base_byte, block_size, ends_at, ends_from, is_valid, lie_within, term_value}
 use Rattle.ckc_core.specs.Pointers.{distance, lies_below, lies_up_to, reaches}
 use Rattle.region_typing_rules.specs.Verdicts.{picked}
-use Rattle.region_typing_rules.specs.Readings.{against, based_bounds, constant, from_base, toward}
+use Rattle.region_typing_rules.specs.Readings.{against, based_bounds, constant, from_base, toward, with_base}
 use Rattle.region_typing_rules.specs.Typed as typed
 use Rattle.region_typing_rules.specs.Expressions.{one_element, row_of}
 use Rattle.region_typing_rules.specs.Typed.{AreRows, AreSumBounds, HasValue, IsBoundedBy}
@@ -154,6 +154,14 @@ local_base k (Some p) d h = let base = own_base k p.bounds in (base.0, ap (λ (b
     same_bounds : (a b : Bounds) → Some a ≡ Some b → a ≡ b
     same_bounds a b q = cc
 
+written_base : (o : Option Bounds) (d : Bounds) → with_base o ≡ Some d → (q : ℕ) × (d.base ≡ Some q)
+written_base None d h = absurd (cc)
+written_base (Some b) d h = by b.base refl h
+  where
+    by : (o : Option ℕ) → b.base ≡ o → picked (is_some o) (Some b) None ≡ Some d → (q : ℕ) × (d.base ≡ Some q)
+    by None e h = absurd (cc)
+    by (Some q) e h = let same : b ≡ d = cc in (q, ap (λ (b : Bounds). b.base) (sym same) ∙ e)
+
 -- bounds beside those at the node count from a base
 pub based_has_base : (e : core.Expression) (d : Bounds) → based_bounds e ≡ Some d → (q : ℕ) × (d.base ≡ Some q)
 based_has_base (core.Number number) d h = absurd (cc)
@@ -175,7 +183,7 @@ based_has_base core.NextInput d h = absurd (cc)
 based_has_base (core.Sum pointer direction number site bounds) d h = based_has_base pointer d h
 based_has_base (core.Order comparison left right site) d h = absurd (cc)
 based_has_base (core.Allocate count element bounds) d h = absurd (cc)
-based_has_base (core.Cast pointer bounds) d h = absurd (cc)
+based_has_base (core.Cast pointer bounds) d h = written_base (option_map (λ (b : PointerBounds). b.bounds) bounds) d h
 
 -- a pointer in a block, and the one that is so many elements further on, or back
 pub record IsSum (structs : List Structure) (t : CType) (direction : Direction) (z : ℤ) (v w : Value) (s : State) : Type 0 where

@@ -48,7 +48,7 @@ entry_between vars few = record {
   flow = are_kept.entry vars few;
   size = refl;
   settled = record { marks = λ p. ap (λ h. h.mark) (none_held vars p); assigned = none_assigned vars };
-  limited = λ p. subst IsLimited (sym (none_held vars p)) (record { declared = tt; bounds = tt; bare = λ none. refl });
+  limited = λ p. subst IsLimited (sym (none_held vars p)) (record { declared = tt; in_force = refl });
 }
 
 limited_few : (limit n : ℕ) (test : Bool) → nat_lt limit n ≡ test → picked test limit n ≤ limit

@@ -1,14 +1,20 @@
 -- Expressions that break no rule have types.
-use Rattle.std.proofs.Common.{◌≡◌, ℕ, suc, ◌+◌, ◌^◌, Bool, true, false, List, [], ◌∷◌, map, replicate, length, Option, Some, None, pos, ℤ, ◌+ℤ◌, ◌<◌, refl, sym, ap, ◌∙◌, subst, arith, ⊎_elim, inl}
+use Rattle.std.proofs.Common.{◌≤◌, ◌≡◌, ℕ, suc, ◌+◌, ◌^◌, Bool, true, false, List, [], ◌∷◌, map, replicate, length, Option, Some, None, pos, ℤ, ◌+ℤ◌, ◌<◌, refl, sym, ap, ◌∙◌, subst, arith, ◌⊎◌, ⊎_elim, inl, inr}
 use Rattle.std.specs.Prelude.{◌==◌, slice_get, nat_lt, not, ◌&&◌, ◌||◌, cond, is_some}
 use Rattle.std.specs.List.{AllByRecursion}
-use Rattle.std.proofs.lemmas.Bool.{and_parts, or_cases, eqb-true}
+use Rattle.std.proofs.lemmas.Bool.{and_parts, or_cases, eqb-true, ltb-true}
 use Rattle.ckc_text.specs.declared.place.Span.{Span}
 use Rattle.ckc_text.specs.declared.code.Code.TheVariants.{E04, E13, E14, E17, E18, E19, E26}
 use Rattle.ckc_tree.specs.declared.expr.UnaryOperator.{UnaryOperator}
 use Rattle.ckc_tree.specs.declared.expr.UnaryOperator.TheVariants as unary
 use Rattle.ckc_tree.specs.declared.expr.BinaryOperator.{BinaryOperator}
 use Rattle.ckc_tree.specs.declared.expr.BinaryOperator.TheVariants as binary
+use Rattle.ckc_tree.specs.declared.expr.CastWord.{CastWord}
+use Rattle.ckc_tree.specs.declared.expr.CastWord.TheVariants as cast_words
+use Rattle.ckc_tree.specs.declared.expr.MallocWord.{MallocWord}
+use Rattle.ckc_tree.specs.declared.expr.MallocWord.TheVariants as malloc_words
+use Rattle.ckc_tree.specs.declared.expr.CallocWord.{CallocWord}
+use Rattle.ckc_tree.specs.declared.expr.CallocWord.TheVariants as calloc_words
 use Rattle.ckc_tree.specs.Expressions as e
 use Rattle.ckc_tree.specs.Expressions.{Expression, Expressions}
 use Rattle.pointer_modes.specs.declared.ctype.Mode.{Mode}
@@ -40,37 +46,48 @@ use Rattle.bounds_exprs.specs.Terms.{is_within, term_limit, within_limit}
 use Rattle.bounds_exprs.specs.Changes.{between, moved_by}
 use Rattle.subsumption.specs.Facts.{IsBelow}
 use Rattle.subsumption.specs.ClosedTables.{ClosedTable}
-use Rattle.bounds_flow.specs.Conditions.{AreEndsBelow, AreBoundsBelow, IsTermBelow}
-use Rattle.bounds_flow.specs.Flows.{held_at}
+use Rattle.bounds_flow.specs.Conditions.{IsFlow, AreEndsBelow, AreBoundsBelow, IsTermBelow}
+use Rattle.bounds_flow.specs.Flows.{Knowledge, held_at}
 use Rattle.bounds_flow.proofs.Variables.{held_below}
 use Rattle.bounds_flow.specs.Settling.{Finding, Meets, WasLost, Falls, ends_find, bounds_find}
-use Rattle.bounds_flow_meaning.specs.Holding.{IsValid, HasSize, target_size, types_of}
+use Rattle.bounds_flow_meaning.specs.Holding.{IsValid, HasSize, at_node, target_size, types_of}
 use Rattle.bounds_flow_meaning.specs.Rows.{slots}
 use Rattle.bounds_flow_meaning.proofs.Numbers.{type_there}
 use Rattle.bounds_flow_meaning.proofs.AllSteps.{flows_hold}
-use Rattle.region_typing_rules.specs.Verdicts.{Verdict, Passes, Stops, passing, picked}
+use Rattle.region_typing_rules.specs.Verdicts.{Verdict, Passes, Stops, passing, needs, picked}
 use Rattle.region_typing_rules.specs.Scopes.{Scope, Signature, WrittenBounds, bounds_in, Named, Local, Object, Array, Nothing, named, function_named, members_named}
-use Rattle.region_typing_rules.specs.Types.{type_named, is_number, is_pointer, are_comparable, kind_converts, pointer_converts, converts}
-use Rattle.region_typing_rules.specs.Readings.{constant, against, sum_bounds, own_bounds, from_base, based_bounds, is_null, is_pointer_type, pointer_local, term}
-use Rattle.region_typing_rules.specs.Expressions.{Places, OfLocal, OfCell, Standing, ForNothing, ForArray, For, Typed, Value, AStruct, Called, Gives, GivesNothing, site_at, bounds_by, bounds_at, noted_if, with_bounds, one_element, sum_node, bounded, number, at_place, in_force, local_typed, name_typed, member_place, member_from, offset_among, member_at, dotted, with_elements, first_element, pointed_by, arrowed, pointed_at, dereferenced, checked_at, pointer_to, address, number_of, scalar_of, unary_typed, is_row, is_single_value, lacks_bounds, without_ptr, two_numbers, two_scalars, operator_along, summed, sum_typed, as_pointer, equated_values, equated, have_one_base, are_related, ordered_values, ordered, arithmetic, binary_typed, element_at, indexed, is_met, in_type, asked_as, asked_of, meets, bounds_met, converted, arguments_as, arguments_met, is_import, side_number, callee_of, call_of, first_of, writes, predefined_call, called, with_result, constant_typed, typed, all_typed, call_typed, argument_meets, at_call, meets_all, pointer_for, pointers_for, term_for, terms_for, call_bounds, result_at}
+use Rattle.region_typing_rules.specs.Types.{type_named, is_number, is_pointer, is_row, are_comparable, kind_converts, pointer_converts, converts}
+use Rattle.region_typing_rules.specs.Readings.{left_told, constant, against, sum_bounds, own_bounds, from_base, based_bounds, is_null, is_pointer_type, pointer_local, term}
+use Rattle.region_typing_rules.specs.Expressions.{Places, OfLocal, OfCell, Standing, ForNothing, ForArray, For, Typed, Value, AStruct, Called, Gives, GivesNothing, site_at, bounds_by, bounds_at, noted_if, with_bounds, one_element, sum_node, bounded, number, at_place, in_force, local_typed, name_typed, member_place, member_from, offset_among, member_at, dotted, with_elements, first_element, pointed_by, arrowed, pointed_at, dereferenced, checked_at, pointer_to, address, number_of, scalar_of, unary_typed, is_single_value, lacks_bounds, without_ptr, two_numbers, two_scalars, operator_along, summed, sum_typed, as_pointer, equated_values, equated, have_one_base, are_related, ordered_values, ordered, arithmetic, beside, binary_typed, element_at, indexed, is_met, in_type, asked_as, asked_of, meets, bounds_met, converted, arguments_as, arguments_met, is_import, side_number, callee_of, call_of, first_of, writes, predefined_call, called, with_result, constant_typed, typed, all_typed, call_typed, argument_meets, at_call, meets_all, pointer_for, pointers_for, term_for, terms_for, call_bounds, result_at}
+use Rattle.region_typing_rules.specs.Expressions.{first_factor, second_factor, factor_beside, is_size, elements_in, row_counted, allocation, allocation_if, malloc_typed, calloc_typed, casts_to, takes, has_base, base_in, cast_checked, cast_typed, cast_bounds}
+use Rattle.ckc_core.specs.Steps.{is_char}
+use Rattle.bounds_flow_meaning.specs.Sums.{counted}
+use Rattle.region_typing_rules.specs.Cells.{cells_with}
+use Rattle.region_typing_rules.specs.DeclaredBounds.{declared_bounds}
+use Rattle.region_typing_rules.specs.DeclaredFormed.{IsFormedFor, IsFormedIf}
+use Rattle.region_typing_rules.proofs.DeclaredBounds.{declared_formed, int_below}
+use Rattle.region_typing_rules.proofs.NewCells.{AreNewCells, new_cells}
+use Rattle.region_typing_rules.proofs.Terms.{term_formed}
 use Rattle.region_typing_rules.specs.Typed as rules
-use Rattle.region_typing_rules.specs.Typed.{Frame, AreAsked, AreOfResult, HasCallBounds, HasResultBounds, HaveRows, IsAsked, IsAskedAt, IsCallee, IsReturned, pointers_of, term_of, terms_of, HasBounds, AreSumBounds, CountsFrom, HasElements, IsInForce, LeadsToOne, HasType, HaveTypes, HasPlace, IsSimple, IsScalar, IsScalarResult, IsNumberResult}
+use Rattle.region_typing_rules.specs.Typed.{Frame, AreNewBounds, IsBaseOf, AreAsked, AreOfResult, HasCallBounds, HasResultBounds, HaveRows, IsAsked, IsAskedAt, IsCallee, IsReturned, pointers_of, term_of, terms_of, HasBounds, AreSumBounds, CountsFrom, HasElements, IsInForce, LeadsToOne, HasType, HaveTypes, HasPlace, IsSimple, IsScalar, IsScalarResult, IsNumberResult}
 use Rattle.region_typing_rules.proofs.Values.{member_row}
 use Rattle.region_typing_rules.proofs.Verdicts.{Promises, passing_promises, needs_promises, anything_promised, Extends}
-use Rattle.region_typing_rules.proofs.Known.{IsKnown, IsKnownResult, IsSizedResult, size_kept, bounds_kept}
+use Rattle.region_typing_rules.proofs.Known.{IsKnown, IsKnownResult, IsSizedResult, size_kept, bounds_kept, type_known}
 use Rattle.region_typing_rules.proofs.KnownTypes.{IsKnownTyped, typed_known}
 use Rattle.region_typing_rules.proofs.Signatures.{named_has}
 use Rattle.region_typing_rules.proofs.Knowledge.{IsNumberType, IsTrusted, IsTainted, Knows, array_sized, StandsFor, name_stands, crossing_promises, HasMember, IfMember, member_there, member_slot}
 use Rattle.region_typing_rules.proofs.SameTypes.{mode_equal, same_equal}
 use Rattle.region_typing_rules.proofs.Elements.{based_has_base}
 use Rattle.region_typing_rules.proofs.Sizes.{size_fits}
+use Rattle.act_words.specs.Checks.{is_word_number}
 use Rattle.region_typing_rules.proofs.Alike.{alike_here}
 use Rattle.region_typing_rules.specs.Statements.{result_meets}
+use Rattle.region_typing_rules.specs.Knowing.{knowing, when}
 use Rattle.bounds_exprs.specs.Changes.{ends_filled_in}
 use Rattle.bounds_flow_meaning.specs.Holding.{AreInts}
 use Rattle.region_typing_rules.proofs.Asked.{AreTerms, HasEndsBelow, are_terms, asked_at, asked_so, ends_below, result_at_so}
 use Rattle.bounds_exprs.specs.declared.term.Term.{Term}
-use Rattle.region_typing_rules.proofs.Told.{null_is}
+use Rattle.region_typing_rules.proofs.Told.{IsTold, null_is, told_here, told_is}
 
 first_not : (a b : Bool) → not (a || b) ≡ true → a ≡ false
 first_not true b h = absurd (cc)
@@ -303,6 +320,47 @@ load_takes t p = record { own = load_noted t p; none = refl; based = λ vars q b
 local_takes : (k : ℕ) → TakesBounds (λ o. noted_if o (core.Local k None))
 local_takes k = record { own = local_noted k; none = refl; based = λ vars q b below e. let same : from_base k q.bounds ≡ b = cc in subst (AreEndsBelow vars) same (from_base_below vars k q.bounds below) }
 
+-- ---- the factors of a size
+
+pub record IsFactor (e v : core.Expression) : Type 0 where
+  pub other : core.Expression
+  pub site : Site
+  pub is : (e ≡ core.Arithmetic (operators.Arithmetic arithmetics.Multiply) v other site) ⊎ (e ≡ core.Arithmetic (operators.Arithmetic arithmetics.Multiply) other v site)
+
+first_is : (e v : core.Expression) → first_factor e ≡ Some v → IsFactor e v
+first_is (core.Arithmetic (operators.Arithmetic arithmetics.Multiply) a b site) v h = let same : a ≡ v = cc in record { other = b; site = site; is = inl (ap (λ a. core.Arithmetic (operators.Arithmetic arithmetics.Multiply) a b site) same) }
+first_is _ v h = absurd (cc)
+
+second_is : (e v : core.Expression) → second_factor e ≡ Some v → IsFactor e v
+second_is (core.Arithmetic (operators.Arithmetic arithmetics.Multiply) a b site) v h = let same : b ≡ v = cc in record { other = a; site = site; is = inr (ap (λ b. core.Arithmetic (operators.Arithmetic arithmetics.Multiply) a b site) same) }
+second_is _ v h = absurd (cc)
+
+one_factor : (value n : core.Expression) (a b : Bool) → picked a (first_factor value) (picked b (second_factor value) None) ≡ Some n → IsFactor value n
+one_factor value n true b h = first_is value n h
+one_factor value n false true h = second_is value n h
+one_factor value n false false h = absurd (cc)
+
+beside_is : (s : Scope) (t : CType) (size : Expression) (value n : core.Expression) → factor_beside s t size value ≡ Some n → IsFactor value n
+beside_is s t (e.Binary binary.Multiply left right span) value n h = one_factor value n (is_size s t right) (is_size s t left) h
+beside_is s t _ value n h = absurd (cc)
+
+-- ---- the base of a cast
+
+record HasBase (value : core.Expression) (k : ℕ) : Type 0 where
+  bounds : Bounds
+  based : based_bounds value ≡ Some bounds
+  base : bounds.base ≡ Some k
+
+base_is : (value : core.Expression) (k : ℕ) → has_base (Some k) value ≡ true → HasBase value k
+base_is value k h = by (based_bounds value) refl
+  where
+    by : (o : Option Bounds) → based_bounds value ≡ o → HasBase value k
+    by None e = let found = rw e at h in absurd (cc)
+    by (Some d) e =
+        let base = based_has_base value d e in
+        let same : (base.0 == k) ≡ true = (let found = rw (e, base.1) at h in found) in
+        record { bounds = d; based = e; base = base.1 ∙ ap Some (eqb-true base.0 k same) }
+
 module _ (g : Frame) (types : List CType) (s : Scope) where
   -- what a value stands for
   abbrev pub FitsPlace : CType → Standing → Type 0
@@ -399,7 +457,7 @@ module _ (g : Frame) (types : List CType) (s : Scope) where
         let some : 0 < size_of g.structs t = subst (λ n. 0 < n) size (subst (λ c. 0 < size_of s.structs c) same is.some) in
         let below : AreEndsBelow s.flow.vars b = subst (AreBoundsBelow s.flow.vars) e (held_below s.flow.vars s.flow.held k knows.flow.variables.below).bounds in
         record {
-          has_type = rules.bounded h size is.limited (is_in_force k b e);
+          has_type = rules.bounded h size is.limited (record { ints = is.ints; base = λ q from. let pointer = is.base q from in (Pointer is.mode pointer.0 is.element, pointer.1) }) (is_in_force k b e);
           is_number = λ x. absurd (cc);
           stands = knows.locals k (Pointer m kinds.Array t) h;
           scalar = refl;
@@ -514,9 +572,6 @@ module _ (g : Frame) (types : List CType) (s : Scope) where
   pub two_numbers_promise : {A : Type 0} (Q : A → Type 0) (a b : Typed) (span : Span) (next : core.Expression → core.Expression → Verdict A) → Fits a → Fits b → ((v w : core.Expression) → HasType g types s v Int → HasType g types s w Int → Promises Q (next v w)) → Promises Q (two_numbers a b span next)
   two_numbers_promise Q a b span next ha hb more = number_of_promises Q a span _ ha (λ v n. number_of_promises Q b span _ hb (λ w m. more v w n m))
 
-  two_scalars_promise : {A : Type 0} (Q : A → Type 0) (a b : Typed) (span : Span) (next : core.Expression → core.Expression → Verdict A) → Fits a → Fits b → ((v w : core.Expression) (t u : CType) → HasType g types s v t → HasType g types s w u → Promises Q (next v w)) → Promises Q (two_scalars a b span next)
-  two_scalars_promise Q a b span next ha hb more = scalar_of_promises Q a span _ ha (λ v t n. scalar_of_promises Q b span _ hb (λ w u m. more v w t u n m))
-
   pub without_ptr_promises : {A : Type 0} (Q : A → Type 0) (a b : Typed) (span : Span) (next : Verdict A) → (is_single_value a ≡ false → lacks_bounds a ≡ false → Promises Q next) → Promises Q (without_ptr a b span next)
   without_ptr_promises Q a b span next h =
       needs_promises Q (not (is_single_value a || is_single_value b)) E19 span _
@@ -617,9 +672,27 @@ module _ (g : Frame) (types : List CType) (s : Scope) where
   order_promises comparison (Value t z v p) (AStruct n q) site span ha hb = tt
   order_promises comparison (AStruct n p) b site span ha hb = tt
 
-  binary_promises : (operator : BinaryOperator) (a b : Typed) (site : Site) (span : Span) → Fits a → Fits b → Promises Fits (binary_typed s operator a b site span)
-  binary_promises binary.Or a b site span ha hb = two_scalars_promise Fits a b span _ ha hb (λ v w t u n m. number_fits (core.OrElse v w) (rules.either n m))
-  binary_promises binary.And a b site span ha hb = two_scalars_promise Fits a b span _ ha hb (λ v w t u n m. number_fits (core.AndAlso v w) (rules.both n m))
+  -- the right operand of `&&` and of `||`, where the left one came out so
+  abbrev IsRight : Bool → Typed → Typed → Type 0
+  IsRight came (Value t z v p) (Value u y w q) = HasType g types (when v came s) w u
+  IsRight came (Value t z v p) (AStruct n q) = Unit {0}
+  IsRight came (AStruct n p) b = Unit {0}
+
+  truths_promise : (came : Bool) (of : core.Expression → core.Expression → core.Expression) (a b : Typed) (span : Span) → ((v w : core.Expression) (t u : CType) → HasType g types s v t → HasType g types (when v came s) w u → HasType g types s (of v w) Int) → Fits a → IsRight came a b
+      → Promises Fits (two_scalars a b span (λ v w. number (of v w)))
+  truths_promise came of (Value t z v p) (Value u y w q) span rule ha hb = number_fits (of v w) (rule v w t u ha.has_type hb)
+  truths_promise came of (Value t z v p) (AStruct n q) span rule ha hb = tt
+  truths_promise came of (AStruct n p) b span rule ha hb = tt
+
+  -- and that of each operator
+  abbrev pub FitsRight : BinaryOperator → Typed → Typed → Type 0
+  FitsRight binary.Or a b = IsRight false a b
+  FitsRight binary.And a b = IsRight true a b
+  FitsRight _ a b = Fits b
+
+  binary_promises : (operator : BinaryOperator) (a b : Typed) (site : Site) (span : Span) → Fits a → FitsRight operator a b → Promises Fits (binary_typed s operator a b site span)
+  binary_promises binary.Or a b site span ha hb = truths_promise false core.OrElse a b span (λ v w t u n m. rules.either n m) ha hb
+  binary_promises binary.And a b site span ha hb = truths_promise true core.AndAlso a b span (λ v w t u n m. rules.both n m) ha hb
   binary_promises binary.BitOr a b site span ha hb = arithmetic_promises (operators.Bitwise bits.Or) a b site span ha hb
   binary_promises binary.BitXor a b site span ha hb = arithmetic_promises (operators.Bitwise bits.Xor) a b site span ha hb
   binary_promises binary.BitAnd a b site span ha hb = arithmetic_promises (operators.Bitwise bits.And) a b site span ha hb
@@ -875,7 +948,7 @@ module _ (g : Frame) (types : List CType) (s : Scope) where
     -- a number isn't a local pointer
     local_number : (x : ℕ) (b : Option PointerBounds) (type : CType) → is_number type ≡ true → HasType g types s (core.Local x b) type → (t : CType) × (slice_get s.locals x ≡ Some t) × (is_number t ≡ true)
     local_number x b type number (rules.local {t = t} found bounds) = (t, found, number)
-    local_number x b type number (rules.bounded found size limited force) = absurd (cc)
+    local_number x b type number (rules.bounded found size limited named force) = absurd (cc)
     local_number x b type number (rules.widened h) = local_number x b Char refl h
     local_number x b type number (rules.single h elements leads) = absurd (cc)
     local_number x b type number (rules.row h bounds) = absurd (cc)
@@ -1204,6 +1277,184 @@ module _ (g : Frame) (types : List CType) (s : Scope) where
         (passing_promises (HaveConverted arguments f.parameters) FitsCall (arguments_as arguments f.parameters) _ (arguments_promise arguments f.parameters (eqb-true (length f.parameters) (length arguments) many) all)
         (λ values typed. arguments_met_promise FitsCall (terms_for s.locals arguments f.parameters) (pointers_for s.locals arguments) arguments f.parameters f.bounds _ (λ met. side_fits name f arguments site values (is_import f) refl e all typed met))))
 
+    -- ---- new memory
+
+    arithmetic_parts : {operator : Operator} {a b : core.Expression} {site : Site} {t : CType} → HasType g types s (core.Arithmetic operator a b site) t → HasType g types s a Int × HasType g types s b Int
+    arithmetic_parts (rules.arithmetic ha hb) = (ha, hb)
+    arithmetic_parts (rules.widened h) = arithmetic_parts h
+    arithmetic_parts (rules.single h elements leads) = arithmetic_parts h
+    arithmetic_parts (rules.row h bounds) = arithmetic_parts h
+    arithmetic_parts (rules.ended_row h none) = arithmetic_parts h
+
+    factor_typed : (value n : core.Expression) → IsFactor value n → HasType g types s value Int → HasType g types s n Int
+    factor_typed value n f h = ⊎_elim (λ is. (arithmetic_parts (subst (λ e. HasType g types s e Int) is h)).0) (λ is. (arithmetic_parts (subst (λ e. HasType g types s e Int) is h)).1) f.is
+
+    -- the number of elements that a size is, is a number
+    elements_typed : (t : CType) (size : Expression) (value n : core.Expression) → elements_in s t size value ≡ Some n → HasType g types s value Int → HasType g types s n Int
+    elements_typed t size value n h typed = by (factor_beside s t size value) refl
+      where
+        alone : (a b : Bool) → picked a (Some (core.Number (pos 1))) (picked b (Some value) None) ≡ Some n → HasType g types s n Int
+        alone true b k = let same : core.Number (pos 1) ≡ n = cc in subst (λ e. HasType g types s e Int) same (rules.word refl)
+        alone false true k = let same : value ≡ n = cc in subst (λ e. HasType g types s e Int) same typed
+        alone false false k = absurd (cc)
+
+        by : (o : Option core.Expression) → factor_beside s t size value ≡ o → HasType g types s n Int
+        by None e = alone (is_size s t size) (is_char t) (let k = rw e at h in k)
+        by (Some m) e = let k : Some m ≡ Some n = rw e at h in let same : m ≡ n = cc in subst (λ e. HasType g types s e Int) same (factor_typed value m (beside_is s t size value m e) typed)
+
+    module _ (t : CType) (count : core.Expression) (site : Site) (some : 0 < size_of s.structs t) where
+      abbrev made : AreNewCells s.structs g.structs t (cells_with s.structs t (pos 0))
+      made = new_cells s.structs g.structs t knows.file.structs knows.file.scalar_members some
+
+      same_bytes : size_of s.structs t ≡ size_of g.structs t
+      same_bytes = sym made.size ∙ made.later_size
+
+      new_bounds : (o : Option Term) → term s.locals count ≡ o → AreNewBounds g.structs s.locals count t (row_counted s.structs t o site)
+      new_bounds None is = rules.uncounted
+      new_bounds (Some n) is = subst (λ k. AreNewBounds g.structs s.locals count t (Some (record { bounds = counted n; size = k; site = site }))) (sym same_bytes) (rules.by_term {site = site} is)
+
+      new_counted : (o : Option Term) → term s.locals count ≡ o → AreCounted g.structs s.flow.vars t (row_counted s.structs t o site)
+      new_counted None is = tt
+      new_counted (Some n) is = record { size = same_bytes; some = made.bytes; below = record { lo = tt; hi = int_below s.locals s.flow.vars n.var knows.few (term_formed s.locals count n is).int } }
+
+    allocation_promises : (t : CType) (count : core.Expression) (site : Site) (span : Span) → HasType g types s count Int → Promises Fits (allocation s t count site span)
+    allocation_promises t count site span h =
+        needs_promises Fits (nat_lt 0 (size_of s.structs t)) E13 span _
+        (λ bytes.
+        let some = ltb-true 0 (size_of s.structs t) bytes in
+        let cells = made t count site some in
+        let word = subst (λ n. is_word_number (pos n) ≡ true) (same_bytes t count site some) (size_fits s.structs t knows.file.few_members) in
+        plain_fits (Pointer modes.Checked kinds.Array t) (core.Allocate count (cells_with s.structs t (pos 0)) (row_counted s.structs t (term s.locals count) site)) refl
+        (rules.allocate h (record { bytes = cells.bytes; word = word; size = cells.later_size; cells = cells.cells; initial = cells.initial g.structs; roomy = cells.roomy }) (new_bounds t count site some (term s.locals count) refl))
+        (record { own = new_counted t count site some (term s.locals count) refl; based = λ b e. absurd (cc) }))
+
+    malloc_promises : (word : MallocWord) (t : CType) (size : Expression) (a : Typed) (site : Site) (span : Span) → Fits a → Promises Fits (malloc_typed word s t size a site span)
+    malloc_promises malloc_words.Malloc t size a site span h =
+        number_of_promises Fits a span (λ value. allocation_if s t (elements_in s t size value) site span) h (λ value typed. by value typed (elements_in s t size value) refl)
+      where
+        by : (value : core.Expression) → HasType g types s value Int → (o : Option core.Expression) → elements_in s t size value ≡ o → Promises Fits (allocation_if s t o site span)
+        by value typed None e = tt
+        by value typed (Some n) e = allocation_promises t n site span (elements_typed t size value n e typed)
+    malloc_promises malloc_words.TMalloc t size a site span h = tt
+
+    calloc_promises : (word : CallocWord) (t : CType) (a : Typed) (size : Expression) (site : Site) (span : Span) → Fits a → Promises Fits (calloc_typed word s t a size site span)
+    calloc_promises calloc_words.Calloc t a size site span h =
+        number_of_promises Fits a span (λ count. needs (is_size s t size) E13 span (allocation s t count site span)) h
+        (λ count typed. needs_promises Fits (is_size s t size) E13 span (allocation s t count site span) (λ _. allocation_promises t count site span typed))
+    calloc_promises calloc_words.NtCalloc t a size site span h = tt
+
+    -- ---- casts
+
+    module _ (target : CType) (site : Site) (value : core.Expression) (known : IsKnown s.structs (Pointer modes.Checked kinds.One target)) where
+      one_told : HasBounds g.structs (Pointer modes.Checked kinds.One target) (bounds_at s.structs (Pointer modes.Checked kinds.One target) site)
+      one_told = (site, bounds_kept s.structs g.structs (Pointer modes.Checked kinds.One target) site knows.file.structs known)
+
+      one_node : IsOne g.structs s.flow.vars modes.Checked target (core.Cast value (bounds_at s.structs (Pointer modes.Checked kinds.One target) site))
+      one_node = record { own = one_told; based = λ b e. absurd (cc) }
+
+    -- the bounds of the pointer that is cast
+    row_elements : (target : CType) (value : core.Expression) → AreCounted g.structs s.flow.vars target (bounds_of value) → is_some (bounds_of value) ≡ true → (p : PointerBounds) × HasElements g.structs value target p
+    row_elements target value counted there = by (bounds_of value) refl counted there
+      where
+        by : (o : Option PointerBounds) → bounds_of value ≡ o → AreCounted g.structs s.flow.vars target o → is_some o ≡ true → (p : PointerBounds) × HasElements g.structs value target p
+        by None e c t = absurd (cc)
+        by (Some p) e c t = (p, record { bounds = e; size = c.size; some = c.some })
+
+    -- a pointer with bounds as one with others
+    bounded_cast : (target : CType) (value : core.Expression) (p : PointerBounds) (b : Bounds) (site : Site) → HasType g types s value (Pointer modes.Checked kinds.Array target) → HasElements g.structs value target p → size_of s.structs target ≡ size_of g.structs target → IsFormedFor s.structs s.locals (Pointer modes.Checked kinds.Array target) b
+        → has_base b.base value ≡ true → FitsValue (Pointer modes.Checked kinds.Array target) false (core.Cast value (Some (record { bounds = b; size = size_of s.structs target; site = site }))) ForNothing
+    bounded_cast target value p b site h elements same formed based =
+        plain_fits (Pointer modes.Checked kinds.Array target) (core.Cast value (Some (record { bounds = b; size = size_of s.structs target; site = site }))) refl
+        (rules.cast h elements knows.locals same formed.limited formed.ints bases)
+        (record { own = record { size = same; some = elements.some; below = below }; based = λ d e. on_base b.base d e })
+      where
+        below : AreEndsBelow s.flow.vars b
+        below = record { lo = int_below s.locals s.flow.vars b.lo.var knows.few formed.ints.lo; hi = int_below s.locals s.flow.vars b.hi.var knows.few formed.ints.hi }
+
+        on_base : (o : Option ℕ) (d : Bounds) → picked (is_some o) (Some b) None ≡ Some d → AreEndsBelow s.flow.vars d
+        on_base None d e = absurd (cc)
+        on_base (Some k) d e = let q : b ≡ d = cc in subst (AreEndsBelow s.flow.vars) q below
+
+        bases : (k : ℕ) → b.base ≡ Some k → IsBaseOf s.locals value k
+        bases k e =
+            let has = base_is value k (subst (λ o. has_base o value ≡ true) e based) in
+            let pointer = formed.base k e in
+            record { counts = record { bounds = has.bounds; based = has.based; base = has.base }; mode = formed.mode; kind = pointer.0; target = formed.element; pointer = pointer.1 }
+
+    -- a pointer to one element as one with bounds
+    row_cast : (target : CType) (value : core.Expression) (same : size_of s.structs target ≡ size_of g.structs target) → 0 < size_of s.structs target → (node : HasBounds g.structs (Pointer modes.Checked kinds.One target) (bounds_of value))
+        → HasElements g.structs value target (at_node one_element (size_of g.structs target) node.0)
+    row_cast target value same some node = record { bounds = node.1; size = refl; some = subst (λ n. 0 < n) same some }
+
+    -- by the kinds of both
+    kind_cast : (from to : Kind) (target : CType) (value : core.Expression) (written : WrittenBounds) (site : Site) → kind_converts from to ≡ true → 0 < size_of s.structs target → takes (Pointer modes.Checked to target) written ≡ true → is_some (bounds_of value) ≡ true → has_base (base_in (bounds_in written)) value ≡ true
+        → IsKnown s.structs (Pointer modes.Checked to target) → IsFormedIf s.structs s.locals (Pointer modes.Checked to target) (bounds_in written) → HasType g types s value (Pointer modes.Checked from target) → HasNode g.structs s.flow.vars (Pointer modes.Checked from target) value
+        → FitsValue (Pointer modes.Checked to target) false (core.Cast value (call_bounds s.structs (Pointer modes.Checked to target) (bounds_in written) site)) ForNothing
+    kind_cast kinds.Nt to target value written site converts some taken there based known formed h node = (let none : false ≡ true = subst (λ (o : Option PointerBounds). is_some o ≡ true) node.own there in absurd (cc))
+    kind_cast kinds.One kinds.Nt target value written site converts some taken there based known formed h node = absurd (cc)
+    kind_cast kinds.Array kinds.Nt target value written site converts some taken there based known formed h node = absurd (cc)
+    kind_cast kinds.One kinds.One target value written site converts some taken there based known formed h node =
+        let row = row_cast target value (size_kept s.structs g.structs target knows.file.structs known) some node.own in
+        plain_fits (Pointer modes.Checked kinds.One target) (core.Cast value (bounds_at s.structs (Pointer modes.Checked kinds.One target) site)) refl (rules.cast_single (rules.row h node.own) row knows.locals (one_told target site value known)) (one_node target site value known)
+    kind_cast kinds.Array kinds.One target value written site converts some taken there based known formed h node =
+        let p = row_elements target value node.own there in
+        plain_fits (Pointer modes.Checked kinds.One target) (core.Cast value (bounds_at s.structs (Pointer modes.Checked kinds.One target) site)) refl (rules.cast_single h p.1 knows.locals (one_told target site value known)) (one_node target site value known)
+    kind_cast from kinds.Array target value None site converts some taken there based known formed h node = absurd (cc)
+    kind_cast kinds.One kinds.Array target value (Some None) site converts some taken there based known formed h node =
+        let row = row_cast target value (size_kept s.structs g.structs target knows.file.structs known) some node.own in
+        plain_fits (Pointer modes.Checked kinds.Array target) (core.Cast value None) refl (rules.cast_unbounded (rules.row h node.own) row) (record { own = tt; based = λ b e. absurd (cc) })
+    kind_cast kinds.Array kinds.Array target value (Some None) site converts some taken there based known formed h node =
+        let p = row_elements target value node.own there in
+        plain_fits (Pointer modes.Checked kinds.Array target) (core.Cast value None) refl (rules.cast_unbounded h p.1) (record { own = tt; based = λ b e. absurd (cc) })
+    kind_cast kinds.One kinds.Array target value (Some (Some b)) site converts some taken there based known formed h node =
+        let same = size_kept s.structs g.structs target knows.file.structs known in
+        bounded_cast target value (at_node one_element (size_of g.structs target) node.own.0) b site (rules.row h node.own) (row_cast target value same some node.own) same formed based
+    kind_cast kinds.Array kinds.Array target value (Some (Some b)) site converts some taken there based known formed h node =
+        let same = size_kept s.structs g.structs target knows.file.structs known in
+        let p = row_elements target value node.own there in
+        bounded_cast target value p.0 b site h p.1 same formed based
+
+    cast_of_type : (type : CType) (kind : Kind) (target : CType) (value : core.Expression) (written : WrittenBounds) (site : Site) → pointer_converts type kind (Pointer modes.Checked kind target) ≡ true → 0 < size_of s.structs target → takes (Pointer modes.Checked kind target) written ≡ true → is_some (bounds_of value) ≡ true → has_base (base_in (bounds_in written)) value ≡ true
+        → IsKnown s.structs (Pointer modes.Checked kind target) → IsFormedIf s.structs s.locals (Pointer modes.Checked kind target) (bounds_in written) → HasType g types s value type → HasNode g.structs s.flow.vars type value
+        → FitsValue (Pointer modes.Checked kind target) false (core.Cast value (call_bounds s.structs (Pointer modes.Checked kind target) (bounds_in written) site)) ForNothing
+    cast_of_type Int kind target value written site converts some taken there based known formed h node = absurd (cc)
+    cast_of_type Char kind target value written site converts some taken there based known formed h node = absurd (cc)
+    cast_of_type (Struct n) kind target value written site converts some taken there based known formed h node = absurd (cc)
+    cast_of_type (Pointer m from u) kind target value written site converts some taken there based known formed h node =
+        let both = and_parts (same_mode m modes.Checked && same_type u target) (kind_converts from kind) converts in
+        let same = and_parts (same_mode m modes.Checked) (same_type u target) both.0 in
+        let is_mode = mode_equal m modes.Checked same.0 in
+        let is_target = same_equal u target same.1 in
+        kind_cast from kind target value written site both.1 some taken there based known formed
+        (subst (λ m. HasType g types s value (Pointer m from target)) is_mode (subst (λ u. HasType g types s value (Pointer m from u)) is_target h))
+        (subst (λ m. HasNode g.structs s.flow.vars (Pointer m from target) value) is_mode (subst (λ u. HasNode g.structs s.flow.vars (Pointer m from u) value) is_target node))
+
+    checked_promises : (to : CType) (a : Typed) (written : WrittenBounds) (site : Site) (span : Span) → IsKnown s.structs to → IsFormedIf s.structs s.locals to (bounds_in written) → Fits a → Promises Fits (cast_checked s to a written site span)
+    checked_promises to (AStruct n place) written site span known formed h = tt
+    checked_promises to (Value type zero value place) written site span known formed h =
+        needs_promises Fits (casts_to s.structs type to && takes to written) E13 span _
+        (λ both. needs_promises Fits (is_some (bounds_of value) && has_base (base_in (bounds_in written)) value) E18 span _
+        (λ has. by to known formed (and_parts (casts_to s.structs type to) (takes to written) both) (and_parts (is_some (bounds_of value)) (has_base (base_in (bounds_in written)) value) has)))
+      where
+        by : (to : CType) → IsKnown s.structs to → IsFormedIf s.structs s.locals to (bounds_in written) → (casts_to s.structs type to ≡ true) × (takes to written ≡ true) → (is_some (bounds_of value) ≡ true) × (has_base (base_in (bounds_in written)) value ≡ true)
+            → Fits (Value to false (core.Cast value (call_bounds s.structs to (bounds_in written) site)) ForNothing)
+        by Int known formed both has = absurd (let h = both.0 in cc)
+        by Char known formed both has = absurd (let h = both.0 in cc)
+        by (Struct n) known formed both has = absurd (let h = both.0 in cc)
+        by (Pointer modes.Tainted kind target) known formed both has = absurd (let h = both.0 in cc)
+        by (Pointer modes.Raw kind target) known formed both has = absurd (let h = both.0 in cc)
+        by (Pointer modes.Checked kind target) known formed both has =
+            let like = and_parts (pointer_converts type kind (Pointer modes.Checked kind target)) (nat_lt 0 (size_of s.structs target)) both.0 in
+            cast_of_type type kind target value written site like.0 (ltb-true 0 (size_of s.structs target) like.1) both.1 has.0 has.1 known formed h.has_type h.node
+
+    cast_promises : (word : CastWord) (to : CType) (a : Typed) (written : WrittenBounds) (site : Site) (span : Span) → IsKnown s.structs to → IsFormedIf s.structs s.locals to (bounds_in written) → Fits a → Promises Fits (cast_typed word s to a written site span)
+    cast_promises cast_words.Dynamic to a written site span known formed h = checked_promises to a written site span known formed h
+    cast_promises cast_words.Assume to a written site span known formed h = tt
+
+    cast_formed : (to : CType) (bounds : e.Bounds) → Promises (λ (w : WrittenBounds). IsFormedIf s.structs s.locals to (bounds_in w)) (cast_bounds s to bounds)
+    cast_formed to bounds =
+        passing_promises (IsFormedIf s.structs s.locals to) (λ (w : WrittenBounds). IsFormedIf s.structs s.locals to (bounds_in w)) (declared_bounds s to (length s.locals) (Some bounds)) _ (declared_formed s to (length s.locals) (Some bounds)) (λ b h. h)
+
     -- ---- the walk
 
     noted_fits : (site : Site) (t : Typed) → FitsNoted t → IsKnownTyped s.structs t → Fits (with_bounds s.structs site t)
@@ -1221,60 +1472,108 @@ module _ (g : Frame) (types : List CType) (s : Scope) where
     constant_promises value zero span =
         needs_promises Fits (nat_lt value (2 ^ 31)) E04 span (Passes (Value Int zero (core.Number (pos value)) ForNothing)) (λ low. record { has_type = rules.word low; is_number = λ x. refl; stands = tt; scalar = refl; node = tt })
 
-    mutual
-      pub typed_promises : (at : Places) (x : Expression) → Promises Fits (typed at s x)
-      typed_promises at (e.Number value span) = constant_promises value (value == 0) span
-      typed_promises at (e.Character value span) = constant_promises value false span
-      typed_promises at (e.Text bytes span) = tt
-      typed_promises at (e.Name name) =
-          bounded_promises (site_at at name.span) (passing (named s name.number) (λ n. Passes (name_typed s n (site_at at name.span)))) (typed_known s knows.file.closed at (e.Name name))
-          (passing_promises (StandsFor g s.structs s.locals) FitsNoted (named s name.number) _ (name_stands g types s knows name.number) (name_fits knows (site_at at name.span)))
-      typed_promises at (e.Call callee arguments span) =
-          passing_promises AllFit Fits (all_typed at s arguments) _ (all_promise at arguments)
-          (λ ts all. passing_promises FitsCall Fits (called s (function_named s.functions callee.number) callee.number ts (site_at at span) span) _ (called_promises (function_named s.functions callee.number) callee.number ts (site_at at span) span refl all)
-          (λ c h. with_result_promises c span h))
-      typed_promises at (e.SizeOf type span) =
-          passing_promises (λ (t : CType). Unit {0}) Fits (type_named s type) _ (anything_promised (type_named s type)) (λ t _. number_fits (core.Number (pos (size_of s.structs t))) (rules.word (size_fits s.structs t knows.file.few_members)))
-      typed_promises at (e.Cast word type operand span) = tt
-      typed_promises at (e.BoundedCast word type operand bounds span) = tt
-      typed_promises at (e.Malloc word type size span) = tt
-      typed_promises at (e.Calloc word type count size span) = tt
-      typed_promises at (e.Index base index span) =
-          bounded_promises (site_at at span) (passing (typed at s base) (λ a. passing (typed at s index) (λ b. indexed a b (site_at at span) span))) (typed_known s knows.file.closed at (e.Index base index span))
-          (passing_promises Fits FitsNoted (typed at s base) _ (typed_promises at base)
-          (λ a ha. passing_promises Fits FitsNoted (typed at s index) _ (typed_promises at index) (λ b hb. indexed_promises a b (site_at at span) span ha hb)))
-      typed_promises at (e.Dot base member span) =
-          bounded_promises (site_at at span) (passing (typed at s base) (λ a. dotted s a member.number (site_at at span) span)) (typed_known s knows.file.closed at (e.Dot base member span))
-          (passing_promises Fits FitsNoted (typed at s base) _ (typed_promises at base) (λ a h. dotted_promises a member.number (site_at at span) span h))
-      typed_promises at (e.Arrow base member span) =
-          bounded_promises (site_at at span) (passing (typed at s base) (λ a. arrowed s a member.number (site_at at span) span)) (typed_known s knows.file.closed at (e.Arrow base member span))
-          (passing_promises Fits FitsNoted (typed at s base) _ (typed_promises at base) (λ a h. arrowed_promises a member.number (site_at at span) span h))
-      typed_promises at (e.Unary operator operand span) =
-          bounded_promises (site_at at span) (passing (typed at s operand) (λ a. unary_typed operator a (site_at at span) span)) (typed_known s knows.file.closed at (e.Unary operator operand span))
-          (passing_promises Fits FitsNoted (typed at s operand) _ (typed_promises at operand) (λ a h. unary_promises operator a (site_at at span) span h))
-      typed_promises at (e.Binary operator left right span) =
-          passing_promises Fits Fits (typed at s left) _ (typed_promises at left) (λ a ha. passing_promises Fits Fits (typed at s right) _ (typed_promises at right) (λ b hb. binary_promises operator a b (site_at at span) span ha hb))
+-- ---- the scope of the right operand
 
-      pub all_promise : (at : Places) (xs : Expressions) → Promises AllFit (all_typed at s xs)
-      all_promise at e.NoMore = tt
-      all_promise at (e.Then first others) =
-          passing_promises Fits AllFit (typed at s first) _ (typed_promises at first) (λ t h. passing_promises AllFit AllFit (all_typed at s others) _ (all_promise at others) (λ ts hs. (h, hs)))
+left_is_told : (types : List CType) (f : Knowledge) → length types ≤ f.vars → IsFlow f → (operator : BinaryOperator) (v : core.Expression) → IsTold f (left_told operator types v f)
+left_is_told types f few flow binary.Or v = told_is types f few v false f (told_here f flow)
+left_is_told types f few flow binary.And v = told_is types f few v true f (told_here f flow)
+left_is_told types f few flow operator v = told_here f flow
 
-    pub call_promises : (at : Places) (x : Expression) → Promises FitsCall (call_typed at s x)
-    call_promises at (e.Call callee arguments span) =
-        passing_promises AllFit FitsCall (all_typed at s arguments) _ (all_promise at arguments)
-        (λ ts all. called_promises (function_named s.functions callee.number) callee.number ts (site_at at span) span refl all)
-    call_promises at (e.Number value span) = tt
-    call_promises at (e.Character value span) = tt
-    call_promises at (e.Text bytes span) = tt
-    call_promises at (e.Name name) = tt
-    call_promises at (e.SizeOf type span) = tt
-    call_promises at (e.Cast word type operand span) = tt
-    call_promises at (e.BoundedCast word type operand bounds span) = tt
-    call_promises at (e.Malloc word type size span) = tt
-    call_promises at (e.Calloc word type count size span) = tt
-    call_promises at (e.Index base index span) = tt
-    call_promises at (e.Dot base member span) = tt
-    call_promises at (e.Arrow base member span) = tt
-    call_promises at (e.Unary operator operand span) = tt
-    call_promises at (e.Binary operator left right span) = tt
+module _ (g : Frame) (types : List CType) where
+  -- another flow with the same bounds in force
+  knows_told : (s : Scope) (h : Knowledge) → Knows g types s → IsTold s.flow h → Knows g types (knowing h s)
+  knows_told s h knows told =
+      let file = knows.file in
+      record {
+        file = record { structs = file.structs; closed = file.closed; few_members = file.few_members; scalar_members = file.scalar_members; variables = file.variables; trusted = file.trusted; tainted = file.tainted };
+        flow = told.flow;
+        pointers = λ k b e. let p = knows.pointers k b (sym (told.tested.bounds k) ∙ e) in record { mode = p.mode; element = p.element; own = p.own; some = p.some; limited = p.limited; ints = p.ints; base = p.base };
+        few = subst (λ n. length s.locals ≤ n) (sym told.tested.vars) knows.few;
+        result = knows.result;
+        locals = knows.locals;
+        scalar = knows.scalar;
+      }
+
+  knows_beside : (s : Scope) (operator : BinaryOperator) (a : Typed) → Knows g types s → Knows g types (beside operator a s)
+  knows_beside s operator (Value t z v p) knows = knows_told s (left_told operator s.locals v s.flow) knows (left_is_told s.locals s.flow knows.few knows.flow operator v)
+  knows_beside s operator (AStruct n p) knows = knows
+
+  fits_right : (s : Scope) (operator : BinaryOperator) (a b : Typed) → Fits g types (beside operator a s) b → FitsRight g types s operator a b
+  fits_right s binary.Or (Value t z v p) (Value u y w q) h = h.has_type
+  fits_right s binary.Or (Value t z v p) (AStruct n q) h = tt
+  fits_right s binary.Or (AStruct n p) b h = tt
+  fits_right s binary.And (Value t z v p) (Value u y w q) h = h.has_type
+  fits_right s binary.And (Value t z v p) (AStruct n q) h = tt
+  fits_right s binary.And (AStruct n p) b h = tt
+  fits_right s operator (Value t z v p) b h = h
+  fits_right s operator (AStruct n p) b h = h
+
+  mutual
+    pub typed_promises : (s : Scope) (knows : Knows g types s) (at : Places) (x : Expression) → Promises (Fits g types s) (typed at s x)
+    typed_promises s knows at (e.Number value span) = constant_promises g types s knows value (value == 0) span
+    typed_promises s knows at (e.Character value span) = constant_promises g types s knows value false span
+    typed_promises s knows at (e.Text bytes span) = tt
+    typed_promises s knows at (e.Name name) =
+        bounded_promises g types s knows (site_at at name.span) (passing (named s name.number) (λ n. Passes (name_typed s n (site_at at name.span)))) (typed_known s knows.file.closed at (e.Name name))
+        (passing_promises (StandsFor g s.structs s.locals) (FitsNoted g types s) (named s name.number) _ (name_stands g types s knows name.number) (name_fits g types s knows (site_at at name.span)))
+    typed_promises s knows at (e.Call callee arguments span) =
+        passing_promises (AllFit g types s) (Fits g types s) (all_typed at s arguments) _ (all_promise s knows at arguments)
+        (λ ts all. passing_promises (FitsCall g types s) (Fits g types s) (called s (function_named s.functions callee.number) callee.number ts (site_at at span) span) _ (called_promises g types s knows (function_named s.functions callee.number) callee.number ts (site_at at span) span refl all)
+        (λ c h. with_result_promises g types s c span h))
+    typed_promises s knows at (e.SizeOf type span) =
+        passing_promises (λ (t : CType). Unit {0}) (Fits g types s) (type_named s type) _ (anything_promised (type_named s type)) (λ t _. number_fits g types s (core.Number (pos (size_of s.structs t))) (rules.word (size_fits s.structs t knows.file.few_members)))
+    typed_promises s knows at (e.Cast word type operand span) =
+        passing_promises (IsKnown s.structs) (Fits g types s) (type_named s type) _ (type_known s knows.file.closed.tagged type)
+        (λ t known. passing_promises (Fits g types s) (Fits g types s) (typed at s operand) _ (typed_promises s knows at operand) (λ a h. cast_promises g types s knows word t a None (site_at at span) span known tt h))
+    typed_promises s knows at (e.BoundedCast word type operand bounds span) =
+        passing_promises (IsKnown s.structs) (Fits g types s) (type_named s type) _ (type_known s knows.file.closed.tagged type)
+        (λ t known. passing_promises (Fits g types s) (Fits g types s) (typed at s operand) _ (typed_promises s knows at operand)
+        (λ a h. passing_promises (λ (w : WrittenBounds). IsFormedIf s.structs s.locals t (bounds_in w)) (Fits g types s) (cast_bounds s t bounds) _ (cast_formed g types s knows t bounds)
+        (λ written formed. cast_promises g types s knows word t a written (site_at at span) span known formed h)))
+    typed_promises s knows at (e.Malloc word type size span) =
+        passing_promises (λ (t : CType). Unit {0}) (Fits g types s) (type_named s type) _ (anything_promised (type_named s type))
+        (λ t _. passing_promises (Fits g types s) (Fits g types s) (typed at s size) _ (typed_promises s knows at size) (λ a h. malloc_promises g types s knows word t size a (site_at at span) span h))
+    typed_promises s knows at (e.Calloc word type count size span) =
+        passing_promises (λ (t : CType). Unit {0}) (Fits g types s) (type_named s type) _ (anything_promised (type_named s type))
+        (λ t _. passing_promises (Fits g types s) (Fits g types s) (typed at s count) _ (typed_promises s knows at count)
+        (λ a h. passing_promises (λ (b : Typed). Unit {0}) (Fits g types s) (typed at s size) _ (anything_promised (typed at s size)) (λ b _. calloc_promises g types s knows word t a size (site_at at span) span h)))
+    typed_promises s knows at (e.Index base index span) =
+        bounded_promises g types s knows (site_at at span) (passing (typed at s base) (λ a. passing (typed at s index) (λ b. indexed a b (site_at at span) span))) (typed_known s knows.file.closed at (e.Index base index span))
+        (passing_promises (Fits g types s) (FitsNoted g types s) (typed at s base) _ (typed_promises s knows at base)
+        (λ a ha. passing_promises (Fits g types s) (FitsNoted g types s) (typed at s index) _ (typed_promises s knows at index) (λ b hb. indexed_promises g types s a b (site_at at span) span ha hb)))
+    typed_promises s knows at (e.Dot base member span) =
+        bounded_promises g types s knows (site_at at span) (passing (typed at s base) (λ a. dotted s a member.number (site_at at span) span)) (typed_known s knows.file.closed at (e.Dot base member span))
+        (passing_promises (Fits g types s) (FitsNoted g types s) (typed at s base) _ (typed_promises s knows at base) (λ a h. dotted_promises g types s knows a member.number (site_at at span) span h))
+    typed_promises s knows at (e.Arrow base member span) =
+        bounded_promises g types s knows (site_at at span) (passing (typed at s base) (λ a. arrowed s a member.number (site_at at span) span)) (typed_known s knows.file.closed at (e.Arrow base member span))
+        (passing_promises (Fits g types s) (FitsNoted g types s) (typed at s base) _ (typed_promises s knows at base) (λ a h. arrowed_promises g types s knows a member.number (site_at at span) span h))
+    typed_promises s knows at (e.Unary operator operand span) =
+        bounded_promises g types s knows (site_at at span) (passing (typed at s operand) (λ a. unary_typed operator a (site_at at span) span)) (typed_known s knows.file.closed at (e.Unary operator operand span))
+        (passing_promises (Fits g types s) (FitsNoted g types s) (typed at s operand) _ (typed_promises s knows at operand) (λ a h. unary_promises g types s operator a (site_at at span) span h))
+    typed_promises s knows at (e.Binary operator left right span) =
+        passing_promises (Fits g types s) (Fits g types s) (typed at s left) _ (typed_promises s knows at left) (λ a ha. passing_promises (Fits g types (beside operator a s)) (Fits g types s) (typed at (beside operator a s) right) _ (typed_promises (beside operator a s) (knows_beside s operator a knows) at right)
+        (λ b hb. binary_promises g types s operator a b (site_at at span) span ha (fits_right s operator a b hb)))
+
+    pub all_promise : (s : Scope) (knows : Knows g types s) (at : Places) (xs : Expressions) → Promises (AllFit g types s) (all_typed at s xs)
+    all_promise s knows at e.NoMore = tt
+    all_promise s knows at (e.Then first others) =
+        passing_promises (Fits g types s) (AllFit g types s) (typed at s first) _ (typed_promises s knows at first) (λ t h. passing_promises (AllFit g types s) (AllFit g types s) (all_typed at s others) _ (all_promise s knows at others) (λ ts hs. (h, hs)))
+
+  pub call_promises : (s : Scope) (knows : Knows g types s) (at : Places) (x : Expression) → Promises (FitsCall g types s) (call_typed at s x)
+  call_promises s knows at (e.Call callee arguments span) =
+      passing_promises (AllFit g types s) (FitsCall g types s) (all_typed at s arguments) _ (all_promise s knows at arguments)
+      (λ ts all. called_promises g types s knows (function_named s.functions callee.number) callee.number ts (site_at at span) span refl all)
+  call_promises s knows at (e.Number value span) = tt
+  call_promises s knows at (e.Character value span) = tt
+  call_promises s knows at (e.Text bytes span) = tt
+  call_promises s knows at (e.Name name) = tt
+  call_promises s knows at (e.SizeOf type span) = tt
+  call_promises s knows at (e.Cast word type operand span) = tt
+  call_promises s knows at (e.BoundedCast word type operand bounds span) = tt
+  call_promises s knows at (e.Malloc word type size span) = tt
+  call_promises s knows at (e.Calloc word type count size span) = tt
+  call_promises s knows at (e.Index base index span) = tt
+  call_promises s knows at (e.Dot base member span) = tt
+  call_promises s knows at (e.Arrow base member span) = tt
+  call_promises s knows at (e.Unary operator operand span) = tt
+  call_promises s knows at (e.Binary operator left right span) = tt

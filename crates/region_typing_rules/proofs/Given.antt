@@ -164,6 +164,12 @@ module _ (structs declared : List Structure) (types : List CType) (u v : State) 
       carried structs b b l l u v (subst (λ x. Grows (shapes u.blocks) (shapes x)) (sym alike.blocks) (grows_here (shapes u.blocks))) (local_alike l)
       (stay_ends (target_size structs l.type) b b u.locals v.locals (same_base b.base (λ q e. let it = d.base q e in (d.mode, it.0, d.element, it.1))) (same_term b.lo d.ints.lo) (same_term b.hi d.ints.hi)) h
 
+  -- bounds whose base is a pointer
+  pub bounds_alike : (b : Bounds) (l : Local) → ((q : ℕ) → b.base ≡ Some q → (m : Mode) × (k : Kind) × (t : CType) × (slice_get types q ≡ Some (Pointer m k t))) → AreInts types b → IsValid structs (Some b) l u → IsValid structs (Some b) l v
+  bounds_alike b l bases ints h =
+      carried structs b b l l u v (subst (λ x. Grows (shapes u.blocks) (shapes x)) (sym alike.blocks) (grows_here (shapes u.blocks))) (local_alike l)
+      (stay_ends (target_size structs l.type) b b u.locals v.locals (same_base b.base bases) (same_term b.lo ints.lo) (same_term b.hi ints.hi)) h
+
   -- bounds that count from no pointer
   pub free_alike : (b : Bounds) (l : Local) → b.base ≡ None → AreInts types b → IsValid structs (Some b) l u → IsValid structs (Some b) l v
   free_alike b l none ints h =

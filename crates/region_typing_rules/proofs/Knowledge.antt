@@ -5,6 +5,7 @@ use Rattle.std.specs.List.{AllByRecursion}
 use Rattle.ckc_text.specs.declared.place.Span.{Span}
 use Rattle.ckc_text.specs.declared.code.Code.TheVariants.{E24}
 use Rattle.pointer_modes.specs.declared.ctype.Mode.{Mode}
+use Rattle.pointer_modes.specs.declared.ctype.Kind.{Kind}
 use Rattle.pointer_modes.specs.declared.ctype.Kind.TheVariants as kinds
 use Rattle.pointer_modes.specs.Types.{CType, Int, Char, Struct, Pointer, Member, Structure, members_of}
 use Rattle.bounds_exprs.specs.declared.term.Bounds.{Bounds}
@@ -87,6 +88,8 @@ pub record IsPointing (s : Scope) (k : ℕ) (b : Bounds) : Type 0 where
   pub own : slice_get s.locals k ≡ Some (Pointer mode kinds.Array element)
   pub some : 0 < size_of s.structs element
   pub limited : AreLimited b
+  pub ints : AreInts s.locals b
+  pub base : (q : ℕ) → b.base ≡ Some q → (k : Kind) × (slice_get s.locals q ≡ Some (Pointer mode k element))
 
 -- and so are the locals of the function that is walked, of each of which its flow speaks
 pub record Knows (g : Frame) (types : List CType) (s : Scope) : Type 0 where

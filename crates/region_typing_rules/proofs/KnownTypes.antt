@@ -4,6 +4,7 @@ use Rattle.std.specs.Prelude.{◌==◌, slice_get, nat_lt, not, ◌&&◌, ◌||�
 use Rattle.std.specs.List.{AllByRecursion}
 use Rattle.ckc_text.specs.declared.place.Span.{Span}
 use Rattle.ckc_text.specs.declared.code.Code.TheVariants.{E04, E13, E14, E18, E19, E26}
+use Rattle.ckc_tree.specs.declared.expr.CastWord.{CastWord}
 use Rattle.ckc_tree.specs.declared.expr.UnaryOperator.{UnaryOperator}
 use Rattle.ckc_tree.specs.declared.expr.UnaryOperator.TheVariants as unary
 use Rattle.ckc_tree.specs.declared.expr.BinaryOperator.{BinaryOperator}
@@ -23,13 +24,15 @@ use Rattle.ckc_core.specs.Meaning.{bounds_of}
 use Rattle.ckc_core.proofs.Elements.{of_element}
 use Rattle.ckc_names_rules.specs.declared.given.Given.{Given}
 use Rattle.region_typing_rules.specs.Verdicts.{Verdict, Passes, Stops, passing, meant, picked}
-use Rattle.region_typing_rules.specs.Scopes.{Scope, Signature, FileVariable, Visible, Named, Local, Object, Array, Nothing, local_if, found_if, local_named, object_of, object_named, or_else, null_named, named, function_named, members_named}
+use Rattle.region_typing_rules.specs.Scopes.{Scope, Signature, WrittenBounds, FileVariable, Visible, Named, Local, Object, Array, Nothing, local_if, found_if, local_named, object_of, object_named, or_else, null_named, named, function_named, members_named}
 use Rattle.region_typing_rules.specs.Types.{type_named, is_number, is_pointer, are_comparable}
-use Rattle.region_typing_rules.specs.Expressions.{Places, OfLocal, OfCell, ForNothing, ForArray, For, Typed, Value, AStruct, Called, Gives, GivesNothing, site_at, bounded, number, at_place, local_typed, name_typed, member_from, member_at, dotted, with_elements, first_element, pointed_by, arrowed, pointed_at, dereferenced, address, number_of, scalar_of, unary_typed, is_single_value, lacks_bounds, two_numbers, two_scalars, operator_along, summed, sum_typed, equated, are_related, ordered, binary_typed, element_at, indexed, arguments_as, is_import, call_of, declared_callee, writes, predefined_call, called, with_result, typed, all_typed}
+use Rattle.region_typing_rules.specs.Expressions.{Places, OfLocal, OfCell, ForNothing, ForArray, For, Typed, Value, AStruct, Called, Gives, GivesNothing, site_at, bounded, number, at_place, local_typed, name_typed, member_from, member_at, dotted, with_elements, first_element, pointed_by, arrowed, pointed_at, dereferenced, address, number_of, scalar_of, unary_typed, is_single_value, lacks_bounds, two_numbers, two_scalars, operator_along, summed, sum_typed, equated, are_related, ordered, binary_typed, beside, element_at, indexed, arguments_as, is_import, call_of, declared_callee, writes, predefined_call, called, with_result, typed, all_typed, cast_typed, cast_bounds}
 use Rattle.region_typing_rules.proofs.Verdicts.{Promises, passing_promises, needs_promises, anything_promised, all_met_promise}
-use Rattle.region_typing_rules.proofs.Known.{IsKnown, IsKnownResult, IsClosed}
+use Rattle.region_typing_rules.proofs.Known.{IsKnown, IsKnownResult, IsClosed, type_known}
 use Rattle.region_typing_rules.proofs.Knowledge.{crossing_promises}
 use Rattle.region_typing_rules.proofs.Signatures.{named_has}
+use Rattle.region_typing_rules.proofs.Kept.{passing_any}
+use Rattle.region_typing_rules.proofs.Memory.{of_any, malloc_promises, calloc_promises, cast_promises}
 
 abbrev pub IsKnownTyped : List Structure → Typed → Type 0
 IsKnownTyped structs (Value type zero value place) = IsKnown structs type
@@ -301,6 +304,9 @@ module _ (s : Scope) (closed : IsClosed s) where
       (passing_promises (λ (values : core.Arguments). Unit {0}) (IsKnownCall s.structs) (arguments_as arguments f.parameters) _ (anything_promised (arguments_as arguments f.parameters))
       (λ values _. all_met_promise (IsKnownCall s.structs) s.flow _ _ arguments f.parameters f.bounds _ (call_known s.structs (declared_callee s f site) f.result _ values site (named_has (λ (x : Signature). IsKnownResult s.structs x.result) s.functions name f closed.of_functions e)))))
 
+  cast_known : (word : CastWord) (t : CType) (a : Typed) (written : WrittenBounds) (site : Site) (span : Span) → IsKnown s.structs t → Promises (IsKnownTyped s.structs) (cast_typed word s t a written site span)
+  cast_known word t a written site span known = cast_promises (IsKnownTyped s.structs) word s t a written site span (of_any _ a (λ type value casts. known))
+
   pub typed_known : (at : Places) (x : Expression) → Promises (IsKnownTyped s.structs) (typed at s x)
   typed_known at (e.Number value span) = needs_promises (IsKnownTyped s.structs) (nat_lt value (2 ^ 31)) E04 span _ (λ low. tt)
   typed_known at (e.Character value span) = needs_promises (IsKnownTyped s.structs) (nat_lt value (2 ^ 31)) E04 span _ (λ low. tt)
@@ -313,10 +319,18 @@ module _ (s : Scope) (closed : IsClosed s) where
       (λ ts _. passing_promises (IsKnownCall s.structs) (IsKnownTyped s.structs) (called s (function_named s.functions callee.number) callee.number ts (site_at at span) span) _
       (called_known (function_named s.functions callee.number) callee.number ts (site_at at span) span refl) (λ c. with_result_known s.structs c span))
   typed_known at (e.SizeOf type span) = passing_promises (λ (t : CType). Unit {0}) (IsKnownTyped s.structs) (type_named s type) _ (anything_promised (type_named s type)) (λ t _. tt)
-  typed_known at (e.Cast word type operand span) = tt
-  typed_known at (e.BoundedCast word type operand bounds span) = tt
-  typed_known at (e.Malloc word type size span) = tt
-  typed_known at (e.Calloc word type count size span) = tt
+  typed_known at (e.Cast word type operand span) =
+      passing_promises (IsKnown s.structs) (IsKnownTyped s.structs) (type_named s type) _ (type_known s closed.tagged type) (λ t known. passing_any (IsKnownTyped s.structs) (typed at s operand) _
+      (λ a. cast_known word t a None (site_at at span) span known))
+  typed_known at (e.BoundedCast word type operand bounds span) =
+      passing_promises (IsKnown s.structs) (IsKnownTyped s.structs) (type_named s type) _ (type_known s closed.tagged type) (λ t known. passing_any (IsKnownTyped s.structs) (typed at s operand) _
+      (λ a. passing_any (IsKnownTyped s.structs) (cast_bounds s t bounds) _ (λ written. cast_known word t a written (site_at at span) span known)))
+  typed_known at (e.Malloc word type size span) =
+      passing_promises (IsKnown s.structs) (IsKnownTyped s.structs) (type_named s type) _ (type_known s closed.tagged type) (λ t known. passing_any (IsKnownTyped s.structs) (typed at s size) _
+      (λ a. malloc_promises (IsKnownTyped s.structs) s t (site_at at span) span word size a (of_any _ a (λ type value number count is bytes. known))))
+  typed_known at (e.Calloc word type count size span) =
+      passing_promises (IsKnown s.structs) (IsKnownTyped s.structs) (type_named s type) _ (type_known s closed.tagged type) (λ t known. passing_any (IsKnownTyped s.structs) (typed at s count) _
+      (λ a. passing_any (IsKnownTyped s.structs) (typed at s size) _ (λ b. calloc_promises (IsKnownTyped s.structs) s t (site_at at span) span word a size (of_any _ a (λ type value number bytes. known)))))
   typed_known at (e.Index base index span) =
       bounded_known s (site_at at span) (passing (typed at s base) (λ a. passing (typed at s index) (λ b. indexed a b (site_at at span) span)))
       (passing_promises (IsKnownTyped s.structs) (IsKnownTyped s.structs) (typed at s base) _ (typed_known at base)
@@ -329,4 +343,4 @@ module _ (s : Scope) (closed : IsClosed s) where
       bounded_known s (site_at at span) (passing (typed at s operand) (λ a. unary_typed operator a (site_at at span) span)) (passing_promises (IsKnownTyped s.structs) (IsKnownTyped s.structs) (typed at s operand) _ (typed_known at operand) (λ a h. unary_known s.structs operator a (site_at at span) span h))
   typed_known at (e.Binary operator left right span) =
       passing_promises (IsKnownTyped s.structs) (IsKnownTyped s.structs) (typed at s left) _ (typed_known at left)
-      (λ a h. passing_promises (λ (t : Typed). Unit {0}) (IsKnownTyped s.structs) (typed at s right) _ (anything_promised (typed at s right)) (λ b _. binary_known s.structs s operator a b (site_at at span) span h))
+      (λ a h. passing_promises (λ (t : Typed). Unit {0}) (IsKnownTyped s.structs) (typed at (beside operator a s) right) _ (anything_promised (typed at (beside operator a s) right)) (λ b _. binary_known s.structs s operator a b (site_at at span) span h))

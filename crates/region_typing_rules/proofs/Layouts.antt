@@ -23,7 +23,8 @@ use Rattle.region_typing_rules.specs.Verdicts.{passing}
 use Rattle.region_typing_rules.specs.Scopes.{Scope}
 use Rattle.region_typing_rules.specs.Expressions.{Places, Typed, typed, constant_typed, offset_among, unary_typed, site_at}
 use Rattle.ckc_tree.specs.declared.stmt.SignedConstant.{SignedConstant}
-use Rattle.region_typing_rules.specs.Items.{negative, null_number, unsigned_constant, negated_of, positive_of, signed_constant, strides_from, strides_of, cell_types, numbered_cells, cells_with, Walked, Missing, Written, Constants, unsigned_number, is_zero, number_or_break, written_cells}
+use Rattle.region_typing_rules.specs.Cells.{strides_from, strides_of, cell_types, numbered_cells, cells_with}
+use Rattle.region_typing_rules.specs.Items.{negative, null_number, unsigned_constant, negated_of, positive_of, signed_constant, Walked, Missing, Written, Constants, unsigned_number, is_zero, number_or_break, written_cells}
 use Rattle.bounds_flow_meaning.specs.Rows.{Slot, slots_from, slots, Stands, HasRow}
 use Rattle.region_typing_rules.specs.Typed.{HasValue, IsScalar, IsInitial}
 use Rattle.region_typing_rules.specs.Lowerable.{cells_size, IsRoomy}
@@ -340,10 +341,10 @@ module _ (given : Given) (at : Places) (s : Scope) where
   negated_promises (e.Name name) = always_promised (typed at s (e.Name name)) (negated_null (name.number == given.null))
   negated_promises (e.Call callee arguments span) = anything_promised (typed at s (e.Call callee arguments span))
   negated_promises (e.SizeOf type span) = anything_promised (typed at s (e.SizeOf type span))
-  negated_promises (e.Cast word type operand span) = tt
-  negated_promises (e.BoundedCast word type operand bounds span) = tt
-  negated_promises (e.Malloc word type size span) = tt
-  negated_promises (e.Calloc word type count size span) = tt
+  negated_promises (e.Cast word type operand span) = anything_promised (typed at s (e.Cast word type operand span))
+  negated_promises (e.BoundedCast word type operand bounds span) = anything_promised (typed at s (e.BoundedCast word type operand bounds span))
+  negated_promises (e.Malloc word type size span) = anything_promised (typed at s (e.Malloc word type size span))
+  negated_promises (e.Calloc word type count size span) = anything_promised (typed at s (e.Calloc word type count size span))
   negated_promises (e.Index base index span) = anything_promised (typed at s (e.Index base index span))
   negated_promises (e.Dot base member span) = anything_promised (typed at s (e.Dot base member span))
   negated_promises (e.Arrow base member span) = anything_promised (typed at s (e.Arrow base member span))
@@ -357,10 +358,10 @@ module _ (given : Given) (at : Places) (s : Scope) where
   constant_promises (e.Name name) = always_promised (typed at s (e.Name name)) (positive_null (name.number == given.null))
   constant_promises (e.Call callee arguments span) = anything_promised (typed at s (e.Call callee arguments span))
   constant_promises (e.SizeOf type span) = anything_promised (typed at s (e.SizeOf type span))
-  constant_promises (e.Cast word type operand span) = tt
-  constant_promises (e.BoundedCast word type operand bounds span) = tt
-  constant_promises (e.Malloc word type size span) = tt
-  constant_promises (e.Calloc word type count size span) = tt
+  constant_promises (e.Cast word type operand span) = anything_promised (typed at s (e.Cast word type operand span))
+  constant_promises (e.BoundedCast word type operand bounds span) = anything_promised (typed at s (e.BoundedCast word type operand bounds span))
+  constant_promises (e.Malloc word type size span) = anything_promised (typed at s (e.Malloc word type size span))
+  constant_promises (e.Calloc word type count size span) = anything_promised (typed at s (e.Calloc word type count size span))
   constant_promises (e.Index base index span) = anything_promised (typed at s (e.Index base index span))
   constant_promises (e.Dot base member span) = anything_promised (typed at s (e.Dot base member span))
   constant_promises (e.Arrow base member span) = anything_promised (typed at s (e.Arrow base member span))

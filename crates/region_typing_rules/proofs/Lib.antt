@@ -5,14 +5,18 @@ pub mod Sure
 pub mod Soundness
 pub mod Programs
 pub mod Verdicts
+pub mod Memory
 pub mod Known
 pub mod Knowledge
 pub mod Sizes
 pub mod KnownTypes
 pub mod Elements
+pub mod Allocations
+pub mod Casts
 pub mod Given
 pub mod Asked
 pub mod Calls
+pub mod RightOperands
 pub mod Expressions
 pub mod FlowSizes
 pub mod Growth
@@ -21,6 +25,7 @@ pub mod Statements
 pub mod Tracked
 pub mod Layouts
 pub mod Copies
+pub mod NewCells
 pub mod Sides
 pub mod Signatures
 pub mod Walks

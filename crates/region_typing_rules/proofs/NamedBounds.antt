@@ -7,7 +7,7 @@ use Rattle.ckc_tree.specs.Expressions as e
 use Rattle.ckc_tree.specs.Expressions.{Expression, Expressions, bounds_span}
 use Rattle.ckc_tree.specs.Numbers.{Numbers, number_type_name, number_expression, number_expressions, number_bounds}
 use Rattle.std.specs.Option.{option_map}
-use Rattle.ckc_names_rules.specs.Mentions.{expression_mentions, expressions_mentions, bounds_mentions, optional_mentions}
+use Rattle.ckc_names_rules.specs.Mentions.{type_mentions, expression_mentions, expressions_mentions, bounds_mentions, optional_mentions}
 use Rattle.ckc_names_rules.specs.Scopes.{Scopes}
 use Rattle.bounds_exprs.specs.declared.term.Bounds.{Bounds}
 use Rattle.bounds_exprs.specs.Normal as normal
@@ -15,9 +15,8 @@ use Rattle.bounds_exprs.specs.Normal.{How, bounds_of}
 use Rattle.pointer_modes.specs.Types.{CType}
 use Rattle.pointer_modes.specs.Layout.{size_of}
 use Rattle.region_typing_rules.specs.Scopes.{Scope}
-use Rattle.region_typing_rules.specs.Types.{type_named}
-use Rattle.region_typing_rules.specs.Expressions.{is_row}
-use Rattle.region_typing_rules.specs.DeclaredBounds.{Bounded, sum_written, all_written, how_written, normal_bounds, bounded_of, declared_bounds}
+use Rattle.region_typing_rules.specs.Types.{type_named, is_row}
+use Rattle.region_typing_rules.specs.DeclaredBounds.{Bounded, sum_written, all_written, parts_written, how_written, normal_bounds, bounded_of, declared_bounds}
 use Rattle.region_typing_rules.proofs.NamedVerdicts.{AllNamed, Any, then_named, needs_named}
 use Rattle.region_typing_rules.proofs.NamedMentions.{AreFound, found_append}
 use Rattle.region_typing_rules.proofs.NamedScopes.{KnowsTags, found_tags, type_named_named}
@@ -50,10 +49,16 @@ module _ (of : Numbers) (n : Scopes) (g : Scope) (knows : KnowsTags of n.tags g)
     sum_named p (e.Name name) found = tt
     sum_named p (e.Call callee arguments span) found = all_sums_named p arguments found.1
     sum_named p (e.SizeOf type span) found = then_named Any (type_named g (number_type_name of type)) _ (type_named_named of n.tags g knows type (found_tags n type.base found)) (λ t. tt)
-    sum_named p (e.Cast word type operand span) found = tt
-    sum_named p (e.BoundedCast word type operand bounds span) found = tt
-    sum_named p (e.Malloc word type size span) found = tt
-    sum_named p (e.Calloc word type count size span) found = tt
+    sum_named p (e.Cast word type operand span) found =
+        then_named Any (sum_written g p (number_expression of operand)) _ (sum_named p operand (found_append n (type_mentions type.base) _ found).1) (λ a. tt)
+    sum_named p (e.BoundedCast word type operand bounds span) found =
+        let both = found_append n (expression_mentions operand) (bounds_mentions bounds) (found_append n (type_mentions type.base) _ found).1 in
+        then_named Any (sum_written g p (number_expression of operand)) _ (sum_named p operand both.0) (λ a. parts_named p bounds both.1)
+    sum_named p (e.Malloc word type size span) found =
+        then_named Any (sum_written g p (number_expression of size)) _ (sum_named p size (found_append n (type_mentions type.base) _ found).1) (λ a. tt)
+    sum_named p (e.Calloc word type count size span) found =
+        let both = found_append n (expression_mentions count) (expression_mentions size) (found_append n (type_mentions type.base) _ found).1 in
+        then_named Any (sum_written g p (number_expression of count)) _ (sum_named p count both.0) (λ a. then_named Any (sum_written g p (number_expression of size)) _ (sum_named p size both.1) (λ b. tt))
     sum_named p (e.Index base index span) found =
         let both = found_append n (expression_mentions base) (expression_mentions index) found in
         then_named Any (sum_written g p (number_expression of base)) _ (sum_named p base both.0) (λ a. then_named Any (sum_written g p (number_expression of index)) _ (sum_named p index both.1) (λ b. tt))
@@ -69,6 +74,14 @@ module _ (of : Numbers) (n : Scopes) (g : Scope) (knows : KnowsTags of n.tags g)
     all_sums_named p (e.Then first others) found =
         let both = found_append n (expression_mentions first) (expressions_mentions others) found in
         then_named Any (sum_written g p (number_expression of first)) _ (sum_named p first both.0) (λ a. all_sums_named p others both.1)
+
+    parts_named : (p : Bounded) (b : e.Bounds) → AreFound n (bounds_mentions b) → AllNamed (parts_written g p (number_bounds of b))
+    parts_named p (e.Count count span) found = then_named Any (sum_written g p (number_expression of count)) _ (sum_named p count found) (λ a. tt)
+    parts_named p (e.ByteCount count span) found = then_named Any (sum_written g p (number_expression of count)) _ (sum_named p count found) (λ a. tt)
+    parts_named p (e.Unknown span) found = tt
+    parts_named p (e.Range low high span) found =
+        let both = found_append n (expression_mentions low) (expression_mentions high) found in
+        then_named Any (sum_written g p (number_expression of low)) _ (sum_named p low both.0) (λ a. then_named Any (sum_written g p (number_expression of high)) _ (sum_named p high both.1) (λ b. tt))
 
   how_named : (p : Bounded) (b : e.Bounds) → AreFound n (bounds_mentions b) → AllNamed (how_written g p (number_bounds of b))
   how_named p (e.Count count span) found = then_named Any (sum_written g p (number_expression of count)) _ (sum_named p count found) (λ a. tt)

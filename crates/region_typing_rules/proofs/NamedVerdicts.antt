@@ -1,6 +1,6 @@
 -- Verdicts that aren't that a name stands for nothing: rules that speak of no name give no other ones.
 use Rattle.std.proofs.Common.{◌≡◌, ℕ, Bool, true, false, List, [], ◌∷◌, length, Option, Some, None, refl}
-use Rattle.std.specs.Prelude.{◌==◌, ◌&&◌, ◌||◌, not, is_some}
+use Rattle.std.specs.Prelude.{◌==◌, ◌&&◌, ◌||◌, not, is_some, nat_lt}
 use Rattle.ckc_text.specs.declared.place.Span.{Span}
 use Rattle.ckc_text.specs.declared.code.Code.{Code}
 use Rattle.ckc_text.specs.declared.code.Code.TheVariants.{E13, E14, E17, E18, E19, E24, E26}
@@ -8,6 +8,13 @@ use Rattle.ckc_tree.specs.declared.expr.UnaryOperator.{UnaryOperator}
 use Rattle.ckc_tree.specs.declared.expr.UnaryOperator.TheVariants as unary
 use Rattle.ckc_tree.specs.declared.expr.BinaryOperator.{BinaryOperator}
 use Rattle.ckc_tree.specs.declared.expr.BinaryOperator.TheVariants as binary
+use Rattle.ckc_tree.specs.declared.expr.CastWord.{CastWord}
+use Rattle.ckc_tree.specs.declared.expr.CastWord.TheVariants as cast_words
+use Rattle.ckc_tree.specs.declared.expr.MallocWord.{MallocWord}
+use Rattle.ckc_tree.specs.declared.expr.MallocWord.TheVariants as malloc_words
+use Rattle.ckc_tree.specs.declared.expr.CallocWord.{CallocWord}
+use Rattle.ckc_tree.specs.declared.expr.CallocWord.TheVariants as calloc_words
+use Rattle.ckc_tree.specs.Expressions.{Expression}
 use Rattle.ckc_tree.specs.declared.stmt.StoreOperator.{StoreOperator}
 use Rattle.ckc_tree.specs.declared.stmt.StoreOperator.TheVariants as stores
 use Rattle.pointer_modes.specs.declared.ctype.Kind.TheVariants as kinds
@@ -15,6 +22,7 @@ use Rattle.bounds_exprs.specs.declared.term.Bounds.{Bounds}
 use Rattle.bounds_exprs.specs.declared.term.Term.{Term}
 use Rattle.bounds_flow.specs.Flows.{Knowledge}
 use Rattle.pointer_modes.specs.Types.{CType, Int, Char, Struct, Pointer, members_of}
+use Rattle.pointer_modes.specs.Layout.{size_of}
 use Rattle.ckc_core.specs.declared.program.Site.{Site}
 use Rattle.act_words.specs.declared.operator.ArithmeticOperator.TheVariants as arithmetics
 use Rattle.act_words.specs.declared.operator.BitwiseOperator.TheVariants as bits
@@ -28,7 +36,7 @@ use Rattle.ckc_core.specs.Meaning.{bounds_of}
 use Rattle.region_typing_rules.specs.Verdicts.{Verdict, Passes, Stops, Broken, Nameless, passing, needs}
 use Rattle.region_typing_rules.specs.Scopes.{Scope, Signature, WrittenBounds, bounds_in, members_named}
 use Rattle.region_typing_rules.specs.Types.{is_number, is_pointer, are_comparable, converts}
-use Rattle.region_typing_rules.specs.Expressions.{Places, site_at, Lvalue, OfLocal, OfCell, Standing, ForNothing, ForArray, For, Typed, Value, AStruct, Called, Gives, GivesNothing, plain, number, sum_node, at_place, member_from, member_at, dotted, struct_place, first_element, with_elements, pointed_by, arrowed, pointed_at, dereferenced, address_at, address, number_of, scalar_of, unary_typed, is_single_value, lacks_bounds, without_ptr, two_numbers, two_scalars, operator_along, summed, sum_typed, equated_values, equated, are_related, ordered_values, ordered, arithmetic, binary_typed, element_at, indexed, in_type, asked_of, meets, bounds_met, converted, arguments_as, terms_for, pointers_for, argument_meets, arguments_met, is_import, is_checked_argument, without_checked, crossing, declared_call, writes, with_result}
+use Rattle.region_typing_rules.specs.Expressions.{Places, site_at, Lvalue, OfLocal, OfCell, Standing, ForNothing, ForArray, For, Typed, Value, AStruct, Called, Gives, GivesNothing, plain, number, sum_node, at_place, member_from, member_at, dotted, struct_place, first_element, with_elements, pointed_by, arrowed, pointed_at, dereferenced, address_at, address, number_of, scalar_of, unary_typed, is_single_value, lacks_bounds, without_ptr, two_numbers, two_scalars, operator_along, summed, sum_typed, equated_values, equated, are_related, ordered_values, ordered, arithmetic, binary_typed, element_at, indexed, in_type, asked_of, meets, bounds_met, converted, arguments_as, terms_for, pointers_for, argument_meets, arguments_met, is_import, is_checked_argument, without_checked, crossing, declared_call, writes, with_result, is_size, elements_in, allocation, allocation_if, malloc_typed, calloc_typed, casts_to, takes, has_base, base_in, cast_typed}
 use Rattle.region_typing_rules.specs.Statements.{assigned, update, moved, updated_as, updated, stored, result_meets, returned, returned_nothing}
 
 -- no name stands for nothing, and this is so of the value where no rule is broken
@@ -259,6 +267,29 @@ writes_named of ts span = needs_named Any (length ts == 1) E14 span _ (then_name
 pub result_named : (c : Called) (span : Span) → AllNamed (with_result c span)
 result_named (Gives type value) span = tt
 result_named (GivesNothing call) span = tt
+
+-- ---- allocation and casts
+
+allocation_named : (s : Scope) (t : CType) (count : core.Expression) (site : Site) (span : Span) → AllNamed (allocation s t count site span)
+allocation_named s t count site span = needs_named Any (nat_lt 0 (size_of s.structs t)) E13 span _ tt
+
+allocation_if_named : (s : Scope) (t : CType) (o : Option core.Expression) (site : Site) (span : Span) → AllNamed (allocation_if s t o site span)
+allocation_if_named s t None site span = tt
+allocation_if_named s t (Some count) site span = allocation_named s t count site span
+
+pub malloc_named : (word : MallocWord) (s : Scope) (t : CType) (size : Expression) (a : Typed) (site : Site) (span : Span) → AllNamed (malloc_typed word s t size a site span)
+malloc_named malloc_words.Malloc s t size a site span = number_named a span _ (λ v. allocation_if_named s t (elements_in s t size v) site span)
+malloc_named malloc_words.TMalloc s t size a site span = tt
+
+pub calloc_named : (word : CallocWord) (s : Scope) (t : CType) (a : Typed) (size : Expression) (site : Site) (span : Span) → AllNamed (calloc_typed word s t a size site span)
+calloc_named calloc_words.Calloc s t a size site span = number_named a span _ (λ v. needs_named Any (is_size s t size) E13 span _ (allocation_named s t v site span))
+calloc_named calloc_words.NtCalloc s t a size site span = tt
+
+pub cast_named : (word : CastWord) (s : Scope) (to : CType) (a : Typed) (written : WrittenBounds) (site : Site) (span : Span) → AllNamed (cast_typed word s to a written site span)
+cast_named cast_words.Dynamic s to (Value type zero value place) written site span =
+    needs_named Any (casts_to s.structs type to && takes to written) E13 span _ (needs_named Any (is_some (bounds_of value) && has_base (base_in (bounds_in written)) value) E18 span _ tt)
+cast_named cast_words.Dynamic s to (AStruct number place) written site span = tt
+cast_named cast_words.Assume s to a written site span = tt
 
 -- ---- statements
 

@@ -25,7 +25,7 @@ use Rattle.region_typing_rules.specs.Items.{names}
 use Rattle.bounds_exprs.specs.Changes.{is_named}
 use Rattle.bounds_exprs.specs.Terms.{is_var}
 use Rattle.ckc_core.specs.Bounds.{base_byte, term_value}
-use Rattle.bounds_flow_meaning.specs.Holding.{IsInt, IsValid, target_size}
+use Rattle.bounds_flow_meaning.specs.Holding.{IsInt, target_size}
 use Rattle.bounds_flow_meaning.proofs.Validity.{alike_here as local_alike, carried, null_valid, stay_ends}
 use Rattle.std.proofs.lemmas.Option.{slice_get_within}
 use Rattle.std.proofs.lemmas.List.{length-take-le}

@@ -23,7 +23,7 @@ use Rattle.region_typing_rules.proofs.Moving.{IsMovedTo, moved_here, effect_move
 use Rattle.region_typing_rules.proofs.Told.{told_fits}
 use Rattle.region_typing_rules.proofs.Between.{beside_of, between_told, between_without, outside_beside, outside_here, told_beside}
 use Rattle.region_typing_rules.proofs.Sources.{IsFreshCall, call_typed_fresh}
-use Rattle.region_typing_rules.proofs.Ways.{Declares, beside_sym, block_declares, block_outside_of, declares_here, declares_knowing, declares_on, declares_turn, extends_length, fits_further, way_further, fits_first, known_out, loop_same, met_behind, on_way_here, on_way_before, step_keeps, way_out_between, way_out_outside, walk_knowing, walk_when, walk_cut, walk_broken, walk_continued, walk_block, walk_meeting, walk_head, walk_in_loop, walk_step, walk_behind, so_block, so_meeting, known_block}
+use Rattle.region_typing_rules.proofs.Ways.{Declares, walk_tracked, beside_sym, block_declares, block_outside_of, declares_here, declares_knowing, declares_on, declares_turn, extends_length, fits_further, way_further, fits_first, known_out, loop_same, met_behind, on_way_here, on_way_before, step_keeps, way_out_between, way_out_outside, walk_knowing, walk_when, walk_cut, walk_broken, walk_continued, walk_block, walk_meeting, walk_head, walk_in_loop, walk_step, walk_behind, so_block, so_meeting, known_block}
 use Rattle.std.proofs.Common.{◌≡◌, ℕ, ◌-◌, ◌<◌, ◌≤◌, Bool, true, false, List, [], length, replicate, Option, Some, None, refl, sym, ◌∙◌, subst, arith}
 use Rattle.std.specs.List.{AllByRecursion}
 use Rattle.ckc_text.specs.declared.place.Span.{Span}
@@ -39,9 +39,9 @@ use Rattle.region_typing_rules.specs.Typed.{Frame, HasType, IsReturned, IsScalar
 use Rattle.region_typing_rules.proofs.Verdicts.{Promises, passing_promises, needs_promises, both_promise, later_promises, promised_so, Extends}
 use Rattle.region_typing_rules.proofs.Knowledge.{KnowsFile, Knows}
 use Rattle.region_typing_rules.proofs.Growth.{Grows, GrowsTo, alternative_grows, behind_grows, file_known, first_grows, grows_further, head_grows, optional_grows, statement_grows, step_grows, when_grows}
-use Rattle.region_typing_rules.proofs.Expressions.{Fits, FitsCall, call_promises, converted_promises, met_promises, result_asked, result_type_met, so_converted, typed_promises}
+use Rattle.region_typing_rules.proofs.Expressions.{Fits, FitsCall, call_promises, result_asked, result_type_met, so_converted, typed_promises}
 use Rattle.region_typing_rules.proofs.Statements.{AreIn, IsIn, IsScalarValue, alone_typed, condition_promises, in_loop_known, optional_promises, simple_any, statement_from, statements_from}
-use Rattle.region_typing_rules.proofs.Soundness.{EndsAs, HasResult, IsAnswer, IsKept, IsNext, OfType, Runs, runs_both, runs_further, runs_on, runs_then, returned_goes, simple_runs, typed_goes}
+use Rattle.region_typing_rules.proofs.Soundness.{EndsAs, HasResult, IsAnswer, IsKept, IsNext, OfType, Runs, runs_both, runs_further, runs_on, runs_then, returned_goes, simple_runs}
 use Rattle.region_typing_rules.proofs.Terms.{so_further}
 use Rattle.region_typing_rules.proofs.Alike.{alike_here, fits_moved}
 use Rattle.region_typing_rules.proofs.Assigns.{IsPlain}
@@ -390,7 +390,7 @@ module _ (frame : Frame) (types : List CType) (all_scalar : AllByRecursion IsSca
     runs = λ reaches n calls low s at.
         runs_further frame budget n low types (λ flow t. IsNext flow t × IsMovedTo (λ y. false) s t) (λ flow t. IsNext flow t × IsKnown structs g t) (effect true setting (K n) (alone c) s)
         (runs_both frame budget n low types IsNext (λ (flow : Flow) (t : State). IsMovedTo (λ y. false) s t) (effect true setting (K n) (alone c) s)
-        (simple_runs frame budget n sandbox trusted (K n) (calls n (omega arith)) low types g w.between.flow reaches (simple reaches) s (at.known, at.kept))
+        (simple_runs frame budget n sandbox trusted (K n) (calls n (omega arith)) low types g w.between.flow (walk_tracked vars g w) reaches (simple reaches) s (at.known, at.kept))
         (effect_moves true setting (K n) (knots_move true setting n) (λ y. false) (alone c) s (call_only (λ y. false) (alone c) (alone_plain g c h))))
         (λ flow t q. (q.0, fits_moved structs (length g.locals) g.flow w.between.flow (λ y. false) s t q.1 (λ y tracked. refl) at.known));
   }
@@ -409,7 +409,7 @@ module _ (frame : Frame) (types : List CType) (all_scalar : AllByRecursion IsSca
 
   returns : (g : Scope) (w : IsWalk vars g) {x : core.Statement} → IsReturnFrom g x → Reached g → (n : ℕ) → Calls n → (low : ℕ) (s : State) → Stands n low g s → Runs frame budget n low types (Ending g (cut g)) (effect true setting (K n) x s)
   returns g w (gives {e = e} {t = t} declared h asked) reaches n calls low s at =
-      runs_on frame budget n low types s (λ v u. OfType frame t v u × HasResult frame.structs (Some t) g.result_bounds (Some v) u) (Ending g (cut g)) (value_of true setting (K n) e s) _ (returned_goes frame budget n sandbox trusted (K n) (calls n (omega arith)) low types g w.between.flow reaches t g.result_bounds h asked s (at.known, at.kept))
+      runs_on frame budget n low types s (λ v u. OfType frame t v u × HasResult frame.structs (Some t) g.result_bounds (Some v) u) (Ending g (cut g)) (value_of true setting (K n) e s) _ (returned_goes frame budget n sandbox trusted (K n) (calls n (omega arith)) low types g w.between.flow (walk_tracked vars g w) reaches t g.result_bounds h asked s (at.known, at.kept))
       (λ v u _ x kept. ((subst (λ r. IsAnswer frame r (Some v) u × HasResult frame.structs r g.result_bounds (Some v) u) (sym declared) x, tt), kept))
   returns g w (gives_nothing declared) reaches n calls low s at = ((subst (λ r. IsAnswer frame r None s × HasResult frame.structs r g.result_bounds None s) (sym declared) (tt, tt), tt), at.kept)
 

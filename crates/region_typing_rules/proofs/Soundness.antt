@@ -1,7 +1,7 @@
 -- What has types is never stuck and never unsound: expressions and simple statements, where what is known in their scope is so, and what each
 -- state keeps.
 use Rattle.std.proofs.Common.{◌≡◌, neg_ℤ, ◌+ℤ◌, ◌*ℤ◌, ℕ, zero, suc, ◌+◌, ◌*◌, ◌%◌, ◌<◌, ◌≤◌, ◌^◌, Bool, true, false, ℤ, List, [], ◌∷◌, map, replicate, length, cond, Option, Some, None, refl, sym, ap, ◌∙◌, subst, arith}
-use Rattle.std.specs.Prelude.{◌==◌, ◌&&◌, not, nat_lt, slice_get, option_map, pos}
+use Rattle.std.specs.Prelude.{◌==◌, ◌&&◌, ◌++◌, is_some, not, nat_lt, negsuc, slice_get, option_map, pos}
 use Rattle.std.specs.List.{AllByRecursion}
 use Rattle.std.specs.Int.{w32}
 use Rattle.std.proofs.lemmas.Int.{ints, to_z_pos}
@@ -9,14 +9,14 @@ use Rattle.std.proofs.lemmas.Bool.Decides.{nat_tests}
 use Rattle.std.proofs.lemmas.Option.{cond_some, slice_get_within}
 use Rattle.std.proofs.lemmas.Bool.{and_from}
 use Rattle.std.proofs.lemmas.List.{length-replicate}
-use Rattle.ckc_core.specs.Outcome.{Gives, and_then}
+use Rattle.ckc_core.specs.Outcome.{Gives, Ends, Stuck, Unsound, Short, and_then}
 use Rattle.act_words.specs.Checks.{Checked, Holds, Fails, is_word_number}
 use Rattle.act_words.specs.Numbers.{word}
 use Rattle.act_words.specs.Arithmetic as arithmetic
 use Rattle.act_words.specs.Operators.{holds}
 use Rattle.act_words.specs.Acts.{Passed}
 use Rattle.act_words.specs.World.{World}
-use Rattle.ckc_text.specs.declared.code.Code.TheVariants.{C2}
+use Rattle.ckc_text.specs.declared.code.Code.TheVariants.{C2, C5}
 use Rattle.pointer_modes.specs.Layout.{size_of}
 use Rattle.act_words.specs.Touches.{Asked, Got, Ended, spend_tick, enter_call, next_input, touch}
 use Rattle.ckc_core.specs.declared.program.Site.{Site}
@@ -30,36 +30,41 @@ use Rattle.pointer_modes.specs.declared.ctype.Kind.{Kind}
 use Rattle.pointer_modes.specs.declared.ctype.Kind.TheVariants as kinds
 use Rattle.pointer_modes.specs.Types.{CType, Int, Char, Struct, Pointer, Structure}
 use Rattle.ckc_core.specs.Core as core
-use Rattle.ckc_core.specs.States.{Value, Number, Null, At, Cell, Local, cell_at, Shape, Grows, State, in_world, shape, shapes, stored, same_type, has_type, object_block}
+use Rattle.ckc_core.specs.States.{Value, Number, Null, At, Block, Cell, Local, cell_at, Shape, Grows, State, in_world, shape, shapes, stored, same_type, has_type, object_block}
 use Rattle.ckc_core.specs.declared.program.PointerBounds.{PointerBounds}
 use Rattle.ckc_core.specs.Programs.{Import, Initial}
 use Rattle.ckc_core.specs.declared.program.Direction.{Direction}
 use Rattle.ckc_core.specs.declared.program.Direction.TheVariants as directions
 use Rattle.bounds_exprs.specs.declared.term.Bounds.{Bounds}
 use Rattle.ckc_core.specs.Bounds.{Ends as EndsOf, Pointed, base_byte, ends_at, term_value, with_ends}
-use Rattle.ckc_core.specs.Pointers.{not_null, ordered, ordered_if, number_given, checked_if, distance, lies_below, lies_up_to, cell_behind, pointer_at, pointer_if}
+use Rattle.flat_bytes.specs.Blocks.{first_offset, is_refused}
+use Rattle.ckc_core.specs.Pointers.{allocated, are_within, cells_of_elements, counter_behind, element_size, made_if, not_null, ordered, ordered_if, number_given, checked_if, distance, lies_below, lies_up_to, cell_behind, pointer_at, pointer_if}
 use Rattle.ckc_core.specs.Steps.{Result, Flow, locals_for, Next, Broke, Continued, Returned, given, checked, value_if, value_in, place_if, place_at, variable_if, variable_at, load_at, pointer_to, truth, number_of_test, same_place, test_given, result_of, arithmetic_of, compared, negated, complemented, low_byte_of, asked, words_of, reply_as, back, passed, cross, cross_if, call_tainted, takes, parameters_of, enter_if, call_trusted, result_given, choose, leaves_zero, store_if, store_over, store_at, set_if, set_over, set_local, kept_if, is_char, printed, put, no_result, called}
-use Rattle.ckc_core.specs.Meaning.{Knot, Setting, audit, bounds_of, site_of, Target, element, element_within, summed, without_ends, value, values, place, target_of, sound_if, effect}
+use Rattle.ckc_core.specs.Meaning.{Knot, Setting, audit, bounds_of, cast_if, cast_to, cast_within, site_of, Target, element, element_within, summed, without_ends, value, values, place, target_of, sound_if, effect}
 use Rattle.region_typing_rules.specs.Types.{is_number}
 use Rattle.region_typing_rules.specs.Scopes.{Scope}
-use Rattle.region_typing_rules.specs.Expressions.{bounds_at, row_of}
+use Rattle.region_typing_rules.specs.Knowing.{when}
+use Rattle.region_typing_rules.specs.Expressions.{bounds_at, one_element, row_of}
 use Rattle.bounds_exprs.specs.Terms.{is_within, term_limit}
 use Rattle.bounds_flow_meaning.specs.Laws.{IsMoved}
 use Rattle.bounds_flow_meaning.specs.Holding.{target_size}
 use Rattle.region_typing_rules.specs.Verdicts.{picked}
-use Rattle.region_typing_rules.specs.Readings.{Behind, based_bounds, own_bounds, behind_by, behind_local, constant, constant_of, further, is_null, is_pointer_type, pointer_local, term, toward}
+use Rattle.region_typing_rules.specs.Readings.{Behind, with_base, based_bounds, own_bounds, behind_by, behind_local, constant, constant_of, further, is_null, is_pointer_type, pointer_local, term, toward}
 use Rattle.region_typing_rules.specs.KnownIsSo.{HasLocals, IsAlike, WhereGiven, IsKnown}
 use Rattle.region_typing_rules.specs.Typed as typed
+use Rattle.bounds_exprs.specs.Values.{value as term_number}
 use Rattle.bounds_exprs.specs.declared.term.Term.{Term}
 use Rattle.bounds_flow.specs.Conditions.{IsFlow}
-use Rattle.bounds_flow_meaning.specs.Holding.{AreInts, IsValid, at_node, types_of}
+use Rattle.bounds_flow_meaning.specs.Holding.{AreInts, HasSize, HaveTypes as AreTyped, IsInt, IsValid, at_node, numbers_in, types_of}
 use Rattle.bounds_flow_meaning.specs.Calls.{HoldTerms}
 use Rattle.bounds_exprs.specs.Changes.{ends_filled_in}
-use Rattle.bounds_flow_meaning.specs.Rows.{HasRow, IsPlace, slots}
+use Rattle.bounds_flow_meaning.specs.Rows.{AreCellsOf, HasRow, IsPlace, slots}
+use Rattle.bounds_flow_meaning.specs.Sums.{counted}
+use Rattle.bounds_flow_meaning.proofs.Sums.{new_blocks_count}
 use Rattle.bounds_flow_meaning.proofs.Rows.{place_grown, still_there}
-use Rattle.bounds_flow_meaning.proofs.Numbers.{same_number}
-use Rattle.bounds_flow_meaning.proofs.Validity.{ends_parts, grown_valid, times_plus, valid_from}
-use Rattle.region_typing_rules.specs.Typed.{Frame, HasBounds, IsBoundedBy, HasValue, IsNumberResult, IsCallee, HasCallBounds, HasResultBounds, IsReturned, AreAsked, terms_of, pointers_of, AreRows, AreSumBounds, HasElements, HasType, HaveTypes, HasPlace, IsSimple, IsScalar}
+use Rattle.bounds_flow_meaning.proofs.Numbers.{int_term, same_number}
+use Rattle.bounds_flow_meaning.proofs.Validity.{base_found, ends_parts, grown_valid, null_valid, times_plus, valid_from}
+use Rattle.region_typing_rules.specs.Typed.{AreNewBounds, IsBaseOf, IsInitial, Frame, HasBounds, IsBoundedBy, HasValue, IsNumberResult, IsCallee, HasCallBounds, HasResultBounds, IsReturned, AreAsked, terms_of, pointers_of, AreRows, AreSumBounds, HasElements, HasType, HaveTypes, HasPlace, IsSimple, IsScalar}
 use Rattle.ckc_core.proofs.Numbers.{IsNumber, IfHolds, result_fits, overflow_fits, signed_fits, complement_fits, low_byte_small}
 use Rattle.region_typing_rules.proofs.Worlds.{IsWorld, Answers, Anything, IsWord, tick_answers, enter_answers, touch_answers, next_answers}
 use Rattle.region_typing_rules.proofs.Values.{same_refl, mapped_there, grows_here, grows_on, at_cell, zero_left, shapes_stored, member_place, scalar_cell, some_cell, value_grown, value_typed, value_widened, value_number, HaveValues, values_count, values_fit, HaveLocals, local_there, locals_set, HoldsValues, cell_typed, stored_typed, values_grown, locals_grown}
@@ -67,11 +72,13 @@ use Rattle.region_typing_rules.proofs.Validity.{same_pointer, sound}
 use Rattle.region_typing_rules.proofs.Verdicts.{Extends}
 use Rattle.region_typing_rules.proofs.Sure.{Sure, sure_on, sure_further, sure_both, sure_given}
 use Rattle.region_typing_rules.proofs.Keeping.{IsAfter, after_here, after_on, CallsKeep}
-use Rattle.region_typing_rules.proofs.Terms.{so_always, so_both, so_further, so_on, audited_so, IsOfTerm, term_so}
+use Rattle.region_typing_rules.proofs.Allocations.{elements_held, grows_by, held_behind}
+use Rattle.region_typing_rules.proofs.Casts.{cast_valid, new_ends}
+use Rattle.region_typing_rules.proofs.Terms.{term_formed, so_always, so_both, so_further, so_on, audited_so, IsOfTerm, term_so}
 use Rattle.region_typing_rules.proofs.Alike.{alike_here, alike_on, fits_after, types_alike}
-use Rattle.region_typing_rules.proofs.Given.{IsGivenIf, AreGivenAt, AreGiven, free_alike, given_later, local_given, none_given, own_given, plain_given}
+use Rattle.region_typing_rules.proofs.Given.{IsGivenIf, AreGivenAt, AreGiven, bounds_alike, free_alike, given_later, local_given, none_given, own_given, plain_given}
 use Rattle.region_typing_rules.proofs.Assigns.{IsBehind, IsGivenTo, stays}
-use Rattle.region_typing_rules.proofs.Told.{null_given, pointer_so}
+use Rattle.region_typing_rules.proofs.Told.{null_given, pointer_so, told_fits, told_here, told_is}
 use Rattle.region_typing_rules.proofs.Calls.{AreEntered, ArePassed, IsPassed, asked_valid, entered, entered_later, hold, passed_later, result_valid}
 use Rattle.region_typing_rules.proofs.Elements.{AreOf, pointing, passes_at, ends_there, size_there, within, up_to, as_many, IsSum, sum_among, sum_based, sum_valid, sum_size, array_valid, one_valid, single_typed}
 
@@ -127,7 +134,7 @@ module _ (g : Frame) (types : List CType) (here : Scope) (reaches : Extends here
   base_of (typed.byte fits) b is m d target same = absurd (cc)
   base_of typed.null b is m d target same = absurd (cc)
   base_of (typed.local {k = i} {t = t} e bounds) b is m d target same = based_local i b t (reaches i t e) is m d target same
-  base_of (typed.bounded {k = i} {mode = m'} {t = t} e size limited force) b is m d target same = based_local i b (Pointer m' kinds.Array t) (reaches i (Pointer m' kinds.Array t) e) is m d target same
+  base_of (typed.bounded {k = i} {mode = m'} {t = t} e size limited named force) b is m d target same = based_local i b (Pointer m' kinds.Array t) (reaches i (Pointer m' kinds.Array t) e) is m d target same
   base_of (typed.widened h) b is m d target same = absurd (cc)
   base_of (typed.single {mode = m'} {t = t} h elements leads) b is m d target same = base_of h b is m kinds.Array target (of_kind kinds.Array m' m kinds.One d t target same)
   base_of (typed.row {mode = m'} {t = t} h bounds) b is m d target same = base_of h b is m kinds.One target (of_kind kinds.One m' m kinds.Array d t target same)
@@ -151,6 +158,10 @@ module _ (g : Frame) (types : List CType) (here : Scope) (reaches : Extends here
   base_of (typed.low_byte h) b is m d target same = absurd (cc)
   base_of (typed.call known h asked bounds) b is m d target same = absurd (cc)
   base_of typed.next_input b is m d target same = absurd (cc)
+  base_of (typed.allocate h fresh bounds) b is m d target same = absurd (cc)
+  base_of (typed.cast h elements within size limited ints bases) b is m d target same = absurd (cc)
+  base_of (typed.cast_single h elements within bounds) b is m d target same = absurd (cc)
+  base_of (typed.cast_unbounded h elements) b is m d target same = absurd (cc)
 
 -- the shapes of the blocks of a state
 abbrev pub shaped : State → List Shape
@@ -548,6 +559,45 @@ module _ (g : Frame) (budget n : ℕ) where
       within_goes low types m (Struct number) p size s offset site z q aimed (IsPlaced g t)
       (λ block place h. placed_goes low types s (Some site) t block (place + offset) (member_place g.structs (shaped s) number block place slot offset t scalar h found) kept)
 
+  -- ---- new memory
+
+  module _ (low : ℕ) (types : List CType) (t : CType) (element : List Initial) (sized : element_size element ≡ size_of g.structs t) (cells : AreCellsOf g.structs t element) (initials : AllByRecursion (IsInitial g.structs) element) where
+    abbrev new_block : ℕ → Block
+    new_block count = record { cells = cells_of_elements count element; zero_ended = false }
+
+    -- a state with a block more
+    made_kept : (s : State) (count : ℕ) → IsKept low types s → IsKept low types (record s { blocks = s.blocks ++ new_block count ∷ [] })
+    made_kept s count kept =
+        let after = shapes (s.blocks ++ new_block count ∷ []) in
+        let more : Grows (shaped s) after = grows_by s.blocks (new_block count) in
+        record {
+          grown = grows_on (shapes (map object_block g.program.objects)) (shaped s) after kept.grown more;
+          cells = held_behind g.structs (shaped s) after more s.blocks (new_block count) kept.cells (elements_held g.structs after count element initials);
+          locals = locals_grown g.structs (shaped s) after more types s.locals kept.locals;
+          world = kept.world;
+          enough = kept.enough;
+        }
+
+    made_goes : (s : State) (count : ℕ) (test : Bool) → IsKept low types s → Goes low types s (OfType g (Pointer modes.Checked kinds.Array t)) (made_if test count element s)
+    made_goes s count true kept = (tt, after_here s, kept)
+    made_goes s count false kept = (tt, (grows_by s.blocks (new_block count), refl), made_kept s count kept)
+
+    -- an allocation gives null, or a pointer to a block more
+    allocated_goes : (s : State) (room : ℕ) (z : ℤ) → IsKept low types s → Goes low types s (OfType g (Pointer modes.Checked kinds.Array t)) (allocated room element z s)
+    allocated_goes s room (negsuc count) kept = (tt, after_here s, kept)
+    allocated_goes s room (pos count) kept = made_goes s count (is_refused room (counter_behind first_offset s.blocks) (count * element_size element)) kept
+
+    -- valid with the bounds of as many elements as were asked for
+    new_valid : (s : State) (room : ℕ) (z : ℤ) (n : Term) → term_value n s.locals ≡ Some z → WhereGiven (λ v u. IsValid g.structs (Some (counted n)) (pointing modes.Checked t v) u) (allocated room element z s)
+    new_valid s room z n is = by (allocated room element z s) refl
+      where
+        by : (o : Result Value) → allocated room element z s ≡ o → WhereGiven (λ v u. IsValid g.structs (Some (counted n)) (pointing modes.Checked t v) u) o
+        by (Gives v u) e = (new_blocks_count g.structs room element n z (pointing modes.Checked t Null) v s u is sized cells e).valid
+        by (Ends ending u) e = tt
+        by (Stuck site u) e = tt
+        by (Unsound site u) e = tt
+        by Short e = tt
+
   -- ---- calls
 
   -- numbers have words
@@ -689,9 +739,9 @@ module _ (g : Frame) (budget n : ℕ) where
 
     -- ---- expressions
 
-    chosen_goes : {A : Type 0} (low : ℕ) (types : List CType) (r : State) (P : A → State → Type 0) (test : Bool) (first second : Result A) → Goes low types r P first → Goes low types r P second → Goes low types r P (choose test first second)
-    chosen_goes low types r P true first second h h' = h
-    chosen_goes low types r P false first second h h' = h'
+    chosen_goes : {A : Type 0} (low : ℕ) (types : List CType) (r : State) (P : A → State → Type 0) (test : Bool) (first second : Result A) → (test ≡ true → Goes low types r P first) → (test ≡ false → Goes low types r P second) → Goes low types r P (choose test first second)
+    chosen_goes low types r P true first second h h' = h refl
+    chosen_goes low types r P false first second h h' = h' refl
 
     truth_goes : (low : ℕ) (types : List CType) (r : State) (t : CType) (o : Result Value) → Goes low types r (OfType g t) o → Goes low types r (OfType g Int) (and_then o (λ v u. Gives (number_of_test (truth v)) u))
     truth_goes low types r t o h = goes_on low types r (OfType g t) (OfType g Int) o _ h (λ v u _ typed kept. test_goes low types u (truth v) kept)
@@ -1125,161 +1175,362 @@ module _ (g : Frame) (budget n : ℕ) where
           (answered s here' enters arguments asked vs u after x u_kept) (λ v w _ back w_kept. valid_back low types w m t p v back.0 (back.1 r p.bounds refl at) w_kept))
           (λ v w _ y w_kept. bounded_goes low types w m t (Some p) v size y.0 y.1 w_kept))
 
+      -- ---- new memory
+
+      -- what a term of the walk names is an `int` here
+      ints_there : (s : State) → IsHere s → (o : Option ℕ) → IsInt here.locals o → IsInt (types_of s.locals) o
+      ints_there s h None int = tt
+      ints_there s h (Some x) int = has_locals g.structs (shaped s) here.locals types s.locals reaches h.1.locals x Int int
+
+      types_there : (s : State) → IsHere s → AreTyped s.locals
+      types_there s h = types_alike g.structs (length here.locals) here.flow s (λ t alike. (h.0 t alike).holds)
+
+      number_is_one : (a b : ℤ) → Number a ≡ Number b → a ≡ b
+      number_is_one a b q = cc
+
+      -- a number whose term, where it has one, comes to it
+      counted_goes : (i : core.Expression) (s : State) → IsHere s → Goes low types s (OfType g Int) (value true setting k i s)
+          → Goes low types s (λ (z : ℤ) (u : State). (n : Term) → term here.locals i ≡ Some n → term_value n u.locals ≡ Some z) (and_then (value true setting k i s) (number_given None))
+      counted_goes i s h goes =
+          goes_on low types s (λ v u. OfType g Int v u × IsOfTerm s.locals (term here.locals i) v) (λ (z : ℤ) (u : State). (n : Term) → term here.locals i ≡ Some n → term_value n u.locals ≡ Some z) (value true setting k i s) (number_given None)
+          (sure_further (λ v u. (OfType g Int v u × IsAfter s u × IsKept low types u) × IsOfTerm s.locals (term here.locals i) v) (λ v u. (OfType g Int v u × IsOfTerm s.locals (term here.locals i) v) × IsAfter s u × IsKept low types u) (value true setting k i s)
+          (sure_both (λ v u. OfType g Int v u × IsAfter s u × IsKept low types u) (λ v u. IsOfTerm s.locals (term here.locals i) v) (value true setting k i s) goes
+          (term_so true setting k is.keeps here.locals s.locals (types_there s h) (has_locals g.structs (shaped s) here.locals types s.locals reaches h.1.locals) i s refl))
+          (λ v u x. ((x.0.0, x.1), x.0.1, x.0.2)))
+          (λ v u after x u_kept. goes_further low types u (λ (z : ℤ) (w : State). (v ≡ Number z) × IsAfter u w) (λ (z : ℤ) (w : State). (n : Term) → term here.locals i ≡ Some n → term_value n w.locals ≡ Some z) (number_given None v u)
+          (with_after low types u (λ (z : ℤ) (w : State). v ≡ Number z) (number_given None v u) (index_goes u None v x.0 u_kept))
+          (λ z w same n e.
+          let number : z ≡ term_number (numbers_in s.locals) n = number_is_one z (term_number (numbers_in s.locals) n) (sym same.0 ∙ x.1 n e) in
+          subst (λ ls. term_value n ls ≡ Some z) (sym (same.1.1 ∙ after.1))
+          (int_term s.locals n (types_there s h) (ints_there s h n.var (term_formed here.locals i n e).int) ∙ ap Some (sym number))))
+
+      bounded_new : (count : core.Expression) (t : CType) (element : List Initial) (sized : element_size element ≡ size_of g.structs t) (cells : AreCellsOf g.structs t element) (initials : AllByRecursion (IsInitial g.structs) element) (b : Option PointerBounds) → AreNewBounds g.structs here.locals count t b
+          → (s : State) (z : ℤ) → ((n : Term) → term here.locals count ≡ Some n → term_value n s.locals ≡ Some z) → IsKept low types s
+          → Goes low types s (λ v u. OfType g (Pointer modes.Checked kinds.Array t) v u × IsBounded g (Pointer modes.Checked kinds.Array t) b v u) (allocated trusted element z s)
+      bounded_new count t element sized cells initials _ typed.uncounted s z is kept =
+          goes_further low types s (OfType g (Pointer modes.Checked kinds.Array t)) (λ v u. OfType g (Pointer modes.Checked kinds.Array t) v u × IsBounded g (Pointer modes.Checked kinds.Array t) None v u) (allocated trusted element z s)
+          (allocated_goes low types t element sized cells initials s trusted z kept) (λ v u typed. (typed, tt))
+      bounded_new count t element sized cells initials _ (typed.by_term {n = n} {site = site} counts) s z is kept =
+          let p : PointerBounds = at_node (counted n) (size_of g.structs t) site in
+          sure_further (λ v u. (OfType g (Pointer modes.Checked kinds.Array t) v u × IsAfter s u × IsKept low types u) × IsValid g.structs (Some (counted n)) (pointing modes.Checked t v) u)
+          (λ v u. (OfType g (Pointer modes.Checked kinds.Array t) v u × IsBounded g (Pointer modes.Checked kinds.Array t) (Some p) v u) × IsAfter s u × IsKept low types u) (allocated trusted element z s)
+          (sure_both (λ v u. OfType g (Pointer modes.Checked kinds.Array t) v u × IsAfter s u × IsKept low types u) (λ v u. IsValid g.structs (Some (counted n)) (pointing modes.Checked t v) u) (allocated trusted element z s)
+          (allocated_goes low types t element sized cells initials s trusted z kept) (new_valid low types t element sized cells initials s trusted z n (is n counts)))
+          (λ v u x. ((x.0.0, x.1), x.0.1, x.0.2))
+
+      new_size : (count : core.Expression) (t : CType) (b : Option PointerBounds) → AreNewBounds g.structs here.locals count t b → AreOf g.structs t b
+      new_size count t _ typed.uncounted = tt
+      new_size count t _ (typed.by_term counts) = refl
+
+      allocate_goes : (count : core.Expression) (t : CType) (element : List Initial) (b : Option PointerBounds) → element_size element ≡ size_of g.structs t → AreCellsOf g.structs t element → AllByRecursion (IsInitial g.structs) element → AreNewBounds g.structs here.locals count t b → (s : State) → IsHere s
+          → Goes low types s (OfType g Int) (value true setting k count s) → Goes low types s (OfNode g (core.Allocate count element b) (Pointer modes.Checked kinds.Array t)) (value true setting k (core.Allocate count element b) s)
+      allocate_goes count t element b sized cells initials bounds s h goes =
+          goes_on low types s (λ v u. OfType g (Pointer modes.Checked kinds.Array t) v u × IsBounded g (Pointer modes.Checked kinds.Array t) b v u) (OfNode g (core.Allocate count element b) (Pointer modes.Checked kinds.Array t))
+          (and_then (and_then (value true setting k count s) (number_given None)) (allocated trusted element)) (audit true b)
+          (goes_on low types s (λ (z : ℤ) (u : State). (n : Term) → term here.locals count ≡ Some n → term_value n u.locals ≡ Some z) (λ v u. OfType g (Pointer modes.Checked kinds.Array t) v u × IsBounded g (Pointer modes.Checked kinds.Array t) b v u)
+          (and_then (value true setting k count s) (number_given None)) (allocated trusted element) (counted_goes count s h goes)
+          (λ z u _ counts u_kept. bounded_new count t element sized cells initials b bounds u z counts u_kept))
+          (λ v u _ x u_kept. bounded_goes low types u modes.Checked t b v (new_size count t b bounds) x.0 x.1 u_kept)
+
+      allocate_given : (count : core.Expression) (t : CType) (element : List Initial) (b : Option PointerBounds) → AreNewBounds g.structs here.locals count t b → (s : State) → Goes low types s (OfNode g (core.Allocate count element b) (Pointer modes.Checked kinds.Array t)) (value true setting k (core.Allocate count element b) s)
+          → WhereGiven (GivenTo (core.Allocate count element b) modes.Checked t) (value true setting k (core.Allocate count element b) s)
+      allocate_given count t element _ typed.uncounted s goes = given_none (core.Allocate count element None) modes.Checked t s refl refl
+      allocate_given count t element _ (typed.by_term {n = n} {site = site} counts) s goes =
+          freely_given (core.Allocate count element (Some (at_node (counted n) (size_of g.structs t) site))) modes.Checked t (at_node (counted n) (size_of g.structs t) site) s refl refl refl
+          (record { lo = tt; hi = (term_formed here.locals count n counts).int }) goes
+
+      -- ---- casts
+
+      -- the base of bounds stands in the block of a pointer that counts from it
+      base_there : (e : core.Expression) (m : Mode) (t : CType) (o : Option ℕ) → ((i : ℕ) → o ≡ Some i → IsBaseOf here.locals e i) → (block byte : ℕ) (u : State) → GivenTo e m t (At block byte) u → (w : ℕ) × (base_byte o u.locals block byte ≡ Some w)
+      base_there e m t None bases block byte u given = (byte, refl)
+      base_there e m t (Some i) bases block byte u given =
+          let from = (bases i refl).counts in
+          let there = in_base m t from.bounds i block byte u (based_there e (Pointer m kinds.Array t) (At block byte) u (given u (alike_here (length here.locals) u)).1 from.bounds from.based) from.base in
+          (there.0, base_found u.locals i there.1 block byte there.0 there.2 there.3)
+
+      -- a pointer with new bounds
+      abbrev IsCast : core.Expression → Mode → CType → PointerBounds → Value → State → Type 0
+      IsCast e m t q v u = OfType g (Pointer m kinds.Array t) v u × (IsValid g.structs (Some q.bounds) (pointing m t v) u × GivenTo e m t v u)
+
+      module _ (e : core.Expression) (m : Mode) (t : CType) (p q : PointerBounds) (p_size : p.size ≡ size_of g.structs t) (q_size : q.size ≡ size_of g.structs t) (ints : AreInts here.locals q.bounds) (bases : (i : ℕ) → q.bounds.base ≡ Some i → IsBaseOf here.locals e i) where
+        cast_by_ends : (block byte : ℕ) (u : State) (old new : EndsOf) → ends_at p u.locals block byte ≡ Some old → ends_at q u.locals block byte ≡ Some new → old.size ≡ new.size → IsValid g.structs (Some p.bounds) (pointing m t (At block byte)) u → GivenTo e m t (At block byte) u → IsKept low types u → (test : Bool) → are_within old new ≡ test
+            → Goes low types u (IsCast e m t q) (checked_if test C5 q.site (Gives (At block byte) u) u)
+        cast_by_ends block byte u old new are_old are_new same valid given kept false within = tt
+        cast_by_ends block byte u old new are_old are_new same valid given kept true within =
+            ((tt, (cast_valid g.structs m t p q p_size q_size block byte u old new are_old are_new same within valid, given)), after_here u, kept)
+
+        cast_by_size : (block byte : ℕ) (u : State) (old new : EndsOf) (test : Bool) → test ≡ true → Goes low types u (IsCast e m t q) (checked_if (are_within old new) C5 q.site (Gives (At block byte) u) u) → Goes low types u (IsCast e m t q) (cast_if test q.site (At block byte) old new u)
+        cast_by_size block byte u old new true is h = h
+        cast_by_size block byte u old new false is h = absurd (cc)
+
+        same_size : (x y : ℕ) → x ≡ y → (x == y) ≡ true
+        same_size x y e = grind (arith, nat_tests)
+
+        cast_value : (v : Value) (u : State) → IsHere u → OfType g (Pointer m kinds.Array t) v u → IsBounded g (Pointer m kinds.Array t) (Some p) v u → GivenTo e m t v u → Goes low types u (IsCast e m t q) (cast_to (Some q) (with_ends (Some p) v u.locals) u)
+        cast_value (Number z) u h typed valid given = absurd typed
+        cast_value Null u h typed valid given = ((tt, (null_valid g.structs (Some q.bounds) (pointing m t Null) u refl, given)), after_here u, h.1)
+        cast_value (At block byte) u h typed valid given =
+            let old = ends_there g.structs m t p u p_size block byte valid in
+            let base = base_there e m t q.bounds.base bases block byte u given in
+            let new = new_ends g.structs m t p q p_size q_size block byte u (types_there u h) (record { lo = ints_there u h q.bounds.lo.var ints.lo; hi = ints_there u h q.bounds.hi.var ints.hi }) base.0 base.1 in
+            let same : old.0.size ≡ new.0.size = size_there g.structs m t p u p_size block byte valid old.0 old.1 ∙ sym new.2 in
+            subst (λ o. Goes low types u (IsCast e m t q) (cast_within q.site (At block byte) o (ends_at q u.locals block byte) u)) (sym old.1)
+            (subst (λ o. Goes low types u (IsCast e m t q) (cast_within q.site (At block byte) (Some old.0) o u)) (sym new.1)
+            (cast_by_size block byte u old.0 new.0 (old.0.size == new.0.size) (same_size old.0.size new.0.size same)
+            (cast_by_ends block byte u old.0 new.0 old.1 new.1 same valid given h.1 (are_within old.0 new.0) refl)))
+
+        cast_step : (own : bounds_of e ≡ Some p) (s : State) → IsHere s → Goes low types s (λ v u. OfNode g e (Pointer m kinds.Array t) v u × GivenTo e m t v u) (value true setting k e s)
+            → Goes low types s (IsCast e m t q) (and_then (value true setting k e s) (λ v u. cast_to (Some q) (with_ends (bounds_of e) v u.locals) u))
+        cast_step own s h goes =
+            goes_on low types s (λ v u. OfNode g e (Pointer m kinds.Array t) v u × GivenTo e m t v u) (IsCast e m t q) (value true setting k e s) (λ v u. cast_to (Some q) (with_ends (bounds_of e) v u.locals) u) goes
+            (λ v u after x u_kept. subst (λ b. Goes low types u (IsCast e m t q) (cast_to (Some q) (with_ends b v u.locals) u)) (sym own)
+            (cast_value v u (here_later s u after h u_kept) x.0.0 (subst (λ b. IsBounded g (Pointer m kinds.Array t) b v u) own x.0.1) x.1))
+
+        -- what it is given with, at each state that is alike
+        cast_size : (o : Option ℕ) → q.bounds.base ≡ o → (v : Value) (w : State) → AreGivenAt g.structs (Pointer m kinds.Array t) e v w → HasSize g.structs (types_of w.locals) (size_of g.structs t) (Some q.bounds)
+        cast_size o is v w given i c at there =
+            let from = (bases i at).counts in
+            (based_there e (Pointer m kinds.Array t) v w given.1 from.bounds from.based).1 i c from.base there
+
+        cast_given : (v : Value) (u : State) → IsHere u → IsCast e m t q v u → GivenTo (core.Cast e (Some q)) m t v u
+        cast_given v u h x w alike = (both, on_base q.bounds.base refl)
+          where
+            pointers : (i : ℕ) → q.bounds.base ≡ Some i → (m : Mode) × (d : Kind) × (t : CType) × (slice_get here.locals i ≡ Some (Pointer m d t))
+            pointers i at = let it = bases i at in (it.mode, it.kind, it.target, it.pointer)
+
+            both : IsBoundedBy g.structs q.bounds (pointing m t v) w
+            both = (
+              bounds_alike g.structs g.structs here.locals u w (has_locals g.structs (shaped u) here.locals types u.locals reaches h.1.locals) alike q.bounds (pointing m t v) pointers ints x.1.0,
+              cast_size q.bounds.base refl v w (x.1.1 w alike),
+            )
+
+            on_base : (o : Option ℕ) → q.bounds.base ≡ o → IsGivenIf g.structs (Pointer m kinds.Array t) (picked (is_some o) (Some q.bounds) None) v w
+            on_base None is = tt
+            on_base (Some i) is = both
+
+      -- a cast to the element at which a pointer stands gives one without a base
+      single_unbased : (t : CType) (b : Option PointerBounds) → HasBounds g.structs (Pointer modes.Checked kinds.One t) b → with_base (option_map (λ (q : PointerBounds). q.bounds) b) ≡ None
+      single_unbased t b told = ap (λ b. with_base (option_map (λ (q : PointerBounds). q.bounds) b)) told.1
+
+      -- a cast to one without bounds
+      unbounded_goes : (e : core.Expression) (m : Mode) (d : Kind) (t : CType) (s : State) → Goes low types s (OfType g (Pointer m d t)) (value true setting k e s) → Goes low types s (OfNode g (core.Cast e None) (Pointer m kinds.Array t)) (value true setting k (core.Cast e None) s)
+      unbounded_goes e m d t s goes =
+          goes_on low types s (OfType g (Pointer m kinds.Array t)) (OfNode g (core.Cast e None) (Pointer m kinds.Array t)) (and_then (value true setting k e s) (λ v u. cast_to None (with_ends (bounds_of e) v u.locals) u)) (audit true None)
+          (goes_on low types s (OfType g (Pointer m d t)) (OfType g (Pointer m kinds.Array t)) (value true setting k e s) (λ v u. cast_to None (with_ends (bounds_of e) v u.locals) u) goes
+          (λ v u _ typed u_kept. (subst (λ v. OfType g (Pointer m kinds.Array t) v u) (sym (same_value (bounds_of e) v u)) (row_value m d t v u typed), after_here u, u_kept)))
+          (λ v u _ typed u_kept. ((typed, tt), after_here u, u_kept))
+
+      -- with what an expression told that came out so
+      told_too : (tracked : length here.locals ≤ here.flow.vars) (e : core.Expression) (t : CType) (s : State) → IsHere s → Goes low types s (OfType g t) (value true setting k e s) → Goes low types s (λ v u. OfType g t v u × IsKnown g.structs (when e (truth v) here) u) (value true setting k e s)
+      told_too tracked e t s h goes =
+          sure_further (λ v u. (OfType g t v u × IsAfter s u × IsKept low types u) × (IsAfter s u × IsKnown g.structs (when e (truth v) here) u)) (λ v u. (OfType g t v u × IsKnown g.structs (when e (truth v) here) u) × IsAfter s u × IsKept low types u) (value true setting k e s)
+          (sure_both (λ v u. OfType g t v u × IsAfter s u × IsKept low types u) (λ v u. IsAfter s u × IsKnown g.structs (when e (truth v) here) u) (value true setting k e s) goes
+          (told_fits true setting k is.keeps g.structs here.locals e here.flow flow tracked s (has_locals g.structs (shaped s) here.locals types s.locals reaches h.1.locals) h.0))
+          (λ v u x. ((x.0.0, x.1.1), x.0.1, x.0.2))
+
+      -- that is a flow too, which speaks of each local
+      flow_told : (tracked : length here.locals ≤ here.flow.vars) (e : core.Expression) (came : Bool) → IsFlow (when e came here).flow
+      flow_told tracked e came = (told_is here.locals here.flow tracked e came here.flow (told_here here.flow flow)).flow
+
+      tracked_told : (tracked : length here.locals ≤ here.flow.vars) (e : core.Expression) (came : Bool) → length here.locals ≤ (when e came here).flow.vars
+      tracked_told tracked e came = subst (λ n. length here.locals ≤ n) (sym (told_is here.locals here.flow tracked e came here.flow (told_here here.flow flow)).tested.vars) tracked
+
+    module _ (low : ℕ) (types : List CType) where
       mutual
-        pub value_goes : {e : core.Expression} {t : CType} → HasType g types here e t → (s : State) → IsHere s → Goes low types s (OfNode g e t) (value true setting k e s)
-        value_goes (typed.word {z = z} fits) s h = with_none (core.Number z) Int s (λ v u. tt) (number_goes low types s z (is_word_number z) refl fits h.1)
-        value_goes (typed.byte {z = z} fits) s h =
-            with_none (core.Number z) Char s (λ v u. tt) (byte_number_goes low types s z (is_word_number z) (value_widened g.structs (shaped s) (Number z) fits) fits h.1)
-        value_goes (typed.null {mode = m} {kind = d} {t = t}) s h = with_none core.Null (Pointer m d t) s (none_bounded (Pointer m d t)) (tt, after_here s, h.1)
-        value_goes (typed.local {k = i} {t = t} {b = b} e bounds) s h =
-            with_none (core.Local i b) t s (plain_bounded t b bounds) (audited_goes low types s t b (given (slice_get s.locals i) s) bounds (given_goes low types s i t h.1 (reaches i t e)))
-        value_goes (typed.bounded {k = i} {mode = m} {t = t} {p = p} e size limited force) s h =
+        pub value_goes : (here : Scope) (flow : IsFlow here.flow) (tracked : length here.locals ≤ here.flow.vars) (reaches : Extends here.locals types) {e : core.Expression} {t : CType} → HasType g types here e t → (s : State) → IsHere low types here flow reaches s → Goes low types s (OfNode g e t) (value true setting k e s)
+        value_goes here flow tracked reaches (typed.word {z = z} fits) s h = with_none low types here flow reaches (core.Number z) Int s (λ v u. tt) (number_goes low types s z (is_word_number z) refl fits h.1)
+        value_goes here flow tracked reaches (typed.byte {z = z} fits) s h =
+            with_none low types here flow reaches (core.Number z) Char s (λ v u. tt) (byte_number_goes low types s z (is_word_number z) (value_widened g.structs (shaped s) (Number z) fits) fits h.1)
+        value_goes here flow tracked reaches (typed.null {mode = m} {kind = d} {t = t}) s h = with_none low types here flow reaches core.Null (Pointer m d t) s (none_bounded (Pointer m d t)) (tt, after_here s, h.1)
+        value_goes here flow tracked reaches (typed.local {k = i} {t = t} {b = b} e bounds) s h =
+            with_none low types here flow reaches (core.Local i b) t s (plain_bounded t b bounds) (audited_goes low types s t b (given (slice_get s.locals i) s) bounds (given_goes low types s i t h.1 (reaches i t e)))
+        value_goes here flow tracked reaches (typed.bounded {k = i} {mode = m} {t = t} {p = p} e size limited named force) s h =
             let l = local_there g.structs (shaped s) types s.locals i (Pointer m kinds.Array t) h.1.locals (reaches i (Pointer m kinds.Array t) e) in
             subst (λ o. Goes low types s (OfNode g (core.Local i (Some p)) (Pointer m kinds.Array t)) (and_then (given o s) (audit true (Some p)))) (sym l.1)
             (bounded_goes low types s m t (Some p) l.0.value size l.3 (subst (λ c. IsValid g.structs (Some p.bounds) (record { type = c; value = l.0.value }) s) l.2 (force s h.0 l.0 l.1).0) h.1)
-        value_goes (typed.widened {e = e} h) s here' = with_none e Int s (λ v u. tt) (widened_goes low types s (value true setting k e s) (typed_alone e Char s (value_goes h s here')))
-        value_goes (typed.single {e = e} {mode = m} {t = t} {p = p} h elements leads) s here' =
+        value_goes here flow tracked reaches (typed.widened {e = e} h) s here' = with_none low types here flow reaches e Int s (λ v u. tt) (widened_goes low types s (value true setting k e s) (typed_alone low types here flow reaches e Char s (value_goes here flow tracked reaches h s here')))
+        value_goes here flow tracked reaches (typed.single {e = e} {mode = m} {t = t} {p = p} h elements leads) s here' =
             goes_further low types s (λ v u. OfNode g e (Pointer m kinds.Array t) v u × IsKnown g.structs here u) (OfNode g e (Pointer m kinds.One t)) (value true setting k e s)
-            (known_too s (OfNode g e (Pointer m kinds.Array t)) (value true setting k e s) here' (value_goes h s here'))
+            (known_too low types here flow reaches s (OfNode g e (Pointer m kinds.Array t)) (value true setting k e s) here' (value_goes here flow tracked reaches h s here'))
             (λ v u x. (single_typed g.structs m t u elements.some v x.0.0 (leads u x.1 (pointing m t v) (subst (λ b. IsBounded g (Pointer m kinds.Array t) b v u) elements.bounds x.0.1)) p.site, tt))
-        value_goes (typed.row {e = e} {mode = m} {t = t} h bounds) s here' = as_row m kinds.One t e s (value_goes h s here') (row_bounded m t (bounds_of e) bounds)
-        value_goes (typed.ended_row {e = e} {mode = m} {t = t} h none) s here' = as_row m kinds.Nt t e s (value_goes h s here') (λ v u typed. subst (λ b. IsBounded g (Pointer m kinds.Array t) b v u) (sym none) tt)
-        value_goes (typed.load {t = t} {p = p} {b = b} scalar h bounds) s here' =
-            with_none (core.Load t p b) t s (plain_bounded t b bounds)
+        value_goes here flow tracked reaches (typed.row {e = e} {mode = m} {t = t} h bounds) s here' = as_row low types here flow reaches m kinds.One t e s (value_goes here flow tracked reaches h s here') (row_bounded low types here flow reaches m t (bounds_of e) bounds)
+        value_goes here flow tracked reaches (typed.ended_row {e = e} {mode = m} {t = t} h none) s here' = as_row low types here flow reaches m kinds.Nt t e s (value_goes here flow tracked reaches h s here') (λ v u typed. subst (λ b. IsBounded g (Pointer m kinds.Array t) b v u) (sym none) tt)
+        value_goes here flow tracked reaches (typed.load {t = t} {p = p} {b = b} scalar h bounds) s here' =
+            with_none low types here flow reaches (core.Load t p b) t s (plain_bounded t b bounds)
             (audited_goes low types s t b (and_then (place true setting k p s) (load_at t (site_of p))) bounds
-            (goes_on low types s (IsPlaced g t) (OfType g t) (place true setting k p s) (load_at t (site_of p)) (place_goes h s here') (λ at u _ placed u_kept. load_goes low types u t (site_of p) at scalar placed u_kept)))
-        value_goes (typed.address_of {mode = m} {t = t} {p = p} {b = b} h bounds) s here' =
-            with_none (core.AddressOf p b) (Pointer m kinds.One t) s (λ v u. tt)
+            (goes_on low types s (IsPlaced g t) (OfType g t) (place true setting k p s) (load_at t (site_of p)) (place_goes here flow tracked reaches h s here') (λ at u _ placed u_kept. load_goes low types u t (site_of p) at scalar placed u_kept)))
+        value_goes here flow tracked reaches (typed.address_of {mode = m} {t = t} {p = p} {b = b} h bounds) s here' =
+            with_none low types here flow reaches (core.AddressOf p b) (Pointer m kinds.One t) s (λ v u. tt)
             (audited_goes low types s (Pointer m kinds.One t) b (and_then (place true setting k p s) pointer_to) bounds
-            (goes_on low types s (IsPlaced g t) (OfType g (Pointer m kinds.One t)) (place true setting k p s) pointer_to (place_goes h s here') (λ at u _ placed u_kept. (placed, after_here u, u_kept))))
-        value_goes (typed.array {object = object} {n = n} {t = t} {p = p} {cells = is} found some few rows bounds size) s here' =
+            (goes_on low types s (IsPlaced g t) (OfType g (Pointer m kinds.One t)) (place true setting k p s) pointer_to (place_goes here flow tracked reaches h s here') (λ at u _ placed u_kept. (placed, after_here u, u_kept))))
+        value_goes here flow tracked reaches (typed.array {object = object} {n = n} {t = t} {p = p} {cells = is} found some few rows bounds size) s here' =
             goes_on low types s (λ (v : Value) (u : State). v ≡ At object 0) (OfNode g (core.AddressOf (core.Direct object 0) (Some p)) (Pointer modes.Checked kinds.Array t)) (and_then (variable_at setting object 0 s) pointer_to) (audit true (Some p))
             (goes_on low types s (λ (at : ℕ × ℕ) (u : State). at ≡ (object, 0)) (λ (v : Value) (u : State). v ≡ At object 0) (variable_at setting object 0 s) pointer_to (first_goes low types s t object n is found some rows here'.1)
             (λ at u _ same u_kept. (ap (λ (at : ℕ × ℕ). At at.0 at.1) same, after_here u, u_kept)))
             (λ v u _ same u_kept. subst (λ v. Goes low types u (OfNode g (core.AddressOf (core.Direct object 0) (Some p)) (Pointer modes.Checked kinds.Array t)) (audit true (Some p) v u)) (sym same)
             (bounded_goes low types u modes.Checked t (Some p) (At object 0) size tt
             (array_valid g.structs modes.Checked t n object (shape (object_block is)) u (object_there low types u object is found u_kept) some rows p bounds) u_kept))
-        value_goes (typed.sum {e = e} {i = i} {mode = m} {t = t} {direction = direction} {site = site} {p = p} {b = b} h elements hi bounds) s here' =
-            goes_on low types s (IsSummed e i m t direction p (GivenTo e m t)) (OfNode g (core.Sum e direction i site b) (Pointer m kinds.Array t)) _ (audit true b)
-            (sum_goes e i m t direction p site elements (GivenTo e m t) s here' (given_stays e m t) (with_given e m t s (value_goes h s here') (given_so h m kinds.Array t refl s here' (value_goes h s here'))) (λ u stands. typed_alone i Int u (value_goes hi u stands)))
-            (λ x y _ summed y_kept. bounded_goes low types y m t b x (sum_size g.structs t here.locals e direction i p b bounds elements.size) (sum_typed direction x y summed) (sum_bounded e i m t direction site p b elements.bounds bounds x y summed) y_kept)
-        value_goes (typed.order {comparison = comparison} {a = a} {b = b} {mode = m} {mode' = m'} {t = t} {t' = t'} {k = q} {site = site} ha from hb to) s here' =
-            with_none (core.Order comparison a b site) Int s (λ v u. tt)
-            (goes_on low types s (λ v u. OfNode g a (Pointer m kinds.Array t) v u × GivenTo a m t v u) (OfType g Int) (value true setting k a s) _ (with_given a m t s (value_goes ha s here') (given_so ha m kinds.Array t refl s here' (value_goes ha s here')))
-            (λ v u after first u_kept. goes_on low types u (λ w x. OfNode g b (Pointer m' kinds.Array t') w x × GivenTo b m' t' w x) (OfType g Int) (value true setting k b u) _
-            (with_given b m' t' u (value_goes hb u (here_later s u after here' u_kept)) (given_so hb m' kinds.Array t' refl u (here_later s u after here' u_kept) (value_goes hb u (here_later s u after here' u_kept))))
-            (λ w x later second x_kept. ordered_goes m m' t t' comparison site from.bounds to.bounds q from.base to.base v w x (value_grown g.structs (shaped u) (shaped x) later.0 (Pointer m kinds.Array t) v first.0.0) second.0.0
-            (based_there a (Pointer m kinds.Array t) v x (given_stays a m t v u x later first.1 x (alike_here (length here.locals) x)).1 from.bounds from.based)
-            (based_there b (Pointer m' kinds.Array t') w x (second.1 x (alike_here (length here.locals) x)).1 to.bounds to.based) x_kept)))
-        value_goes (typed.negate {e = e} {site = site} h) s here' =
-            with_none (core.Negate e site) Int s (λ v u. tt) (goes_on low types s (OfType g Int) (OfType g Int) (value true setting k e s) (negated site) (typed_alone e Int s (value_goes h s here')) (λ v u _ typed u_kept. negated_goes low types u site v typed u_kept))
-        value_goes (typed.complement {e = e} h) s here' =
-            with_none (core.Complement e) Int s (λ v u. tt) (goes_on low types s (OfType g Int) (OfType g Int) (value true setting k e s) complemented (typed_alone e Int s (value_goes h s here')) (λ v u _ typed u_kept. complemented_goes low types u v typed u_kept))
-        value_goes (typed.inverse {e = e} {t = t} h) s here' =
-            with_none (core.Not e) Int s (λ v u. tt) (goes_on low types s (OfType g t) (OfType g Int) (value true setting k e s) _ (typed_alone e t s (value_goes h s here')) (λ v u _ typed u_kept. test_goes low types u (not (truth v)) u_kept))
-        value_goes (typed.arithmetic {operator = operator} {a = a} {b = b} {site = site} ha hb) s here' =
-            with_none (core.Arithmetic operator a b site) Int s (λ v u. tt)
-            (goes_on low types s (OfType g Int) (OfType g Int) (value true setting k a s) _ (typed_alone a Int s (value_goes ha s here'))
-            (λ v u after typed u_kept. behind Int Int (OfType g Int) u v (value true setting k b u) (arithmetic_of operator site v) typed (typed_alone b Int u (value_goes hb u (here_later s u after here' u_kept)))
+        value_goes here flow tracked reaches (typed.sum {e = e} {i = i} {mode = m} {t = t} {direction = direction} {site = site} {p = p} {b = b} h elements hi bounds) s here' =
+            goes_on low types s (IsSummed low types here flow reaches e i m t direction p (GivenTo low types here flow reaches e m t)) (OfNode g (core.Sum e direction i site b) (Pointer m kinds.Array t)) _ (audit true b)
+            (sum_goes low types here flow reaches e i m t direction p site elements (GivenTo low types here flow reaches e m t) s here' (given_stays low types here flow reaches e m t) (with_given low types here flow reaches e m t s (value_goes here flow tracked reaches h s here') (given_so here flow tracked reaches h m kinds.Array t refl s here' (value_goes here flow tracked reaches h s here'))) (λ u stands. typed_alone low types here flow reaches i Int u (value_goes here flow tracked reaches hi u stands)))
+            (λ x y _ summed y_kept. bounded_goes low types y m t b x (sum_size g.structs t here.locals e direction i p b bounds elements.size) (sum_typed low types here flow reaches direction x y summed) (sum_bounded low types here flow reaches e i m t direction site p b elements.bounds bounds x y summed) y_kept)
+        value_goes here flow tracked reaches (typed.order {comparison = comparison} {a = a} {b = b} {mode = m} {mode' = m'} {t = t} {t' = t'} {k = q} {site = site} ha from hb to) s here' =
+            with_none low types here flow reaches (core.Order comparison a b site) Int s (λ v u. tt)
+            (goes_on low types s (λ v u. OfNode g a (Pointer m kinds.Array t) v u × GivenTo low types here flow reaches a m t v u) (OfType g Int) (value true setting k a s) _ (with_given low types here flow reaches a m t s (value_goes here flow tracked reaches ha s here') (given_so here flow tracked reaches ha m kinds.Array t refl s here' (value_goes here flow tracked reaches ha s here')))
+            (λ v u after first u_kept. goes_on low types u (λ w x. OfNode g b (Pointer m' kinds.Array t') w x × GivenTo low types here flow reaches b m' t' w x) (OfType g Int) (value true setting k b u) _
+            (with_given low types here flow reaches b m' t' u (value_goes here flow tracked reaches hb u (here_later low types here flow reaches s u after here' u_kept)) (given_so here flow tracked reaches hb m' kinds.Array t' refl u (here_later low types here flow reaches s u after here' u_kept) (value_goes here flow tracked reaches hb u (here_later low types here flow reaches s u after here' u_kept))))
+            (λ w x later second x_kept. ordered_goes low types here flow reaches m m' t t' comparison site from.bounds to.bounds q from.base to.base v w x (value_grown g.structs (shaped u) (shaped x) later.0 (Pointer m kinds.Array t) v first.0.0) second.0.0
+            (based_there low types here flow reaches a (Pointer m kinds.Array t) v x (given_stays low types here flow reaches a m t v u x later first.1 x (alike_here (length here.locals) x)).1 from.bounds from.based)
+            (based_there low types here flow reaches b (Pointer m' kinds.Array t') w x (second.1 x (alike_here (length here.locals) x)).1 to.bounds to.based) x_kept)))
+        value_goes here flow tracked reaches (typed.negate {e = e} {site = site} h) s here' =
+            with_none low types here flow reaches (core.Negate e site) Int s (λ v u. tt) (goes_on low types s (OfType g Int) (OfType g Int) (value true setting k e s) (negated site) (typed_alone low types here flow reaches e Int s (value_goes here flow tracked reaches h s here')) (λ v u _ typed u_kept. negated_goes low types u site v typed u_kept))
+        value_goes here flow tracked reaches (typed.complement {e = e} h) s here' =
+            with_none low types here flow reaches (core.Complement e) Int s (λ v u. tt) (goes_on low types s (OfType g Int) (OfType g Int) (value true setting k e s) complemented (typed_alone low types here flow reaches e Int s (value_goes here flow tracked reaches h s here')) (λ v u _ typed u_kept. complemented_goes low types u v typed u_kept))
+        value_goes here flow tracked reaches (typed.inverse {e = e} {t = t} h) s here' =
+            with_none low types here flow reaches (core.Not e) Int s (λ v u. tt) (goes_on low types s (OfType g t) (OfType g Int) (value true setting k e s) _ (typed_alone low types here flow reaches e t s (value_goes here flow tracked reaches h s here')) (λ v u _ typed u_kept. test_goes low types u (not (truth v)) u_kept))
+        value_goes here flow tracked reaches (typed.arithmetic {operator = operator} {a = a} {b = b} {site = site} ha hb) s here' =
+            with_none low types here flow reaches (core.Arithmetic operator a b site) Int s (λ v u. tt)
+            (goes_on low types s (OfType g Int) (OfType g Int) (value true setting k a s) _ (typed_alone low types here flow reaches a Int s (value_goes here flow tracked reaches ha s here'))
+            (λ v u after typed u_kept. behind low types here flow reaches Int Int (OfType g Int) u v (value true setting k b u) (arithmetic_of operator site v) typed (typed_alone low types here flow reaches b Int u (value_goes here flow tracked reaches hb u (here_later low types here flow reaches s u after here' u_kept)))
             (λ w x typed typed' x_kept. arithmetic_goes low types x operator site v w typed typed' x_kept)))
-        value_goes (typed.compare {comparison = comparison} {a = a} {b = b} ha hb) s here' =
-            with_none (core.Compare comparison a b) Int s (λ v u. tt)
-            (goes_on low types s (OfType g Int) (OfType g Int) (value true setting k a s) _ (typed_alone a Int s (value_goes ha s here'))
-            (λ v u after typed u_kept. behind Int Int (OfType g Int) u v (value true setting k b u) (compared comparison v) typed (typed_alone b Int u (value_goes hb u (here_later s u after here' u_kept)))
+        value_goes here flow tracked reaches (typed.compare {comparison = comparison} {a = a} {b = b} ha hb) s here' =
+            with_none low types here flow reaches (core.Compare comparison a b) Int s (λ v u. tt)
+            (goes_on low types s (OfType g Int) (OfType g Int) (value true setting k a s) _ (typed_alone low types here flow reaches a Int s (value_goes here flow tracked reaches ha s here'))
+            (λ v u after typed u_kept. behind low types here flow reaches Int Int (OfType g Int) u v (value true setting k b u) (compared comparison v) typed (typed_alone low types here flow reaches b Int u (value_goes here flow tracked reaches hb u (here_later low types here flow reaches s u after here' u_kept)))
             (λ w x typed typed' x_kept. compared_goes low types x comparison v w typed typed' x_kept)))
-        value_goes (typed.same {mode = m} {mode' = m'} {kind = d} {kind' = d'} {t = t} {t' = t'} {a = a} {b = b} ha hb) s here' =
-            with_none (core.Same a b) Int s (λ v u. tt)
-            (goes_on low types s (OfType g (Pointer m d t)) (OfType g Int) (value true setting k a s) _ (typed_alone a (Pointer m d t) s (value_goes ha s here'))
-            (λ v u after typed u_kept. behind (Pointer m d t) (Pointer m' d' t') (OfType g Int) u v (value true setting k b u) _ typed (typed_alone b (Pointer m' d' t') u (value_goes hb u (here_later s u after here' u_kept)))
+        value_goes here flow tracked reaches (typed.same {mode = m} {mode' = m'} {kind = d} {kind' = d'} {t = t} {t' = t'} {a = a} {b = b} ha hb) s here' =
+            with_none low types here flow reaches (core.Same a b) Int s (λ v u. tt)
+            (goes_on low types s (OfType g (Pointer m d t)) (OfType g Int) (value true setting k a s) _ (typed_alone low types here flow reaches a (Pointer m d t) s (value_goes here flow tracked reaches ha s here'))
+            (λ v u after typed u_kept. behind low types here flow reaches (Pointer m d t) (Pointer m' d' t') (OfType g Int) u v (value true setting k b u) _ typed (typed_alone low types here flow reaches b (Pointer m' d' t') u (value_goes here flow tracked reaches hb u (here_later low types here flow reaches s u after here' u_kept)))
             (λ w x typed typed' x_kept. same_goes low types x m m' d d' t t' v w typed typed' x_kept)))
-        value_goes (typed.both {a = a} {b = b} {t = t} {t' = t'} ha hb) s here' =
-            with_none (core.AndAlso a b) Int s (λ v u. tt)
-            (goes_on low types s (OfType g t) (OfType g Int) (value true setting k a s) _ (typed_alone a t s (value_goes ha s here'))
-            (λ v u after typed u_kept. chosen_goes low types u (OfType g Int) (truth v) _ _ (truth_goes low types u t' (value true setting k b u) (typed_alone b t' u (value_goes hb u (here_later s u after here' u_kept)))) (test_goes low types u false u_kept)))
-        value_goes (typed.either {a = a} {b = b} {t = t} {t' = t'} ha hb) s here' =
-            with_none (core.OrElse a b) Int s (λ v u. tt)
-            (goes_on low types s (OfType g t) (OfType g Int) (value true setting k a s) _ (typed_alone a t s (value_goes ha s here'))
-            (λ v u after typed u_kept. chosen_goes low types u (OfType g Int) (truth v) _ _ (test_goes low types u true u_kept) (truth_goes low types u t' (value true setting k b u) (typed_alone b t' u (value_goes hb u (here_later s u after here' u_kept))))))
-        value_goes (typed.low_byte {e = e} h) s here' =
-            with_none (core.LowByte e) Char s (λ v u. tt) (goes_on low types s (OfType g Int) (OfType g Char) (value true setting k e s) low_byte_of (typed_alone e Int s (value_goes h s here')) (λ v u _ typed u_kept. byte_goes low types u v typed u_kept))
-        value_goes (typed.call {callee = callee} {ts = ts} {bs = bs} {r = r} {arguments = arguments} {t = t} {b = b} known h asked bounds) s here' = call_goes callee arguments ts bs t r b known bounds asked s here' (values_go h s here')
-        value_goes typed.next_input s here' =
-            with_none core.NextInput Int s (λ v u. tt)
+        value_goes here flow tracked reaches (typed.both {a = a} {b = b} {t = t} {t' = t'} ha hb) s here' =
+            with_none low types here flow reaches (core.AndAlso a b) Int s (λ v u. tt)
+            (goes_on low types s (λ v u. OfType g t v u × IsKnown g.structs (when a (truth v) here) u) (OfType g Int) (value true setting k a s) _ (told_too low types here flow reaches tracked a t s here' (typed_alone low types here flow reaches a t s (value_goes here flow tracked reaches ha s here')))
+            (λ v u after x u_kept. chosen_goes low types u (OfType g Int) (truth v) _ _
+            (λ came. truth_goes low types u t' (value true setting k b u) (typed_alone low types (when a true here) (flow_told low types here flow reaches tracked a true) reaches b t' u
+            (value_goes (when a true here) (flow_told low types here flow reaches tracked a true) (tracked_told low types here flow reaches tracked a true) reaches hb u (subst (λ c. IsKnown g.structs (when a c here) u) came x.1, u_kept))))
+            (λ came. test_goes low types u false u_kept)))
+        value_goes here flow tracked reaches (typed.either {a = a} {b = b} {t = t} {t' = t'} ha hb) s here' =
+            with_none low types here flow reaches (core.OrElse a b) Int s (λ v u. tt)
+            (goes_on low types s (λ v u. OfType g t v u × IsKnown g.structs (when a (truth v) here) u) (OfType g Int) (value true setting k a s) _ (told_too low types here flow reaches tracked a t s here' (typed_alone low types here flow reaches a t s (value_goes here flow tracked reaches ha s here')))
+            (λ v u after x u_kept. chosen_goes low types u (OfType g Int) (truth v) _ _
+            (λ came. test_goes low types u true u_kept)
+            (λ came. truth_goes low types u t' (value true setting k b u) (typed_alone low types (when a false here) (flow_told low types here flow reaches tracked a false) reaches b t' u
+            (value_goes (when a false here) (flow_told low types here flow reaches tracked a false) (tracked_told low types here flow reaches tracked a false) reaches hb u (subst (λ c. IsKnown g.structs (when a c here) u) came x.1, u_kept))))))
+        value_goes here flow tracked reaches (typed.low_byte {e = e} h) s here' =
+            with_none low types here flow reaches (core.LowByte e) Char s (λ v u. tt) (goes_on low types s (OfType g Int) (OfType g Char) (value true setting k e s) low_byte_of (typed_alone low types here flow reaches e Int s (value_goes here flow tracked reaches h s here')) (λ v u _ typed u_kept. byte_goes low types u v typed u_kept))
+        value_goes here flow tracked reaches (typed.call {callee = callee} {ts = ts} {bs = bs} {r = r} {arguments = arguments} {t = t} {b = b} known h asked bounds) s here' = call_goes low types here flow reaches callee arguments ts bs t r b known bounds asked s here' (values_go here flow tracked reaches h s here')
+        value_goes here flow tracked reaches (typed.allocate {count = count} {t = t} {element = element} {b = b} h fresh bounds) s here' =
+            allocate_goes low types here flow reaches count t element b fresh.size fresh.cells fresh.initial bounds s here' (typed_alone low types here flow reaches count Int s (value_goes here flow tracked reaches h s here'))
+        value_goes here flow tracked reaches (typed.cast {e = e} {mode = m} {t = t} {p = p} {q = q} h elements within size limited ints bases) s here' =
+            goes_on low types s (IsCast low types here flow reaches e m t q) (OfNode g (core.Cast e (Some q)) (Pointer m kinds.Array t)) (and_then (value true setting k e s) (λ v u. cast_to (Some q) (with_ends (bounds_of e) v u.locals) u)) (audit true (Some q))
+            (cast_step low types here flow reaches e m t p q elements.size size ints bases elements.bounds s here'
+            (with_given low types here flow reaches e m t s (value_goes here flow tracked reaches h s here') (given_so here flow tracked reaches h m kinds.Array t refl s here' (value_goes here flow tracked reaches h s here'))))
+            (λ v u _ x u_kept. bounded_goes low types u m t (Some q) v size x.0 x.1.0 u_kept)
+        value_goes here flow tracked reaches (typed.cast_single {e = e} {t = t} {p = p} {b = b} h elements within bounds) s here' =
+            with_none low types here flow reaches (core.Cast e b) (Pointer modes.Checked kinds.One t) s (λ v u. tt)
+            (audited_goes low types s (Pointer modes.Checked kinds.One t) b (and_then (value true setting k e s) (λ v u. cast_to b (with_ends (bounds_of e) v u.locals) u)) bounds
+            (subst (λ b. Goes low types s (OfType g (Pointer modes.Checked kinds.One t)) (and_then (value true setting k e s) (λ v u. cast_to b (with_ends (bounds_of e) v u.locals) u))) (sym bounds.1)
+            (goes_further low types s (IsCast low types here flow reaches e modes.Checked t (at_node one_element (size_of g.structs t) bounds.0)) (OfType g (Pointer modes.Checked kinds.One t)) (and_then (value true setting k e s) (λ v u. cast_to (Some (at_node one_element (size_of g.structs t) bounds.0)) (with_ends (bounds_of e) v u.locals) u))
+            (cast_step low types here flow reaches e modes.Checked t p (at_node one_element (size_of g.structs t) bounds.0) elements.size refl (record { lo = tt; hi = tt }) (λ i at. absurd (cc)) elements.bounds s here'
+            (with_given low types here flow reaches e modes.Checked t s (value_goes here flow tracked reaches h s here') (given_so here flow tracked reaches h modes.Checked kinds.Array t refl s here' (value_goes here flow tracked reaches h s here'))))
+            (λ v u x. single_typed g.structs modes.Checked t u elements.some v x.0 x.1.0 bounds.0))))
+        value_goes here flow tracked reaches (typed.cast_unbounded {e = e} {mode = m} {t = t} h elements) s here' =
+            unbounded_goes low types here flow reaches e m kinds.Array t s (typed_alone low types here flow reaches e (Pointer m kinds.Array t) s (value_goes here flow tracked reaches h s here'))
+        value_goes here flow tracked reaches typed.next_input s here' =
+            with_none low types here flow reaches core.NextInput Int s (λ v u. tt)
             (asked_goes low low types IsNumber (OfType g Int) (next_input s.world) s _ (next_answers budget low s.world here'.1.world) here'.1.enough here'.1 (λ z u _ fits u_kept. (fits, after_here u, u_kept)))
 
         -- a pointer is valid with its bounds, and with those from its base
-        pub given_so : {e : core.Expression} {c : CType} → HasType g types here e c → (m : Mode) (d : Kind) (t : CType) → c ≡ Pointer m d t → (s : State) → IsHere s → Goes low types s (OfNode g e c) (value true setting k e s) → WhereGiven (GivenTo e m t) (value true setting k e s)
-        given_so (typed.word fits) m d t same s h goes = absurd (cc)
-        given_so (typed.byte fits) m d t same s h goes = absurd (cc)
-        given_so typed.null m d t same s h goes = given_none core.Null m t s refl refl
-        given_so (typed.local {k = i} {t = c} {b = b} e bounds) m d t same s h goes =
-            local_given_by i b m d t s h (e ∙ ap Some same) (subst (λ c. Goes low types s (OfNode g (core.Local i b) c) (value true setting k (core.Local i b) s)) same goes)
+        pub given_so : (here : Scope) (flow : IsFlow here.flow) (tracked : length here.locals ≤ here.flow.vars) (reaches : Extends here.locals types) {e : core.Expression} {c : CType} → HasType g types here e c → (m : Mode) (d : Kind) (t : CType) → c ≡ Pointer m d t → (s : State) → IsHere low types here flow reaches s → Goes low types s (OfNode g e c) (value true setting k e s) → WhereGiven (GivenTo low types here flow reaches e m t) (value true setting k e s)
+        given_so here flow tracked reaches (typed.word fits) m d t same s h goes = absurd (cc)
+        given_so here flow tracked reaches (typed.byte fits) m d t same s h goes = absurd (cc)
+        given_so here flow tracked reaches typed.null m d t same s h goes = given_none low types here flow reaches core.Null m t s refl refl
+        given_so here flow tracked reaches (typed.local {k = i} {t = c} {b = b} e bounds) m d t same s h goes =
+            local_given_by low types here flow reaches i b m d t s h (e ∙ ap Some same) (subst (λ c. Goes low types s (OfNode g (core.Local i b) c) (value true setting k (core.Local i b) s)) same goes)
             (λ v u w l known typed there type value. own_given g.structs m d t (core.Local i b) v w (subst (λ c. HasBounds g.structs c b) same bounds) typed)
-        given_so (typed.bounded {k = i} {mode = m'} {t = t'} {p = p} e size limited force) m d t same s h goes =
-            local_given_by i (Some p) m d t s h (e ∙ ap Some same) (subst (λ c. Goes low types s (OfNode g (core.Local i (Some p)) c) (value true setting k (core.Local i (Some p)) s)) same goes)
-            (λ v u w l known typed there type value. forced m d t v w l type value p.bounds (force w known l there))
-        given_so (typed.widened h) m d t same s here' goes = absurd (cc)
-        given_so (typed.single {mode = m'} {t = t'} h elements leads) m d t same s here' goes = given_so h m kinds.Array t (of_kind g types here reaches kinds.Array m' m kinds.One d t' t same) s here' (value_goes h s here')
-        given_so (typed.row {mode = m'} {t = t'} h bounds) m d t same s here' goes = given_so h m kinds.One t (of_kind g types here reaches kinds.One m' m kinds.Array d t' t same) s here' (value_goes h s here')
-        given_so (typed.ended_row {mode = m'} {t = t'} h none) m d t same s here' goes = given_so h m kinds.Nt t (of_kind g types here reaches kinds.Nt m' m kinds.Array d t' t same) s here' (value_goes h s here')
-        given_so (typed.load {t = c} {p = p} {b = b} scalar h bounds) m d t same s here' goes =
-            plainly_given (core.Load c p b) m d t s (subst (λ c. HasBounds g.structs c b) same bounds) refl (subst (λ x. Goes low types s (OfNode g (core.Load c p b) x) (value true setting k (core.Load c p b) s)) same goes)
-        given_so (typed.address_of {mode = m'} {t = t'} {p = p} {b = b} h bounds) m d t same s here' goes =
-            plainly_given (core.AddressOf p b) m d t s (subst (λ c. HasBounds g.structs c b) same bounds) refl (subst (λ x. Goes low types s (OfNode g (core.AddressOf p b) x) (value true setting k (core.AddressOf p b) s)) same goes)
-        given_so (typed.array {object = object} {n = n} {t = t'} {p = p} {cells = is} found some few rows bounds size) m d t same s here' goes =
-            so_on (λ (v : Value) (u : State). (v ≡ At object 0) × IsAfter s u × IsKept low types u) (GivenTo (core.AddressOf (core.Direct object 0) (Some p)) m t) (and_then (variable_at setting object 0 s) pointer_to) (audit true (Some p))
+        given_so here flow tracked reaches (typed.bounded {k = i} {mode = m'} {t = t'} {p = p} e size limited named force) m d t same s h goes =
+            local_given_by low types here flow reaches i (Some p) m d t s h (e ∙ ap Some same) (subst (λ c. Goes low types s (OfNode g (core.Local i (Some p)) c) (value true setting k (core.Local i (Some p)) s)) same goes)
+            (λ v u w l known typed there type value. forced low types here flow reaches m d t v w l type value p.bounds (force w known l there))
+        given_so here flow tracked reaches (typed.widened h) m d t same s here' goes = absurd (cc)
+        given_so here flow tracked reaches (typed.single {mode = m'} {t = t'} h elements leads) m d t same s here' goes = given_so here flow tracked reaches h m kinds.Array t (of_kind g types here reaches kinds.Array m' m kinds.One d t' t same) s here' (value_goes here flow tracked reaches h s here')
+        given_so here flow tracked reaches (typed.row {mode = m'} {t = t'} h bounds) m d t same s here' goes = given_so here flow tracked reaches h m kinds.One t (of_kind g types here reaches kinds.One m' m kinds.Array d t' t same) s here' (value_goes here flow tracked reaches h s here')
+        given_so here flow tracked reaches (typed.ended_row {mode = m'} {t = t'} h none) m d t same s here' goes = given_so here flow tracked reaches h m kinds.Nt t (of_kind g types here reaches kinds.Nt m' m kinds.Array d t' t same) s here' (value_goes here flow tracked reaches h s here')
+        given_so here flow tracked reaches (typed.load {t = c} {p = p} {b = b} scalar h bounds) m d t same s here' goes =
+            plainly_given low types here flow reaches (core.Load c p b) m d t s (subst (λ c. HasBounds g.structs c b) same bounds) refl (subst (λ x. Goes low types s (OfNode g (core.Load c p b) x) (value true setting k (core.Load c p b) s)) same goes)
+        given_so here flow tracked reaches (typed.address_of {mode = m'} {t = t'} {p = p} {b = b} h bounds) m d t same s here' goes =
+            plainly_given low types here flow reaches (core.AddressOf p b) m d t s (subst (λ c. HasBounds g.structs c b) same bounds) refl (subst (λ x. Goes low types s (OfNode g (core.AddressOf p b) x) (value true setting k (core.AddressOf p b) s)) same goes)
+        given_so here flow tracked reaches (typed.array {object = object} {n = n} {t = t'} {p = p} {cells = is} found some few rows bounds size) m d t same s here' goes =
+            so_on (λ (v : Value) (u : State). (v ≡ At object 0) × IsAfter s u × IsKept low types u) (GivenTo low types here flow reaches (core.AddressOf (core.Direct object 0) (Some p)) m t) (and_then (variable_at setting object 0 s) pointer_to) (audit true (Some p))
             (sure_given (λ (v : Value) (u : State). (v ≡ At object 0) × IsAfter s u × IsKept low types u) (and_then (variable_at setting object 0 s) pointer_to)
             (goes_on low types s (λ (at : ℕ × ℕ) (u : State). at ≡ (object, 0)) (λ (v : Value) (u : State). v ≡ At object 0) (variable_at setting object 0 s) pointer_to (first_goes low types s t' object n is found some rows here'.1)
             (λ at u _ at_start u_kept. (ap (λ (at : ℕ × ℕ). At at.0 at.1) at_start, after_here u, u_kept))))
-            (λ v u x. audited_so (GivenTo (core.AddressOf (core.Direct object 0) (Some p)) m t) true (Some p) v u
-            (array_given m t t' n object is p some (element_is m d t t' same) rows bounds v u x.0 (object_there low types u object is found x.2)))
-        given_so (typed.sum {e = e} {i = i} {mode = m'} {t = t'} {direction = direction} {site = site} {p = p} {b = b} h elements hi bounds) m d t same s here' goes =
-            subst (λ m. WhereGiven (GivenTo (core.Sum e direction i site b) m t) (value true setting k (core.Sum e direction i site b) s)) (mode_is m' m d t t' same)
-            (subst (λ t. WhereGiven (GivenTo (core.Sum e direction i site b) m' t) (value true setting k (core.Sum e direction i site b) s)) (target_is m' m d t t' same)
-            (so_on (λ x y. IsSummed e i m' t' direction p (GivenTo e m' t') x y × IsAfter s y × IsKept low types y) (GivenTo (core.Sum e direction i site b) m' t') _ (audit true b)
-            (sure_given (λ x y. IsSummed e i m' t' direction p (GivenTo e m' t') x y × IsAfter s y × IsKept low types y) _
-            (sum_goes e i m' t' direction p site elements (GivenTo e m' t') s here' (given_stays e m' t') (with_given e m' t' s (value_goes h s here') (given_so h m' kinds.Array t' refl s here' (value_goes h s here'))) (λ u stands. typed_alone i Int u (value_goes hi u stands))))
-            (λ x y summed. audited_so (GivenTo (core.Sum e direction i site b) m' t') true b x y (sum_given e i m' t' direction site p b elements.bounds bounds x y summed.0))))
-        given_so (typed.negate h) m d t same s here' goes = absurd (cc)
-        given_so (typed.complement h) m d t same s here' goes = absurd (cc)
-        given_so (typed.inverse h) m d t same s here' goes = absurd (cc)
-        given_so (typed.arithmetic ha hb) m d t same s here' goes = absurd (cc)
-        given_so (typed.compare ha hb) m d t same s here' goes = absurd (cc)
-        given_so (typed.same ha hb) m d t same s here' goes = absurd (cc)
-        given_so (typed.order ha from hb to) m d t same s here' goes = absurd (cc)
-        given_so (typed.both ha hb) m d t same s here' goes = absurd (cc)
-        given_so (typed.either ha hb) m d t same s here' goes = absurd (cc)
-        given_so (typed.low_byte h) m d t same s here' goes = absurd (cc)
-        given_so (typed.call {callee = callee} {ts = ts} {r = r} {arguments = arguments} {t = c} {b = b} known h asked bounds) m d t same s here' goes = call_given callee arguments ts c r b bounds m d t same s here' goes
-        given_so typed.next_input m d t same s here' goes = absurd (cc)
+            (λ v u x. audited_so (GivenTo low types here flow reaches (core.AddressOf (core.Direct object 0) (Some p)) m t) true (Some p) v u
+            (array_given low types here flow reaches m t t' n object is p some (element_is low types here flow reaches m d t t' same) rows bounds v u x.0 (object_there low types u object is found x.2)))
+        given_so here flow tracked reaches (typed.sum {e = e} {i = i} {mode = m'} {t = t'} {direction = direction} {site = site} {p = p} {b = b} h elements hi bounds) m d t same s here' goes =
+            subst (λ m. WhereGiven (GivenTo low types here flow reaches (core.Sum e direction i site b) m t) (value true setting k (core.Sum e direction i site b) s)) (mode_is low types here flow reaches m' m d t t' same)
+            (subst (λ t. WhereGiven (GivenTo low types here flow reaches (core.Sum e direction i site b) m' t) (value true setting k (core.Sum e direction i site b) s)) (target_is low types here flow reaches m' m d t t' same)
+            (so_on (λ x y. IsSummed low types here flow reaches e i m' t' direction p (GivenTo low types here flow reaches e m' t') x y × IsAfter s y × IsKept low types y) (GivenTo low types here flow reaches (core.Sum e direction i site b) m' t') _ (audit true b)
+            (sure_given (λ x y. IsSummed low types here flow reaches e i m' t' direction p (GivenTo low types here flow reaches e m' t') x y × IsAfter s y × IsKept low types y) _
+            (sum_goes low types here flow reaches e i m' t' direction p site elements (GivenTo low types here flow reaches e m' t') s here' (given_stays low types here flow reaches e m' t') (with_given low types here flow reaches e m' t' s (value_goes here flow tracked reaches h s here') (given_so here flow tracked reaches h m' kinds.Array t' refl s here' (value_goes here flow tracked reaches h s here'))) (λ u stands. typed_alone low types here flow reaches i Int u (value_goes here flow tracked reaches hi u stands))))
+            (λ x y summed. audited_so (GivenTo low types here flow reaches (core.Sum e direction i site b) m' t') true b x y (sum_given low types here flow reaches e i m' t' direction site p b elements.bounds bounds x y summed.0))))
+        given_so here flow tracked reaches (typed.negate h) m d t same s here' goes = absurd (cc)
+        given_so here flow tracked reaches (typed.complement h) m d t same s here' goes = absurd (cc)
+        given_so here flow tracked reaches (typed.inverse h) m d t same s here' goes = absurd (cc)
+        given_so here flow tracked reaches (typed.arithmetic ha hb) m d t same s here' goes = absurd (cc)
+        given_so here flow tracked reaches (typed.compare ha hb) m d t same s here' goes = absurd (cc)
+        given_so here flow tracked reaches (typed.same ha hb) m d t same s here' goes = absurd (cc)
+        given_so here flow tracked reaches (typed.order ha from hb to) m d t same s here' goes = absurd (cc)
+        given_so here flow tracked reaches (typed.both ha hb) m d t same s here' goes = absurd (cc)
+        given_so here flow tracked reaches (typed.either ha hb) m d t same s here' goes = absurd (cc)
+        given_so here flow tracked reaches (typed.low_byte h) m d t same s here' goes = absurd (cc)
+        given_so here flow tracked reaches (typed.call {callee = callee} {ts = ts} {r = r} {arguments = arguments} {t = c} {b = b} known h asked bounds) m d t same s here' goes = call_given low types here flow reaches callee arguments ts c r b bounds m d t same s here' goes
+        given_so here flow tracked reaches typed.next_input m d t same s here' goes = absurd (cc)
+        given_so here flow tracked reaches (typed.allocate {count = count} {t = t'} {element = element} {b = b} h fresh bounds) m d t same s here' goes =
+            subst (λ m. WhereGiven (GivenTo low types here flow reaches (core.Allocate count element b) m t) (value true setting k (core.Allocate count element b) s)) (mode_is low types here flow reaches modes.Checked m d t t' same)
+            (subst (λ t. WhereGiven (GivenTo low types here flow reaches (core.Allocate count element b) modes.Checked t) (value true setting k (core.Allocate count element b) s)) (target_is low types here flow reaches modes.Checked m d t t' same)
+            (allocate_given low types here flow reaches count t' element b bounds s goes))
+        given_so here flow tracked reaches (typed.cast {e = e} {mode = m'} {t = t'} {p = p} {q = q} h elements within size limited ints bases) m d t same s here' goes =
+            subst (λ m. WhereGiven (GivenTo low types here flow reaches (core.Cast e (Some q)) m t) (value true setting k (core.Cast e (Some q)) s)) (mode_is low types here flow reaches m' m d t t' same)
+            (subst (λ t. WhereGiven (GivenTo low types here flow reaches (core.Cast e (Some q)) m' t) (value true setting k (core.Cast e (Some q)) s)) (target_is low types here flow reaches m' m d t t' same)
+            (so_on (λ v u. IsCast low types here flow reaches e m' t' q v u × IsAfter s u × IsKept low types u) (GivenTo low types here flow reaches (core.Cast e (Some q)) m' t') (and_then (value true setting k e s) (λ v u. cast_to (Some q) (with_ends (bounds_of e) v u.locals) u)) (audit true (Some q))
+            (sure_given (λ v u. IsCast low types here flow reaches e m' t' q v u × IsAfter s u × IsKept low types u) (and_then (value true setting k e s) (λ v u. cast_to (Some q) (with_ends (bounds_of e) v u.locals) u))
+            (cast_step low types here flow reaches e m' t' p q elements.size size ints bases elements.bounds s here'
+            (with_given low types here flow reaches e m' t' s (value_goes here flow tracked reaches h s here') (given_so here flow tracked reaches h m' kinds.Array t' refl s here' (value_goes here flow tracked reaches h s here')))))
+            (λ v u x. audited_so (GivenTo low types here flow reaches (core.Cast e (Some q)) m' t') true (Some q) v u
+            (cast_given low types here flow reaches e m' t' p q elements.size size ints bases v u (here_later low types here flow reaches s u x.1 here' x.2) x.0))))
+        given_so here flow tracked reaches (typed.cast_single {e = e} {t = t'} {p = p} {b = b} h elements within bounds) m d t same s here' goes =
+            plainly_given low types here flow reaches (core.Cast e b) m d t s (subst (λ c. HasBounds g.structs c b) same bounds) (single_unbased low types here flow reaches t' b bounds) (subst (λ x. Goes low types s (OfNode g (core.Cast e b) x) (value true setting k (core.Cast e b) s)) same goes)
+        given_so here flow tracked reaches (typed.cast_unbounded {e = e} h elements) m d t same s here' goes = given_none low types here flow reaches (core.Cast e None) m t s refl refl
 
-        pub values_go : {arguments : core.Arguments} {ts : List CType} → HaveTypes g types here arguments ts → (s : State) → IsHere s
+        pub values_go : (here : Scope) (flow : IsFlow here.flow) (tracked : length here.locals ≤ here.flow.vars) (reaches : Extends here.locals types) {arguments : core.Arguments} {ts : List CType} → HaveTypes g types here arguments ts → (s : State) → IsHere low types here flow reaches s
             → Goes low types s (λ vs u. OfTypes g ts vs u × ArePassed g.structs (length here.locals) here.locals ts arguments vs u) (values true setting k arguments s)
-        values_go typed.done s h = ((tt, tt), after_here s, h.1)
-        values_go (typed.more {e = e} {rest = rest} {t = t} {ts = ts} h hs) s here' =
-            goes_on low types s (IsArgument e t) (λ vs u. OfTypes g (t ∷ ts) vs u × ArePassed g.structs (length here.locals) here.locals (t ∷ ts) (core.More e rest) vs u) (value true setting k e s) _
-            (passed_so e t s here' (typed_alone e t s (value_goes h s here')) (given_by_kind e t s (λ m c same. given_so h m kinds.Array c same s here' (value_goes h s here'))))
+        values_go here flow tracked reaches typed.done s h = ((tt, tt), after_here s, h.1)
+        values_go here flow tracked reaches (typed.more {e = e} {rest = rest} {t = t} {ts = ts} h hs) s here' =
+            goes_on low types s (IsArgument low types here flow reaches e t) (λ vs u. OfTypes g (t ∷ ts) vs u × ArePassed g.structs (length here.locals) here.locals (t ∷ ts) (core.More e rest) vs u) (value true setting k e s) _
+            (passed_so low types here flow reaches e t s here' (typed_alone low types here flow reaches e t s (value_goes here flow tracked reaches h s here')) (given_by_kind low types here flow reaches e t s (λ m c same. given_so here flow tracked reaches h m kinds.Array c same s here' (value_goes here flow tracked reaches h s here'))))
             (λ v u after x u_kept. goes_on low types u (λ vs w. OfTypes g ts vs w × ArePassed g.structs (length here.locals) here.locals ts rest vs w)
-            (λ vs w. OfTypes g (t ∷ ts) vs w × ArePassed g.structs (length here.locals) here.locals (t ∷ ts) (core.More e rest) vs w) (values true setting k rest u) _ (values_go hs u (here_later s u after here' u_kept))
+            (λ vs w. OfTypes g (t ∷ ts) vs w × ArePassed g.structs (length here.locals) here.locals (t ∷ ts) (core.More e rest) vs w) (values true setting k rest u) _ (values_go here flow tracked reaches hs u (here_later low types here flow reaches s u after here' u_kept))
             (λ vs w grown y w_kept. (((value_grown g.structs (shaped u) (shaped w) grown.0 t v x.0, y.0), (passed_later g.structs (length here.locals) here.locals t e v u w grown x.1, y.1)), after_here w, w_kept)))
 
-        pub place_goes : {p : core.Place} {t : CType} → HasPlace g types here p t → (s : State) → IsHere s → Goes low types s (IsPlaced g t) (place true setting k p s)
-        place_goes (typed.direct {object = object} {offset = offset} {t = t} {cells = is} found row) s h = variable_goes low types s t object offset is found row h.1
-        place_goes (typed.pointed {mode = m} {e = e} {t = t} {site = site} h) s here' =
-            goes_on low types s (OfType g (Pointer m kinds.One t)) (IsPlaced g t) (value true setting k e s) _ (typed_alone e (Pointer m kinds.One t) s (value_goes h s here'))
+        pub place_goes : (here : Scope) (flow : IsFlow here.flow) (tracked : length here.locals ≤ here.flow.vars) (reaches : Extends here.locals types) {p : core.Place} {t : CType} → HasPlace g types here p t → (s : State) → IsHere low types here flow reaches s → Goes low types s (IsPlaced g t) (place true setting k p s)
+        place_goes here flow tracked reaches (typed.direct {object = object} {offset = offset} {t = t} {cells = is} found row) s h = variable_goes low types s t object offset is found row h.1
+        place_goes here flow tracked reaches (typed.pointed {mode = m} {e = e} {t = t} {site = site} h) s here' =
+            goes_on low types s (OfType g (Pointer m kinds.One t)) (IsPlaced g t) (value true setting k e s) _ (typed_alone low types here flow reaches e (Pointer m kinds.One t) s (value_goes here flow tracked reaches h s here'))
             (λ v u _ typed u_kept. pointed_goes low types u m t site _ (same_pointer (λ v. OfType g (Pointer m kinds.One t) v u) (bounds_of e) v u typed) u_kept)
-        place_goes (typed.member {mode = m} {e = e} {n = number} {offset = offset} {t = t} {site = site} slot h found scalar) s here' =
-            goes_on low types s (OfType g (Pointer m kinds.One (Struct number))) (IsPlaced g t) (value true setting k e s) _ (typed_alone e (Pointer m kinds.One (Struct number)) s (value_goes h s here'))
+        place_goes here flow tracked reaches (typed.member {mode = m} {e = e} {n = number} {offset = offset} {t = t} {site = site} slot h found scalar) s here' =
+            goes_on low types s (OfType g (Pointer m kinds.One (Struct number))) (IsPlaced g t) (value true setting k e s) _ (typed_alone low types here flow reaches e (Pointer m kinds.One (Struct number)) s (value_goes here flow tracked reaches h s here'))
             (λ v u _ typed u_kept. member_goes low types u m number slot offset t site _ found scalar (same_pointer (λ v. OfType g (Pointer m kinds.One (Struct number)) v u) (bounds_of e) v u typed) u_kept)
-        place_goes (typed.element {mode = m} {e = e} {i = i} {t = t} {p = p} {site = site} h elements hi) s here' =
-            goes_on low types s (λ v u. IsAimed low types m t p elements.size (with_ends (bounds_of e) v u.locals) u × IsLocalOf e m t v u) (IsPlaced g t) (value true setting k e s) _ (aimed_goes e m t p s elements here' (value_goes h s here'))
+        place_goes here flow tracked reaches (typed.element {mode = m} {e = e} {i = i} {t = t} {p = p} {site = site} h elements hi) s here' =
+            goes_on low types s (λ v u. IsAimed low types m t p elements.size (with_ends (bounds_of e) v u.locals) u × IsLocalOf low types here flow reaches e m t v u) (IsPlaced g t) (value true setting k e s) _ (aimed_goes low types here flow reaches e m t p s elements here' (value_goes here flow tracked reaches h s here'))
             (λ v u after aimed u_kept. goes_on low types u (λ (z : ℤ) (w : State). Unit {0}) (IsPlaced g t) (and_then (value true setting k i u) (number_given None)) _
-            (number_goes_on i u None (typed_alone i Int u (value_goes hi u (here_later s u after here' u_kept))))
+            (number_goes_on low types here flow reaches i u None (typed_alone low types here flow reaches i Int u (value_goes here flow tracked reaches hi u (here_later low types here flow reaches s u after here' u_kept))))
             (λ z w later _ w_kept. element_goes low types m t p elements.size w site z (with_ends (bounds_of e) v u.locals) (aimed_later low types m t p elements.size (with_ends (bounds_of e) v u.locals) u w later aimed.0) w_kept))
-        place_goes (typed.element_member {mode = m} {e = e} {i = i} {n = number} {offset = offset} {t = t} {p = p} {site = site} slot h elements hi found scalar) s here' =
-            goes_on low types s (λ v u. IsAimed low types m (Struct number) p elements.size (with_ends (bounds_of e) v u.locals) u × IsLocalOf e m (Struct number) v u) (IsPlaced g t) (value true setting k e s) _ (aimed_goes e m (Struct number) p s elements here' (value_goes h s here'))
+        place_goes here flow tracked reaches (typed.element_member {mode = m} {e = e} {i = i} {n = number} {offset = offset} {t = t} {p = p} {site = site} slot h elements hi found scalar) s here' =
+            goes_on low types s (λ v u. IsAimed low types m (Struct number) p elements.size (with_ends (bounds_of e) v u.locals) u × IsLocalOf low types here flow reaches e m (Struct number) v u) (IsPlaced g t) (value true setting k e s) _ (aimed_goes low types here flow reaches e m (Struct number) p s elements here' (value_goes here flow tracked reaches h s here'))
             (λ v u after aimed u_kept. goes_on low types u (λ (z : ℤ) (w : State). Unit {0}) (IsPlaced g t) (and_then (value true setting k i u) (number_given None)) _
-            (number_goes_on i u None (typed_alone i Int u (value_goes hi u (here_later s u after here' u_kept))))
+            (number_goes_on low types here flow reaches i u None (typed_alone low types here flow reaches i Int u (value_goes here flow tracked reaches hi u (here_later low types here flow reaches s u after here' u_kept))))
             (λ z w later _ w_kept. element_member_goes low types m number slot offset t p elements.size found scalar w site z (with_ends (bounds_of e) v u.locals)
             (aimed_later low types m (Struct number) p elements.size (with_ends (bounds_of e) v u.locals) u w later aimed.0) w_kept))
 
@@ -1301,7 +1552,7 @@ module _ (g : Frame) (budget n : ℕ) where
         second_same : (a b c d : ℕ) → At a b ≡ At c d → b ≡ d
         second_same a b c d q = cc
 
-    module _ (low : ℕ) (types : List CType) (here : Scope) (flow : IsFlow here.flow) (reaches : Extends here.locals types) where
+    module _ (low : ℕ) (types : List CType) (here : Scope) (flow : IsFlow here.flow) (tracked : length here.locals ≤ here.flow.vars) (reaches : Extends here.locals types) where
       behind_later : (e : core.Expression) (v : Value) (u w : State) → IsAfter u w → IsBehind g.structs here.locals e v u → IsBehind g.structs here.locals e v w
       behind_later e v u w after h b is l there = h b is l (subst (λ ls. slice_get ls b.local ≡ Some l) after.1 there)
 
@@ -1341,7 +1592,7 @@ module _ (g : Frame) (budget n : ℕ) where
       behind_so (typed.byte {z = z} fits) s h = nowhere (core.Number z) s (λ b is. absurd (cc))
       behind_so typed.null s h = nowhere core.Null s (λ b is. absurd (cc))
       behind_so (typed.local {k = i} {b = b} e bounds) s h = local_behind i b s
-      behind_so (typed.bounded {k = i} {p = p} e size limited force) s h = local_behind i (Some p) s
+      behind_so (typed.bounded {k = i} {p = p} e size limited named force) s h = local_behind i (Some p) s
       behind_so (typed.widened h) s here' = behind_so h s here'
       behind_so (typed.single h elements leads) s here' = behind_so h s here'
       behind_so (typed.row h bounds) s here' = behind_so h s here'
@@ -1354,8 +1605,8 @@ module _ (g : Frame) (budget n : ℕ) where
           (sure_given (λ x y. IsSummed low types here flow reaches e i m t direction p X x y × IsAfter s y × IsKept low types y) inner
           (sum_goes low types here flow reaches e i m t direction p site elements X s here' (behind_later e)
           (sure_further (λ v u. (OfNode g e (Pointer m kinds.Array t) v u × IsAfter s u × IsKept low types u) × X v u) (λ v u. (OfNode g e (Pointer m kinds.Array t) v u × X v u) × IsAfter s u × IsKept low types u) (value true setting k e s)
-          (sure_both (λ v u. OfNode g e (Pointer m kinds.Array t) v u × IsAfter s u × IsKept low types u) X (value true setting k e s) (value_goes low types here flow reaches h s here') (behind_so h s here')) (λ v u x. ((x.0.0, x.1), x.0.1, x.0.2)))
-          (λ u stands. typed_alone low types here flow reaches i Int u (value_goes low types here flow reaches hi u stands))))
+          (sure_both (λ v u. OfNode g e (Pointer m kinds.Array t) v u × IsAfter s u × IsKept low types u) X (value true setting k e s) (value_goes low types here flow tracked reaches h s here') (behind_so h s here')) (λ v u x. ((x.0.0, x.1), x.0.1, x.0.2)))
+          (λ u stands. typed_alone low types here flow reaches i Int u (value_goes low types here flow tracked reaches hi u stands))))
           (λ x y summed. audited_so (IsBehind g.structs here.locals (core.Sum e direction i site b)) true b x y (sum_behind h site b x y summed.0 summed.2))
         where
           X : Value → State → Type 0
@@ -1375,9 +1626,13 @@ module _ (g : Frame) (budget n : ℕ) where
       behind_so (typed.low_byte {e = e} he) s h = nowhere (core.LowByte e) s (λ b is. absurd (cc))
       behind_so (typed.call {callee = callee} {arguments = arguments} {b = c} known ha asked bounds) s h = nowhere (core.Call callee arguments c) s (λ b is. absurd (cc))
       behind_so typed.next_input s h = nowhere core.NextInput s (λ b is. absurd (cc))
+      behind_so (typed.allocate {count = count} {element = element} {b = c} hn fresh bounds) s h = nowhere (core.Allocate count element c) s (λ b is. absurd (cc))
+      behind_so (typed.cast {e = e} {q = q} he elements within size limited ints bases) s h = nowhere (core.Cast e (Some q)) s (λ b is. absurd (cc))
+      behind_so (typed.cast_single {e = e} {b = c} he elements within bounds) s h = nowhere (core.Cast e c) s (λ b is. absurd (cc))
+      behind_so (typed.cast_unbounded {e = e} he elements) s h = nowhere (core.Cast e None) s (λ b is. absurd (cc))
 
       pub given_to_so : {e : core.Expression} (c : CType) → HasType g types here e c → (s : State) → IsHere low types here flow reaches s → WhereGiven (IsGivenTo g.structs (length here.locals) c e) (value true setting k e s)
-      given_to_so {e = e} c h s here' = given_by_kind low types here flow reaches e c s (λ m t same. given_so low types here flow reaches h m kinds.Array t same s here' (value_goes low types here flow reaches h s here'))
+      given_to_so {e = e} c h s here' = given_by_kind low types here flow reaches e c s (λ m t same. given_so low types here flow tracked reaches h m kinds.Array t same s here' (value_goes low types here flow tracked reaches h s here'))
 
     -- ---- stores
 
@@ -1446,7 +1701,7 @@ module _ (g : Frame) (budget n : ℕ) where
       put_goes s Null h kept = absurd h
       put_goes s (At block byte) h kept = absurd h
 
-      module _ (here : Scope) (flow : IsFlow here.flow) (reaches : Extends here.locals types) where
+      module _ (here : Scope) (flow : IsFlow here.flow) (tracked : length here.locals ≤ here.flow.vars) (reaches : Extends here.locals types) where
         abbrev Stands : State → Type 0
         Stands s = IsHere low types here flow reaches s
 
@@ -1455,7 +1710,7 @@ module _ (g : Frame) (budget n : ℕ) where
 
         -- a value of a type
         pub typed_goes : {e : core.Expression} {t : CType} → HasType g types here e t → (s : State) → Stands s → Goes low types s (OfType g t) (value true setting k e s)
-        typed_goes {e = e} {t = t} h s stands = typed_alone low types here flow reaches e t s (value_goes low types here flow reaches h s stands)
+        typed_goes {e = e} {t = t} h s stands = typed_alone low types here flow reaches e t s (value_goes low types here flow tracked reaches h s stands)
 
         -- a value that is returned, with the bounds that are declared for the result
         pub returned_goes : {e : core.Expression} (t : CType) (bounds : Option Bounds) → HasType g types here e t → IsReturned g.structs here e t bounds → (s : State) → Stands s → Goes low types s (λ v u. OfType g t v u × HasResult g.structs (Some t) bounds (Some v) u) (value true setting k e s)
@@ -1468,7 +1723,7 @@ module _ (g : Frame) (budget n : ℕ) where
         returned_goes {e = e} (Pointer m kinds.Array t) (Some b) h asked s stands =
             let c = Pointer m kinds.Array t in
             sure_further (λ v u. IsArgument low types here flow reaches e c v u × IsAfter s u × IsKept low types u) (λ v u. (OfType g c v u × HasResult g.structs (Some c) (Some b) (Some v) u) × IsAfter s u × IsKept low types u) (value true setting k e s)
-            (passed_so low types here flow reaches e c s stands (typed_goes h s stands) (given_by_kind low types here flow reaches e c s (λ m' t' same. given_so low types here flow reaches h m' kinds.Array t' same s stands (value_goes low types here flow reaches h s stands))))
+            (passed_so low types here flow reaches e c s stands (typed_goes h s stands) (given_by_kind low types here flow reaches e c s (λ m' t' same. given_so low types here flow tracked reaches h m' kinds.Array t' same s stands (value_goes low types here flow tracked reaches h s stands))))
             (λ v u x. let at = standing_later s u x.1 stands x.2 in
             ((x.0.0, asked_valid g.structs here u at.0 (has_locals g.structs (shaped u) here.locals types u.locals reaches x.2.locals) m t e v b asked x.0.1.null (x.0.1.given u (alike_here (length here.locals) u))), x.1, x.2))
 
@@ -1493,7 +1748,7 @@ module _ (g : Frame) (budget n : ℕ) where
         element_target m t p i b elements s hp hi stands =
             goes_on low types s (λ (q : Pointed) (u : State). IsAimed low types m t b elements.size q u) (λ (q : Target) (u : State). IsAimed low types m t b elements.size q.pointer u) (and_then (value true setting k p s) (λ v u. Gives (with_ends (bounds_of p) v u.locals) u)) _
             (goes_on low types s (λ v u. IsAimed low types m t b elements.size (with_ends (bounds_of p) v u.locals) u × IsLocalOf low types here flow reaches p m t v u) (λ (q : Pointed) (u : State). IsAimed low types m t b elements.size q u) (value true setting k p s) _
-            (aimed_goes low types here flow reaches p m t b s elements stands (value_goes low types here flow reaches hp s stands))
+            (aimed_goes low types here flow reaches p m t b s elements stands (value_goes low types here flow tracked reaches hp s stands))
             (λ v u _ aimed kept. (aimed.0, after_here u, kept)))
             (λ q u after aimed u_kept. goes_on low types u (λ (z : ℤ) (w : State). Unit {0}) (λ (q : Target) (w : State). IsAimed low types m t b elements.size q.pointer w) (and_then (value true setting k i u) (number_given None)) _
             (number_goes_on low types here flow reaches i u None (typed_goes hi u (standing_later s u after stands u_kept)))
@@ -1540,7 +1795,7 @@ module _ (g : Frame) (budget n : ℕ) where
             (λ new x _ new_typed x_kept. runs_on low types x (OfType g t) IsNext (kept_if char new x) (set_local i) (kept_goes x t char new number is_char new_typed x_kept)
             (λ last y _ last_typed y_kept. set_goes y i t last found last_typed y_kept))))
         simple_runs (typed.update {t = t} {p = p} {operator = operator} {e = e} {site = site} number hp h) s stands =
-            runs_on low types s (IsPlaced g t) IsNext (place true setting k p s) _ (place_goes low types here flow reaches hp s stands)
+            runs_on low types s (IsPlaced g t) IsNext (place true setting k p s) _ (place_goes low types here flow tracked reaches hp s stands)
             (λ at r to_r placed r_kept. runs_on low types r (OfType g t) IsNext (load_at t (Some site) at r) _ (load_goes low types r t (Some site) at (number_scalar t number) placed r_kept)
             (λ old u to_u old_typed u_kept. value_then _ h u (standing_later r u to_u (standing_later s r to_r stands r_kept) u_kept)
             (λ v w to_w typed w_kept. runs_on low types w (OfType g Int) IsNext (arithmetic_of operator site old v w) _
@@ -1550,7 +1805,7 @@ module _ (g : Frame) (budget n : ℕ) where
             kept_store x t (Some site) at new number (place_grown g.structs (shaped r) (shaped x) grown t at.0 at.1 placed) new_typed x_kept))))
         simple_runs (typed.evaluate {e = e} {t = t} h) s stands = value_then _ h s stands (λ v u _ typed u_kept. (refl, u_kept))
         simple_runs (typed.call_alone {callee = callee} {ts = ts} {r = r} {arguments = arguments} known h asked) s stands =
-            runs_on low types s (λ vs u. OfTypes g ts vs u × ArePassed g.structs (length here.locals) here.locals ts arguments vs u) IsNext (values true setting k arguments s) _ (values_go low types here flow reaches h s stands)
+            runs_on low types s (λ vs u. OfTypes g ts vs u × ArePassed g.structs (length here.locals) here.locals ts arguments vs u) IsNext (values true setting k arguments s) _ (values_go low types here flow tracked reaches h s stands)
             (λ vs u after x u_kept. runs_on low types u (IsBack types (terms_of here.locals arguments ts) None r) IsNext (called setting k callee vs u) no_result (answered low types here flow reaches s stands known arguments asked vs u after x u_kept)
             (λ v w _ back w_kept. runs_of low types w IsNext (no_result v w) (nothing_back low types w v back.0 w_kept)))
         simple_runs (typed.print {e = e} h) s stands = value_then printed h s stands (λ v u _ typed u_kept. printed_goes u v typed u_kept)

@@ -3,6 +3,7 @@ use Rattle.std.proofs.Common.{◌≡◌, ℕ, suc, ◌^◌, Bool, true, false, L
 use Rattle.std.specs.Prelude.{◌==◌, nat_lt, ◌&&◌, slice_get}
 use Rattle.ckc_text.specs.declared.place.Span.{Span}
 use Rattle.ckc_text.specs.declared.code.Code.TheVariants.{E04, E13, E14, E26}
+use Rattle.ckc_tree.specs.declared.expr.CastWord.{CastWord}
 use Rattle.ckc_tree.specs.declared.expr.UnaryOperator.{UnaryOperator}
 use Rattle.ckc_tree.specs.declared.expr.UnaryOperator.TheVariants as unary
 use Rattle.ckc_tree.specs.declared.expr.BinaryOperator.{BinaryOperator}
@@ -27,15 +28,16 @@ use Rattle.ckc_core.specs.declared.program.Direction.TheVariants as directions
 use Rattle.ckc_core.specs.Core as core
 use Rattle.ckc_names_rules.specs.declared.given.Given.{Given}
 use Rattle.region_typing_rules.specs.Verdicts.{Verdict, Passes, passing, meant}
-use Rattle.region_typing_rules.specs.Scopes.{Scope, Signature, FileVariable, Visible, Named, Local, Object, Array, Nothing, local_if, found_if, local_named, object_of, object_named, or_else, null_named, named, function_named, members_named}
+use Rattle.region_typing_rules.specs.Scopes.{Scope, Signature, WrittenBounds, FileVariable, Visible, Named, Local, Object, Array, Nothing, local_if, found_if, local_named, object_of, object_named, or_else, null_named, named, function_named, members_named}
 use Rattle.region_typing_rules.specs.Types.{type_named, is_number, is_pointer, are_comparable}
 use Rattle.region_typing_rules.specs.Expressions.{Places, OfLocal, OfCell, Standing, ForNothing, ForArray, For, Typed, Value, AStruct, Called, Gives, GivesNothing, site_at, with_bounds, bounded, number, at_place, local_typed, name_typed}
 use Rattle.region_typing_rules.specs.Expressions.{struct_place, member_place, member_from, offset_among, member_at, dotted, with_elements, first_element, pointed_by, arrowed, pointed_at, dereferenced, address, number_of, scalar_of, unary_typed, two_numbers, two_scalars, operator_along, summed, sum_typed}
-use Rattle.region_typing_rules.specs.Expressions.{equated, are_related, ordered_values, ordered, arithmetic, binary_typed, element_at, indexed, arguments_as, is_import, call_of, declared_callee, first_of, writes, constant_typed, predefined_call, called, with_result, typed, all_typed, call_typed}
+use Rattle.region_typing_rules.specs.Expressions.{equated, are_related, ordered_values, ordered, arithmetic, binary_typed, beside, element_at, indexed, arguments_as, is_import, call_of, declared_callee, first_of, writes, constant_typed, predefined_call, called, with_result, typed, all_typed, call_typed, cast_typed, cast_bounds}
 use Rattle.region_typing_rules.specs.Knowing.{local_number}
 use Rattle.region_typing_rules.proofs.Knowledge.{crossing_promises}
 use Rattle.region_typing_rules.proofs.Verdicts.{Promises, passing_promises, needs_promises, promised_so, elements_promise, apart_promises, all_met_promise}
 use Rattle.region_typing_rules.proofs.Kept.{passing_any}
+use Rattle.region_typing_rules.proofs.Memory.{of_any, malloc_promises, calloc_promises, cast_promises}
 use Rattle.region_typing_rules.proofs.Assigns.{IsPlain}
 
 -- ---- expressions that are no locals
@@ -389,6 +391,9 @@ with_bounds_source s x site (AStruct number place) h = tt
 constant_fresh : (value : ℕ) (zero : Bool) (span : Span) → Promises IsFresh (constant_typed value zero span)
 constant_fresh value zero span = needs_promises IsFresh (nat_lt value (2 ^ 31)) E04 span _ (λ low. tt)
 
+cast_fresh : (word : CastWord) (s : Scope) (t : CType) (a : Typed) (written : WrittenBounds) (site : Site) (span : Span) → Promises IsFresh (cast_typed word s t a written site span)
+cast_fresh word s t a written site span = cast_promises IsFresh word s t a written site span (of_any _ a (λ type value casts. tt))
+
 pub typed_source : (at : Places) (s : Scope) (x : Expression) → Promises (IsSource s x) (typed at s x)
 typed_source at s (e.Number value span) = fresh_sources s (e.Number value span) (constant_typed value (value == 0) span) (constant_fresh value (value == 0) span)
 typed_source at s (e.Character value span) = fresh_sources s (e.Character value span) (constant_typed value false span) (constant_fresh value false span)
@@ -400,10 +405,21 @@ typed_source at s (e.Call callee arguments span) =
     fresh_sources s (e.Call callee arguments span) (typed at s (e.Call callee arguments span))
     (passing_any IsFresh (all_typed at s arguments) _ (λ ts. passing_any IsFresh (called s (function_named s.functions callee.number) callee.number ts (site_at at span) span) _ (λ c. with_result_fresh c span)))
 typed_source at s (e.SizeOf type span) = fresh_sources s (e.SizeOf type span) (typed at s (e.SizeOf type span)) (passing_any IsFresh (type_named s type) _ (λ t. tt))
-typed_source at s (e.Cast word type operand span) = tt
-typed_source at s (e.BoundedCast word type operand bounds span) = tt
-typed_source at s (e.Malloc word type size span) = tt
-typed_source at s (e.Calloc word type count size span) = tt
+typed_source at s (e.Cast word type operand span) =
+    fresh_sources s (e.Cast word type operand span) (typed at s (e.Cast word type operand span))
+    (passing_any IsFresh (type_named s type) _ (λ t. passing_any IsFresh (typed at s operand) _ (λ a. cast_fresh word s t a None (site_at at span) span)))
+typed_source at s (e.BoundedCast word type operand bounds span) =
+    fresh_sources s (e.BoundedCast word type operand bounds span) (typed at s (e.BoundedCast word type operand bounds span))
+    (passing_any IsFresh (type_named s type) _ (λ t. passing_any IsFresh (typed at s operand) _ (λ a. passing_any IsFresh (cast_bounds s t bounds) _
+    (λ written. cast_fresh word s t a written (site_at at span) span))))
+typed_source at s (e.Malloc word type size span) =
+    fresh_sources s (e.Malloc word type size span) (typed at s (e.Malloc word type size span))
+    (passing_any IsFresh (type_named s type) _ (λ t. passing_any IsFresh (typed at s size) _
+    (λ a. malloc_promises IsFresh s t (site_at at span) span word size a (of_any _ a (λ type value number count is bytes. tt)))))
+typed_source at s (e.Calloc word type count size span) =
+    fresh_sources s (e.Calloc word type count size span) (typed at s (e.Calloc word type count size span))
+    (passing_any IsFresh (type_named s type) _ (λ t. passing_any IsFresh (typed at s count) _ (λ a. passing_any IsFresh (typed at s size) _
+    (λ b. calloc_promises IsFresh s t (site_at at span) span word a size (of_any _ a (λ type value number bytes. tt))))))
 typed_source at s (e.Index base index span) =
     fresh_sources s (e.Index base index span) (typed at s (e.Index base index span))
     (bounded_fresh s (site_at at span) (passing (typed at s base) (λ a. passing (typed at s index) (λ b. indexed a b (site_at at span) span)))
@@ -419,4 +435,4 @@ typed_source at s (e.Unary operator operand span) =
     (bounded_fresh s (site_at at span) (passing (typed at s operand) (λ a. unary_typed operator a (site_at at span) span)) (passing_any IsFresh (typed at s operand) _ (λ a. unary_fresh operator a (site_at at span) span)))
 typed_source at s (e.Binary operator left right span) =
     fresh_sources s (e.Binary operator left right span) (typed at s (e.Binary operator left right span))
-    (passing_any IsFresh (typed at s left) _ (λ a. passing_any IsFresh (typed at s right) _ (λ b. binary_fresh s operator a b (site_at at span) span)))
+    (passing_any IsFresh (typed at s left) _ (λ a. passing_any IsFresh (typed at (beside operator a s) right) _ (λ b. binary_fresh s operator a b (site_at at span) span)))

@@ -1,10 +1,13 @@
 -- The parts of a core take few words of the stack, by the height of the tree that they come from.
-use Rattle.std.proofs.Common.{◌≡◌, ℕ, ◌+◌, ◌*◌, ◌≤◌, ◌^◌, Bool, true, false, List, [], ◌∷◌, length, Option, Some, None, refl, arith}
+use Rattle.std.proofs.Common.{◌≡◌, ℕ, ◌+◌, ◌*◌, ◌≤◌, ◌^◌, Bool, true, false, List, [], ◌∷◌, length, Option, Some, None, refl, ap, arith}
 use Rattle.std.specs.Prelude.{◌==◌, nat_lt, ◌&&◌}
 use Rattle.std.specs.List.{AllByRecursion}
 use Rattle.std.proofs.lemmas.Bool.{ltb-true, ltb-false}
 use Rattle.ckc_text.specs.declared.place.Span.{Span}
 use Rattle.ckc_text.specs.declared.code.Code.TheVariants.{E04, E13, E14, E26}
+use Rattle.ckc_tree.specs.declared.expr.CastWord.{CastWord}
+use Rattle.ckc_tree.specs.declared.expr.MallocWord.{MallocWord}
+use Rattle.ckc_tree.specs.declared.expr.CallocWord.{CallocWord}
 use Rattle.ckc_tree.specs.declared.expr.UnaryOperator.{UnaryOperator}
 use Rattle.ckc_tree.specs.declared.expr.UnaryOperator.TheVariants as unary
 use Rattle.ckc_tree.specs.declared.expr.BinaryOperator.{BinaryOperator}
@@ -32,10 +35,13 @@ use Rattle.ckc_core.specs.Core as core
 use Rattle.ckc_core.specs.Stacks.{offset_stack, expression_stack, arguments_stack, place_stack, statement_stack}
 use Rattle.ckc_names_rules.specs.declared.given.Given.{Given}
 use Rattle.region_typing_rules.specs.Verdicts.{Verdict, Passes, passing}
-use Rattle.region_typing_rules.specs.Scopes.{Scope, Signature, Named, Local, Object, Array, Nothing, named, function_named, members_named}
+use Rattle.region_typing_rules.specs.Scopes.{Scope, Signature, WrittenBounds, Named, Local, Object, Array, Nothing, named, function_named, members_named}
 use Rattle.region_typing_rules.specs.Types.{type_named, is_number, is_pointer, are_comparable, converts}
-use Rattle.region_typing_rules.specs.Expressions.{Places, OfLocal, OfCell, Standing, ForNothing, ForArray, For, Typed, Value, AStruct, Called, Gives, GivesNothing, site_at, bounds_at, noted, noted_if, with_bounds, sum_node, bounded, plain, number, at_place, local_typed, name_typed, member_place, member_from, offset_among, member_at, dotted, first_element, pointed_by, arrowed, pointed_at, dereferenced, pointer_to, address, number_of, scalar_of, unary_typed, two_numbers, two_scalars, operator_along, summed, sum_typed, as_pointer, equated_values, equated, are_related, ordered_values, ordered, arithmetic, binary_typed, element_at, indexed, in_type, converted, arguments_as, is_import, call_of, declared_callee, first_of, writes, predefined_call, called, with_result, typed, all_typed, call_typed}
+use Rattle.region_typing_rules.specs.Expressions.{Places, OfLocal, OfCell, Standing, ForNothing, ForArray, For, Typed, Value, AStruct, Called, Gives, GivesNothing, site_at, bounds_at, noted, noted_if, with_bounds, sum_node, bounded, plain, number, at_place, local_typed, name_typed, member_place, member_from, offset_among, member_at, dotted, first_element, pointed_by, arrowed, pointed_at, dereferenced, pointer_to, address, number_of, scalar_of, unary_typed, two_numbers, two_scalars, operator_along, summed, sum_typed, as_pointer, equated_values, equated, are_related, ordered_values, ordered, arithmetic, binary_typed, beside as right_scope, element_at, indexed, in_type, converted, arguments_as, is_import, call_of, declared_callee, first_of, writes, predefined_call, called, with_result, typed, all_typed, call_typed, malloc_typed, calloc_typed, cast_typed, cast_bounds}
+use Rattle.region_typing_rules.proofs.RightOperands.{in_right}
 use Rattle.region_typing_rules.proofs.Knowledge.{crossing_promises}
+use Rattle.region_typing_rules.proofs.Kept.{passing_any}
+use Rattle.region_typing_rules.proofs.Memory.{IsCount, OfBytes, OfOne, OfLeft, OfRight, malloc_promises, calloc_promises, cast_promises}
 use Rattle.region_typing_rules.proofs.Verdicts.{Promises, passing_promises, needs_promises, anything_promised, promised_so, elements_promise, apart_promises, all_met_promise}
 use Rattle.region_typing_rules.proofs.Signatures.{named_has}
 
@@ -382,6 +388,28 @@ predefined_low n given name arguments span one all = by (name == given.next_inpu
     by false false true h0 h1 h2 = rw (h0, h1, h2) (writes_low n core.PutByte arguments span (λ v. refl) one all)
     by false false false h0 h1 h2 = rw (h0, h1, h2) tt
 
+-- ---- allocation and casts
+
+count_low : (n : ℕ) (size count : core.Expression) → 1 ≤ n → IsLow n size → IsCount size count → IsLow n count
+count_low n size _ some h OfBytes = h
+count_low n size _ some h OfOne = some
+count_low n size _ some h (OfLeft product) = let same = ap expression_stack product in omega arith
+count_low n size _ some h (OfRight product) = let same = ap expression_stack product in omega arith
+
+malloc_low : (n : ℕ) (word : MallocWord) (s : Scope) (t : CType) (size : Expression) (a : Typed) (site : Site) (span : Span) → 1 ≤ n → Low n a → Promises (Low n) (malloc_typed word s t size a site span)
+malloc_low n word s t size (Value type zero value place) site span some h =
+    malloc_promises (Low n) s t site span word size (Value type zero value place) (λ number count is bytes. (count_low n value count some h.0 is, tt))
+malloc_low n word s t size (AStruct number place) site span some h = malloc_promises (Low n) s t site span word size (AStruct number place) tt
+
+calloc_low : (n : ℕ) (word : CallocWord) (s : Scope) (t : CType) (a : Typed) (size : Expression) (site : Site) (span : Span) → Low n a → Promises (Low n) (calloc_typed word s t a size site span)
+calloc_low n word s t (Value type zero value place) size site span h = calloc_promises (Low n) s t site span word (Value type zero value place) size (λ number bytes. (h.0, tt))
+calloc_low n word s t (AStruct number place) size site span h = calloc_promises (Low n) s t site span word (AStruct number place) size tt
+
+cast_low : (n : ℕ) (word : CastWord) (s : Scope) (t : CType) (a : Typed) (written : WrittenBounds) (site : Site) (span : Span) → 7 ≤ n → Low n a → Promises (Low n) (cast_typed word s t a written site span)
+cast_low n word s t (Value type zero value place) written site span seven h =
+    cast_promises (Low n) word s t (Value type zero value place) written site span (λ casts. let low = h.0 in (omega arith, tt))
+cast_low n word s t (AStruct number place) written site span seven h = cast_promises (Low n) word s t (AStruct number place) written site span tt
+
 call_more : (n m : ℕ) (c : Called) → n ≤ m → LowCall n c → LowCall m c
 call_more n m (Gives type value) le h = omega arith
 call_more n m (GivesNothing call) le h = omega arith
@@ -404,92 +432,112 @@ module _ (s : Scope) (few : AllByRecursion HasFew s.functions) where
       (λ values h. let least = named_has HasFew s.functions name f few found in
       all_met_promise (LowCall (n + 16)) s.flow _ _ arguments f.parameters f.bounds _ (call_low (n + 16) f.result _ (declared_callee s f site) values site s.structs (omega arith) (omega arith)))))
 
-  -- ---- the walk
+-- ---- the walk
 
-  mutual
-    -- 17 words for each node on the way to the deepest one
-    pub typed_low : (at : Places) (x : Expression) (n : ℕ) → 17 * (expression_reach x).height ≤ n → Promises (Low n) (typed at s x)
-    typed_low at (e.Number value span) n h = needs_promises (Low n) (nat_lt value (2 ^ 31)) E04 span _ (λ low. (omega arith, tt))
-    typed_low at (e.Character value span) n h = needs_promises (Low n) (nat_lt value (2 ^ 31)) E04 span _ (λ low. (omega arith, tt))
-    typed_low at (e.Text bytes span) n h = tt
-    typed_low at (e.Name name) n h = bounded_low n s (site_at at name.span) (passing (named s name.number) (λ x. Passes (name_typed s x (site_at at name.span)))) (passing_promises (λ (x : Named). Unit {0}) (Low n) (named s name.number) _ (anything_promised (named s name.number)) (λ x _. name_low n s x (site_at at name.span) (omega arith)))
-    typed_low at (e.Call callee arguments span) n h =
-        let parts = expressions_reach arguments in
-        let higher = around_higher span.from parts in
-        let m = 17 * parts.height + 1 in
-        let room : m + 16 ≤ n = omega arith in
-        passing_promises (AllLow m) (Low n) (all_typed at s arguments) _ (all_low at arguments m (omega arith))
-        (λ ts low. passing_promises (LowCall (m + 16)) (Low n) (called s (function_named s.functions callee.number) callee.number ts (site_at at span) span) _
-        (called_low m (function_named s.functions callee.number) callee.number ts (site_at at span) span refl (omega arith) low)
-        (λ c h'. promised_so (Low (m + 16)) (Low n) (with_result c span) (with_result_low (m + 16) c span h') (λ t. low_more (m + 16) n t room)))
-    typed_low at (e.SizeOf type span) n h =
-        let higher = around_higher span.from (type_reach type.base) in
-        passing_promises (λ (t : CType). Unit {0}) (Low n) (type_named s type) _ (anything_promised (type_named s type)) (λ t _. (omega arith, tt))
-    typed_low at (e.Cast word type operand span) n h = tt
-    typed_low at (e.BoundedCast word type operand bounds span) n h = tt
-    typed_low at (e.Malloc word type size span) n h = tt
-    typed_low at (e.Calloc word type count size span) n h = tt
-    typed_low at (e.Index base index span) n h =
-        let first = expression_reach base in
-        let second = expression_reach index in
-        let higher = around_higher span.from (first beside second) in
-        let one = beside_first first second in
-        let two = beside_second first second in
-        let m = 17 * (first beside second).height + 6 in
-        let room : m + 1 ≤ n = omega arith in
-        bounded_low n s (site_at at span) (passing (typed at s base) (λ a. passing (typed at s index) (λ b. indexed a b (site_at at span) span)))
-        (passing_promises (Low m) (Low n) (typed at s base) _ (typed_low at base m (omega arith))
-        (λ a ha. passing_promises (Low m) (Low n) (typed at s index) _ (typed_low at index m (omega arith))
-        (λ b hb. promised_so (Low (m + 1)) (Low n) (indexed a b (site_at at span) span) (indexed_low m a b (site_at at span) span (omega arith) ha hb) (λ t. low_more (m + 1) n t room))))
-    typed_low at (e.Dot base member span) n h =
-        let higher = around_higher span.from (expression_reach base) in
-        bounded_low n s (site_at at span) (passing (typed at s base) (λ a. dotted s a member.number (site_at at span) span)) (passing_promises (Low n) (Low n) (typed at s base) _ (typed_low at base n (omega arith)) (λ a low. dotted_low n s a member.number (site_at at span) span (omega arith) low))
-    typed_low at (e.Arrow base member span) n h =
-        let higher = around_higher span.from (expression_reach base) in
-        bounded_low n s (site_at at span) (passing (typed at s base) (λ a. arrowed s a member.number (site_at at span) span)) (passing_promises (Low n) (Low n) (typed at s base) _ (typed_low at base n (omega arith)) (λ a low. arrowed_low n s a member.number (site_at at span) span (omega arith) low))
-    typed_low at (e.Unary operator operand span) n h =
-        let higher = around_higher span.from (expression_reach operand) in
-        bounded_low n s (site_at at span) (passing (typed at s operand) (λ a. unary_typed operator a (site_at at span) span)) (passing_promises (Low n) (Low n) (typed at s operand) _ (typed_low at operand n (omega arith)) (λ a low. unary_low n operator a (site_at at span) span (omega arith) low))
-    typed_low at (e.Binary operator left right span) n h =
-        let first = expression_reach left in
-        let second = expression_reach right in
-        let higher = around_higher span.from (first beside second) in
-        let one = beside_first first second in
-        let two = beside_second first second in
-        let m = 17 * (first beside second).height + 6 in
-        let room : m + 1 ≤ n = omega arith in
-        passing_promises (Low m) (Low n) (typed at s left) _ (typed_low at left m (omega arith))
-        (λ a ha. passing_promises (Low m) (Low n) (typed at s right) _ (typed_low at right m (omega arith))
-        (λ b hb. promised_so (Low (m + 1)) (Low n) (binary_typed s operator a b (site_at at span) span) (binary_low m s operator a b (site_at at span) span (omega arith) ha hb) (λ t. low_more (m + 1) n t room)))
-
-    all_low : (at : Places) (xs : Expressions) (n : ℕ) → 17 * (expressions_reach xs).height ≤ n → Promises (AllLow n) (all_typed at s xs)
-    all_low at e.NoMore n h = tt
-    all_low at (e.Then first others) n h =
-        let one = beside_first (expression_reach first) (expressions_reach others) in
-        let two = beside_second (expression_reach first) (expressions_reach others) in
-        passing_promises (Low n) (AllLow n) (typed at s first) _ (typed_low at first n (omega arith))
-        (λ t low. passing_promises (AllLow n) (AllLow n) (all_typed at s others) _ (all_low at others n (omega arith)) (λ ts lows. (low, lows)))
-
-  pub call_typed_low : (at : Places) (x : Expression) (n : ℕ) → 17 * (expression_reach x).height ≤ n → Promises (LowCall n) (call_typed at s x)
-  call_typed_low at (e.Call callee arguments span) n h =
+mutual
+  -- 17 words for each node on the way to the deepest one
+  pub typed_low : (s : Scope) (few : AllByRecursion HasFew s.functions) (at : Places) (x : Expression) (n : ℕ) → 17 * (expression_reach x).height ≤ n → Promises (Low n) (typed at s x)
+  typed_low s few at (e.Number value span) n h = needs_promises (Low n) (nat_lt value (2 ^ 31)) E04 span _ (λ low. (omega arith, tt))
+  typed_low s few at (e.Character value span) n h = needs_promises (Low n) (nat_lt value (2 ^ 31)) E04 span _ (λ low. (omega arith, tt))
+  typed_low s few at (e.Text bytes span) n h = tt
+  typed_low s few at (e.Name name) n h = bounded_low n s (site_at at name.span) (passing (named s name.number) (λ x. Passes (name_typed s x (site_at at name.span)))) (passing_promises (λ (x : Named). Unit {0}) (Low n) (named s name.number) _ (anything_promised (named s name.number)) (λ x _. name_low n s x (site_at at name.span) (omega arith)))
+  typed_low s few at (e.Call callee arguments span) n h =
       let parts = expressions_reach arguments in
       let higher = around_higher span.from parts in
       let m = 17 * parts.height + 1 in
       let room : m + 16 ≤ n = omega arith in
-      passing_promises (AllLow m) (LowCall n) (all_typed at s arguments) _ (all_low at arguments m (omega arith))
-      (λ ts low. promised_so (LowCall (m + 16)) (LowCall n) (called s (function_named s.functions callee.number) callee.number ts (site_at at span) span)
-      (called_low m (function_named s.functions callee.number) callee.number ts (site_at at span) span refl (omega arith) low) (λ c. call_more (m + 16) n c room))
-  call_typed_low at (e.Number value span) n h = tt
-  call_typed_low at (e.Character value span) n h = tt
-  call_typed_low at (e.Text bytes span) n h = tt
-  call_typed_low at (e.Name name) n h = tt
-  call_typed_low at (e.SizeOf type span) n h = tt
-  call_typed_low at (e.Cast word type operand span) n h = tt
-  call_typed_low at (e.BoundedCast word type operand bounds span) n h = tt
-  call_typed_low at (e.Malloc word type size span) n h = tt
-  call_typed_low at (e.Calloc word type count size span) n h = tt
-  call_typed_low at (e.Index base index span) n h = tt
-  call_typed_low at (e.Dot base member span) n h = tt
-  call_typed_low at (e.Arrow base member span) n h = tt
-  call_typed_low at (e.Unary operator operand span) n h = tt
-  call_typed_low at (e.Binary operator left right span) n h = tt
+      passing_promises (AllLow m) (Low n) (all_typed at s arguments) _ (all_low s few at arguments m (omega arith))
+      (λ ts low. passing_promises (LowCall (m + 16)) (Low n) (called s (function_named s.functions callee.number) callee.number ts (site_at at span) span) _
+      (called_low s few m (function_named s.functions callee.number) callee.number ts (site_at at span) span refl (omega arith) low)
+      (λ c h'. promised_so (Low (m + 16)) (Low n) (with_result c span) (with_result_low (m + 16) c span h') (λ t. low_more (m + 16) n t room)))
+  typed_low s few at (e.SizeOf type span) n h =
+      let higher = around_higher span.from (type_reach type.base) in
+      passing_promises (λ (t : CType). Unit {0}) (Low n) (type_named s type) _ (anything_promised (type_named s type)) (λ t _. (omega arith, tt))
+  typed_low s few at (e.Cast word type operand span) n h =
+      let higher = around_higher span.from (type_reach type.base beside expression_reach operand) in
+      let deep = beside_second (type_reach type.base) (expression_reach operand) in
+      passing_any (Low n) (type_named s type) _ (λ t. passing_promises (Low n) (Low n) (typed at s operand) _ (typed_low s few at operand n (omega arith))
+      (λ a low. cast_low n word s t a None (site_at at span) span (omega arith) low))
+  typed_low s few at (e.BoundedCast word type operand bounds span) n h =
+      let parts = type_reach type.base beside expression_reach operand in
+      let higher = around_higher span.from (parts beside bounds_reach bounds) in
+      let deep = beside_second (type_reach type.base) (expression_reach operand) in
+      let wide = beside_first parts (bounds_reach bounds) in
+      passing_any (Low n) (type_named s type) _ (λ t. passing_promises (Low n) (Low n) (typed at s operand) _ (typed_low s few at operand n (omega arith))
+      (λ a low. passing_any (Low n) (cast_bounds s t bounds) _ (λ written. cast_low n word s t a written (site_at at span) span (omega arith) low)))
+  typed_low s few at (e.Malloc word type size span) n h =
+      let higher = around_higher span.from (type_reach type.base beside expression_reach size) in
+      let deep = beside_second (type_reach type.base) (expression_reach size) in
+      passing_any (Low n) (type_named s type) _ (λ t. passing_promises (Low n) (Low n) (typed at s size) _ (typed_low s few at size n (omega arith))
+      (λ a low. malloc_low n word s t size a (site_at at span) span (omega arith) low))
+  typed_low s few at (e.Calloc word type count size span) n h =
+      let parts = type_reach type.base beside expression_reach count in
+      let higher = around_higher span.from (parts beside expression_reach size) in
+      let deep = beside_second (type_reach type.base) (expression_reach count) in
+      let wide = beside_first parts (expression_reach size) in
+      passing_any (Low n) (type_named s type) _ (λ t. passing_promises (Low n) (Low n) (typed at s count) _ (typed_low s few at count n (omega arith))
+      (λ a low. passing_any (Low n) (typed at s size) _ (λ b. calloc_low n word s t a size (site_at at span) span low)))
+  typed_low s few at (e.Index base index span) n h =
+      let first = expression_reach base in
+      let second = expression_reach index in
+      let higher = around_higher span.from (first beside second) in
+      let one = beside_first first second in
+      let two = beside_second first second in
+      let m = 17 * (first beside second).height + 6 in
+      let room : m + 1 ≤ n = omega arith in
+      bounded_low n s (site_at at span) (passing (typed at s base) (λ a. passing (typed at s index) (λ b. indexed a b (site_at at span) span)))
+      (passing_promises (Low m) (Low n) (typed at s base) _ (typed_low s few at base m (omega arith))
+      (λ a ha. passing_promises (Low m) (Low n) (typed at s index) _ (typed_low s few at index m (omega arith))
+      (λ b hb. promised_so (Low (m + 1)) (Low n) (indexed a b (site_at at span) span) (indexed_low m a b (site_at at span) span (omega arith) ha hb) (λ t. low_more (m + 1) n t room))))
+  typed_low s few at (e.Dot base member span) n h =
+      let higher = around_higher span.from (expression_reach base) in
+      bounded_low n s (site_at at span) (passing (typed at s base) (λ a. dotted s a member.number (site_at at span) span)) (passing_promises (Low n) (Low n) (typed at s base) _ (typed_low s few at base n (omega arith)) (λ a low. dotted_low n s a member.number (site_at at span) span (omega arith) low))
+  typed_low s few at (e.Arrow base member span) n h =
+      let higher = around_higher span.from (expression_reach base) in
+      bounded_low n s (site_at at span) (passing (typed at s base) (λ a. arrowed s a member.number (site_at at span) span)) (passing_promises (Low n) (Low n) (typed at s base) _ (typed_low s few at base n (omega arith)) (λ a low. arrowed_low n s a member.number (site_at at span) span (omega arith) low))
+  typed_low s few at (e.Unary operator operand span) n h =
+      let higher = around_higher span.from (expression_reach operand) in
+      bounded_low n s (site_at at span) (passing (typed at s operand) (λ a. unary_typed operator a (site_at at span) span)) (passing_promises (Low n) (Low n) (typed at s operand) _ (typed_low s few at operand n (omega arith)) (λ a low. unary_low n operator a (site_at at span) span (omega arith) low))
+  typed_low s few at (e.Binary operator left right span) n h =
+      let first = expression_reach left in
+      let second = expression_reach right in
+      let higher = around_higher span.from (first beside second) in
+      let one = beside_first first second in
+      let two = beside_second first second in
+      let m = 17 * (first beside second).height + 6 in
+      let room : m + 1 ≤ n = omega arith in
+      passing_promises (Low m) (Low n) (typed at s left) _ (typed_low s few at left m (omega arith))
+      (λ a ha. passing_promises (Low m) (Low n) (typed at (right_scope operator a s) right) _ (typed_low (right_scope operator a s) (in_right (λ s. AllByRecursion HasFew s.functions) operator a s (λ f. few)) at right m (omega arith))
+      (λ b hb. promised_so (Low (m + 1)) (Low n) (binary_typed s operator a b (site_at at span) span) (binary_low m s operator a b (site_at at span) span (omega arith) ha hb) (λ t. low_more (m + 1) n t room)))
+
+  all_low : (s : Scope) (few : AllByRecursion HasFew s.functions) (at : Places) (xs : Expressions) (n : ℕ) → 17 * (expressions_reach xs).height ≤ n → Promises (AllLow n) (all_typed at s xs)
+  all_low s few at e.NoMore n h = tt
+  all_low s few at (e.Then first others) n h =
+      let one = beside_first (expression_reach first) (expressions_reach others) in
+      let two = beside_second (expression_reach first) (expressions_reach others) in
+      passing_promises (Low n) (AllLow n) (typed at s first) _ (typed_low s few at first n (omega arith))
+      (λ t low. passing_promises (AllLow n) (AllLow n) (all_typed at s others) _ (all_low s few at others n (omega arith)) (λ ts lows. (low, lows)))
+
+pub call_typed_low : (s : Scope) (few : AllByRecursion HasFew s.functions) (at : Places) (x : Expression) (n : ℕ) → 17 * (expression_reach x).height ≤ n → Promises (LowCall n) (call_typed at s x)
+call_typed_low s few at (e.Call callee arguments span) n h =
+    let parts = expressions_reach arguments in
+    let higher = around_higher span.from parts in
+    let m = 17 * parts.height + 1 in
+    let room : m + 16 ≤ n = omega arith in
+    passing_promises (AllLow m) (LowCall n) (all_typed at s arguments) _ (all_low s few at arguments m (omega arith))
+    (λ ts low. promised_so (LowCall (m + 16)) (LowCall n) (called s (function_named s.functions callee.number) callee.number ts (site_at at span) span)
+    (called_low s few m (function_named s.functions callee.number) callee.number ts (site_at at span) span refl (omega arith) low) (λ c. call_more (m + 16) n c room))
+call_typed_low s few at (e.Number value span) n h = tt
+call_typed_low s few at (e.Character value span) n h = tt
+call_typed_low s few at (e.Text bytes span) n h = tt
+call_typed_low s few at (e.Name name) n h = tt
+call_typed_low s few at (e.SizeOf type span) n h = tt
+call_typed_low s few at (e.Cast word type operand span) n h = tt
+call_typed_low s few at (e.BoundedCast word type operand bounds span) n h = tt
+call_typed_low s few at (e.Malloc word type size span) n h = tt
+call_typed_low s few at (e.Calloc word type count size span) n h = tt
+call_typed_low s few at (e.Index base index span) n h = tt
+call_typed_low s few at (e.Dot base member span) n h = tt
+call_typed_low s few at (e.Arrow base member span) n h = tt
+call_typed_low s few at (e.Unary operator operand span) n h = tt
+call_typed_low s few at (e.Binary operator left right span) n h = tt

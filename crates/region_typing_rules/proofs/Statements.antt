@@ -25,7 +25,7 @@ use Rattle.bounds_flow_meaning.specs.Holding.{AreInts}
 use Rattle.region_typing_rules.specs.Scopes.{Scope}
 use Rattle.region_typing_rules.specs.Types.{is_number}
 use Rattle.region_typing_rules.specs.Expressions.{Places, Typed, Value, AStruct, ForNothing, ForArray, For, Called, Gives, GivesNothing, Lvalue, OfLocal, OfCell, site_at, typed, two_numbers, is_single_value, lacks_bounds, operator_along, sum_node, converted, bounds_met}
-use Rattle.region_typing_rules.specs.Statements.{both, store, updated_place, update, assigned, set_to, moved, updated_as, updated, stored, step_of, one, assignment, zero_value, initialised, in_loop, condition, optional_condition, alone, returned, returned_nothing, return}
+use Rattle.region_typing_rules.specs.Statements.{both, store, updated_place, update, assigned, set_to, moved, updated_as, updated, stored, step_of, one, assignment, zero_value, initialised, in_loop, condition, optional_condition, alone}
 use Rattle.region_typing_rules.specs.Typed as rules
 use Rattle.region_typing_rules.specs.Typed.{Frame, HasType, HasPlace, IsSimple, IsStatement, AreStatements, IsScalar}
 use Rattle.region_typing_rules.proofs.Verdicts.{Promises, passing_promises, Extends}

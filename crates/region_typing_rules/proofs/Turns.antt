@@ -34,7 +34,7 @@ use Rattle.region_typing_rules.proofs.Worlds.{Anything, tick_answers}
 use Rattle.region_typing_rules.proofs.Sure.{sure_both, sure_further}
 use Rattle.region_typing_rules.proofs.Soundness.{EndsAs, Goes, IsKept, IsNext, OfType, Runs, asked_runs, lowered_runs, raised_runs, runs_both, runs_on, runs_then, typed_goes}
 use Rattle.region_typing_rules.proofs.Declaring.{IsAt, Knots, few_vars, has_of, running, ticking}
-use Rattle.region_typing_rules.proofs.Ways.{below_or_beyond, extends_length, fits_further, way_further, on_first, on_others, walk_block, walk_head, block_outside, known_block}
+use Rattle.region_typing_rules.proofs.Ways.{below_or_beyond, extends_length, fits_further, way_further, on_first, on_others, walk_block, walk_head, walk_tracked, block_outside, known_block}
 
 -- ---- the locals before a loop, with those of a later state that a flow can't tell
 
@@ -228,7 +228,7 @@ module _ (frame : Frame) (types : List CType) (all_scalar : AllByRecursion IsSca
       sure_further (λ v u. (OfType frame t v u × IsAfter s u × IsKept frame budget n low types u) × (IsAfter s u × FitsAlike structs' (length g.locals) (told g.locals c (truth v) g.flow) u))
       (λ v u. FitsAlike structs' (length g.locals) (told g.locals c (truth v) g.flow) u × IsAfter s u × IsKept frame budget n low types u) (value true here (K n) c s)
       (sure_both (λ v u. OfType frame t v u × IsAfter s u × IsKept frame budget n low types u) (λ v u. IsAfter s u × FitsAlike structs' (length g.locals) (told g.locals c (truth v) g.flow) u) (value true here (K n) c s)
-      (typed_goes frame budget n sandbox trusted (K n) (knots n (omega arith)) low types g w.between.flow reaches typed s (at.known, at.kept))
+      (typed_goes frame budget n sandbox trusted (K n) (knots n (omega arith)) low types g w.between.flow (walk_tracked vars g w) reaches typed s (at.known, at.kept))
       (told_fits true here (K n) (knots_move true here n).calls structs' g.locals c g.flow w.between.flow (few_vars frame types all_scalar vars budget sandbox trusted g w) s (has_of frame types all_scalar vars budget sandbox trusted n low g s reaches at.kept) at.known))
       (λ v u x. (x.1.1, x.0.1, x.0.2))
 

@@ -125,6 +125,10 @@ walk_knowing vars f g a beside w = record {
   continues = between_same vars g.outside g.flow f g.continues (λ p low. beside.declared p) w.continues;
 }
 
+-- a flow between statements speaks of each local
+pub walk_tracked : (vars : ℕ) (g : Scope) → IsWalk vars g → length g.locals ≤ g.flow.vars
+walk_tracked vars g w = let few = w.few in let size = w.between.size in omega (arith, few, size)
+
 pub walk_when : (vars : ℕ) (c : core.Expression) (truth : Bool) (g : Scope) → IsWalk vars g → IsWalk vars (when c truth g)
 walk_when vars c truth g w = walk_knowing vars (told g.locals c truth g.flow) g (between_told g.locals vars c truth g.flow w.few w.between) (told_beside g.locals vars c truth g.flow w.few w.between) w
 

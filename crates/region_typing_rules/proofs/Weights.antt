@@ -1,8 +1,11 @@
 -- The expressions of a core have few nodes, by how many the tree has that they come from.
-use Rattle.std.proofs.Common.{◌≡◌, ℕ, ◌+◌, ◌*◌, ◌<◌, ◌≤◌, ◌^◌, Bool, true, false, List, [], ◌∷◌, length, Option, Some, None, refl, arith}
+use Rattle.std.proofs.Common.{◌≡◌, ℕ, ◌+◌, ◌*◌, ◌<◌, ◌≤◌, ◌^◌, Bool, true, false, List, [], ◌∷◌, length, Option, Some, None, refl, ap, arith}
 use Rattle.std.specs.Prelude.{◌==◌, nat_lt, ◌&&◌}
 use Rattle.ckc_text.specs.declared.place.Span.{Span}
 use Rattle.ckc_text.specs.declared.code.Code.TheVariants.{E04, E13, E14, E26}
+use Rattle.ckc_tree.specs.declared.expr.CastWord.{CastWord}
+use Rattle.ckc_tree.specs.declared.expr.MallocWord.{MallocWord}
+use Rattle.ckc_tree.specs.declared.expr.CallocWord.{CallocWord}
 use Rattle.ckc_tree.specs.declared.expr.UnaryOperator.{UnaryOperator}
 use Rattle.ckc_tree.specs.declared.expr.UnaryOperator.TheVariants as unary
 use Rattle.ckc_tree.specs.declared.expr.BinaryOperator.{BinaryOperator}
@@ -30,10 +33,12 @@ use Rattle.ckc_core.specs.Core as core
 use Rattle.ckc_core.specs.Weights.{expression_weight, arguments_weight, place_weight, statement_weight}
 use Rattle.ckc_names_rules.specs.declared.given.Given.{Given}
 use Rattle.region_typing_rules.specs.Verdicts.{Verdict, Passes, passing}
-use Rattle.region_typing_rules.specs.Scopes.{Scope, Signature, Named, Local, Object, Array, Nothing, named, function_named, members_named}
+use Rattle.region_typing_rules.specs.Scopes.{Scope, Signature, WrittenBounds, Named, Local, Object, Array, Nothing, named, function_named, members_named}
 use Rattle.region_typing_rules.specs.Types.{type_named, is_number, is_pointer, are_comparable, converts}
-use Rattle.region_typing_rules.specs.Expressions.{Places, OfLocal, OfCell, Standing, ForNothing, ForArray, For, Typed, Value, AStruct, Called, Gives, GivesNothing, site_at, bounds_at, noted, noted_if, with_bounds, sum_node, bounded, plain, number, at_place, local_typed, name_typed, member_place, member_from, offset_among, member_at, dotted, first_element, pointed_by, arrowed, pointed_at, dereferenced, pointer_to, address, number_of, scalar_of, unary_typed, two_numbers, two_scalars, operator_along, summed, sum_typed, as_pointer, equated_values, equated, are_related, ordered_values, ordered, arithmetic, binary_typed, element_at, indexed, in_type, converted, arguments_as, is_import, call_of, declared_callee, first_of, writes, predefined_call, called, with_result, typed, all_typed, call_typed}
+use Rattle.region_typing_rules.specs.Expressions.{Places, OfLocal, OfCell, Standing, ForNothing, ForArray, For, Typed, Value, AStruct, Called, Gives, GivesNothing, site_at, bounds_at, noted, noted_if, with_bounds, sum_node, bounded, plain, number, at_place, local_typed, name_typed, member_place, member_from, offset_among, member_at, dotted, first_element, pointed_by, arrowed, pointed_at, dereferenced, pointer_to, address, number_of, scalar_of, unary_typed, two_numbers, two_scalars, operator_along, summed, sum_typed, as_pointer, equated_values, equated, are_related, ordered_values, ordered, arithmetic, binary_typed, beside, element_at, indexed, in_type, converted, arguments_as, is_import, call_of, declared_callee, first_of, writes, predefined_call, called, with_result, typed, all_typed, call_typed, malloc_typed, calloc_typed, cast_typed, cast_bounds}
 use Rattle.region_typing_rules.proofs.Knowledge.{crossing_promises}
+use Rattle.region_typing_rules.proofs.Kept.{passing_any}
+use Rattle.region_typing_rules.proofs.Memory.{IsCount, OfBytes, OfOne, OfLeft, OfRight, malloc_promises, calloc_promises, cast_promises}
 use Rattle.region_typing_rules.proofs.Verdicts.{Promises, passing_promises, needs_promises, anything_promised, promised_so, elements_promise, apart_promises, all_met_promise}
 
 -- ---- what an expression is has fewer nodes
@@ -371,6 +376,29 @@ called_light s xs (Some f) name arguments site span all =
     (passing_promises (AreLight xs) (LightCall (n + 2)) (arguments_as arguments f.parameters) _ (arguments_light xs arguments f.parameters all)
     (λ values h. all_met_promise (LightCall (n + 2)) s.flow _ _ arguments f.parameters f.bounds _ (call_light n f.result _ (declared_callee s f site) values site s.structs h))))
 
+-- ---- allocation and casts
+
+count_light : (n : ℕ) (size count : core.Expression) → 2 ≤ n → IsLight n size → IsCount size count → IsLight n count
+count_light n size _ two h OfBytes = h
+count_light n size _ two h OfOne = omega arith
+count_light n size _ two h (OfLeft product) = let same = ap expression_weight product in omega arith
+count_light n size _ two h (OfRight product) = let same = ap expression_weight product in omega arith
+
+malloc_light : (n all : ℕ) (word : MallocWord) (s : Scope) (t : CType) (size : Expression) (a : Typed) (site : Site) (span : Span) → 2 ≤ n → n + 1 ≤ all → Light n a → Promises (Light all) (malloc_typed word s t size a site span)
+malloc_light n all word s t size (Value type zero value place) site span two more h =
+    malloc_promises (Light all) s t site span word size (Value type zero value place) (λ number count is bytes. let light = count_light n value count two h.0 is in (omega arith, tt))
+malloc_light n all word s t size (AStruct number place) site span two more h = malloc_promises (Light all) s t site span word size (AStruct number place) tt
+
+calloc_light : (n all : ℕ) (word : CallocWord) (s : Scope) (t : CType) (a : Typed) (size : Expression) (site : Site) (span : Span) → n + 1 ≤ all → Light n a → Promises (Light all) (calloc_typed word s t a size site span)
+calloc_light n all word s t (Value type zero value place) size site span more h =
+    calloc_promises (Light all) s t site span word (Value type zero value place) size (λ number bytes. let light = h.0 in (omega arith, tt))
+calloc_light n all word s t (AStruct number place) size site span more h = calloc_promises (Light all) s t site span word (AStruct number place) size tt
+
+cast_light : (n all : ℕ) (word : CastWord) (s : Scope) (t : CType) (a : Typed) (written : WrittenBounds) (site : Site) (span : Span) → n + 1 ≤ all → Light n a → Promises (Light all) (cast_typed word s t a written site span)
+cast_light n all word s t (Value type zero value place) written site span more h =
+    cast_promises (Light all) word s t (Value type zero value place) written site span (λ casts. let light = h.0 in (omega arith, tt))
+cast_light n all word s t (AStruct number place) written site span more h = cast_promises (Light all) word s t (AStruct number place) written site span tt
+
 -- ---- the walk
 
 mutual
@@ -389,10 +417,26 @@ mutual
       (λ c h. promised_so (Light (n + 2)) (Light all) (with_result c span) (with_result_light (n + 2) c span h) (λ t. light_more (n + 2) all t (omega arith))))
   typed_light at s (e.SizeOf type span) =
       passing_promises (λ (t : CType). Unit {0}) (Light (5 * tree.expression_weight (e.SizeOf type span))) (type_named s type) _ (anything_promised (type_named s type)) (λ t _. (omega arith, tt))
-  typed_light at s (e.Cast word type operand span) = tt
-  typed_light at s (e.BoundedCast word type operand bounds span) = tt
-  typed_light at s (e.Malloc word type size span) = tt
-  typed_light at s (e.Calloc word type count size span) = tt
+  typed_light at s (e.Cast word type operand span) =
+      let n = 5 * tree.expression_weight operand in
+      let all = 5 * tree.expression_weight (e.Cast word type operand span) in
+      passing_any (Light all) (type_named s type) _ (λ t. passing_promises (Light n) (Light all) (typed at s operand) _ (typed_light at s operand)
+      (λ a h. cast_light n all word s t a None (site_at at span) span (omega arith) h))
+  typed_light at s (e.BoundedCast word type operand bounds span) =
+      let n = 5 * tree.expression_weight operand in
+      let all = 5 * tree.expression_weight (e.BoundedCast word type operand bounds span) in
+      passing_any (Light all) (type_named s type) _ (λ t. passing_promises (Light n) (Light all) (typed at s operand) _ (typed_light at s operand)
+      (λ a h. passing_any (Light all) (cast_bounds s t bounds) _ (λ written. cast_light n all word s t a written (site_at at span) span (omega arith) h)))
+  typed_light at s (e.Malloc word type size span) =
+      let n = 5 * tree.expression_weight size in
+      let all = 5 * tree.expression_weight (e.Malloc word type size span) in
+      passing_any (Light all) (type_named s type) _ (λ t. passing_promises (Light n) (Light all) (typed at s size) _ (typed_light at s size)
+      (λ a h. malloc_light n all word s t size a (site_at at span) span (omega (arith, node_there size)) (omega arith) h))
+  typed_light at s (e.Calloc word type count size span) =
+      let n = 5 * tree.expression_weight count in
+      let all = 5 * tree.expression_weight (e.Calloc word type count size span) in
+      passing_any (Light all) (type_named s type) _ (λ t. passing_promises (Light n) (Light all) (typed at s count) _ (typed_light at s count)
+      (λ a h. passing_any (Light all) (typed at s size) _ (λ b. calloc_light n all word s t a size (site_at at span) span (omega arith) h)))
   typed_light at s (e.Index base index span) =
       let n = 5 * tree.expression_weight base in
       let m = 5 * tree.expression_weight index in
@@ -421,7 +465,7 @@ mutual
       let m = 5 * tree.expression_weight right in
       let all = 5 * tree.expression_weight (e.Binary operator left right span) in
       passing_promises (Light n) (Light all) (typed at s left) _ (typed_light at s left)
-      (λ a ha. passing_promises (Light m) (Light all) (typed at s right) _ (typed_light at s right)
+      (λ a ha. passing_promises (Light m) (Light all) (typed at (beside operator a s) right) _ (typed_light at (beside operator a s) right)
       (λ b hb. promised_so (Light (n + m + 2)) (Light all) (binary_typed s operator a b (site_at at span) span)
       (binary_light n m s operator a b (site_at at span) span (omega (arith, node_there left)) (omega (arith, node_there right)) ha hb) (λ t. light_more (n + m + 2) all t (omega arith))))
 

@@ -18,8 +18,7 @@ use Rattle.pointer_modes.specs.Layout.{size_of}
 use Rattle.ckc_core.specs.States.{same_mode, same_type}
 use Rattle.region_typing_rules.specs.Verdicts.{Verdict, Passes, passing, needs, breaks, picked}
 use Rattle.region_typing_rules.specs.Scopes.{Scope}
-use Rattle.region_typing_rules.specs.Types.{type_named}
-use Rattle.region_typing_rules.specs.Expressions.{is_row}
+use Rattle.region_typing_rules.specs.Types.{type_named, is_row}
 use Rattle.region_typing_rules.specs.Knowing.{local_number}
 
 -- the pointer that bounds are for: its number among the locals, its mode, and its element
@@ -73,8 +72,8 @@ abbrev other_sum : {A : Type 0} → Verdict A → Verdict Sum
 other_sum part = passing part (λ _. Passes sums.Other)
 
 abbrev mutual
-  -- An expression in bounds. Of what stands in it, only the types under `sizeof` have rules. Strings, casts and allocations aren't forms of
-  -- which rules speak here: no tree that is built has them
+  -- An expression in bounds. Of what stands in it, only the types under `sizeof` have rules. Strings aren't a form of which rules speak here:
+  -- no tree that is built has them
   pub sum_written : Scope → Bounded → Expression → Verdict Sum
   sum_written s p (e.Number value span) = Passes (sums.Number (pos value))
   sum_written s p (e.Character value span) = Passes (sums.Number (pos value))
@@ -82,10 +81,10 @@ abbrev mutual
   sum_written s p (e.Name name) = Passes (name_sum s p name.number (local_number s.visible name.number))
   sum_written s p (e.Call callee arguments span) = all_written s p arguments
   sum_written s p (e.SizeOf type span) = passing (type_named s type) (λ t. Passes (sums.Size (size_of s.structs t) (same_type p.element t)))
-  sum_written s p (e.Cast word type operand span) = breaks E13 span
-  sum_written s p (e.BoundedCast word type operand bounds span) = breaks E13 span
-  sum_written s p (e.Malloc word type size span) = breaks E13 span
-  sum_written s p (e.Calloc word type count size span) = breaks E13 span
+  sum_written s p (e.Cast word type operand span) = other_sum (sum_written s p operand)
+  sum_written s p (e.BoundedCast word type operand bounds span) = passing (sum_written s p operand) (λ _. parts_written s p bounds)
+  sum_written s p (e.Malloc word type size span) = other_sum (sum_written s p size)
+  sum_written s p (e.Calloc word type count size span) = passing (sum_written s p count) (λ _. other_sum (sum_written s p size))
   sum_written s p (e.Index base index span) = passing (sum_written s p base) (λ _. other_sum (sum_written s p index))
   sum_written s p (e.Dot base member span) = other_sum (sum_written s p base)
   sum_written s p (e.Arrow base member span) = other_sum (sum_written s p base)
@@ -97,6 +96,13 @@ abbrev mutual
   pub all_written : Scope → Bounded → Expressions → Verdict Sum
   all_written s p e.NoMore = Passes sums.Other
   all_written s p (e.Then first others) = passing (sum_written s p first) (λ _. all_written s p others)
+
+  -- the bounds of a cast, which has no place in bounds
+  pub parts_written : Scope → Bounded → e.Bounds → Verdict Sum
+  parts_written s p (e.Count count span) = other_sum (sum_written s p count)
+  parts_written s p (e.ByteCount count span) = other_sum (sum_written s p count)
+  parts_written s p (e.Unknown span) = Passes sums.Other
+  parts_written s p (e.Range low high span) = passing (sum_written s p low) (λ _. other_sum (sum_written s p high))
 
 -- ---- bounds
 

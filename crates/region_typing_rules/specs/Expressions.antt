@@ -3,11 +3,17 @@ use Rattle.std.specs.Prelude.{ℕ, suc, ◌+◌, ◌^◌, nat_lt, Bool, true, fa
 use Rattle.std.specs.Prelude.{Option, Some, None, is_none, is_some, slice_index_or}
 use Rattle.ckc_text.specs.declared.place.Place.{Place}
 use Rattle.ckc_text.specs.declared.place.Span.{Span}
-use Rattle.ckc_text.specs.declared.code.Code.TheVariants.{E04, E10, E12, E13, E14, E17, E18, E19, E22, E24, E26}
+use Rattle.ckc_text.specs.declared.code.Code.TheVariants.{E04, E10, E12, E13, E14, E15, E17, E18, E19, E22, E24, E26}
 use Rattle.ckc_tree.specs.declared.expr.UnaryOperator.{UnaryOperator}
 use Rattle.ckc_tree.specs.declared.expr.UnaryOperator.TheVariants as unary
 use Rattle.ckc_tree.specs.declared.expr.BinaryOperator.{BinaryOperator}
 use Rattle.ckc_tree.specs.declared.expr.BinaryOperator.TheVariants as binary
+use Rattle.ckc_tree.specs.declared.expr.CastWord.{CastWord}
+use Rattle.ckc_tree.specs.declared.expr.CastWord.TheVariants as cast_words
+use Rattle.ckc_tree.specs.declared.expr.MallocWord.{MallocWord}
+use Rattle.ckc_tree.specs.declared.expr.MallocWord.TheVariants as malloc_words
+use Rattle.ckc_tree.specs.declared.expr.CallocWord.{CallocWord}
+use Rattle.ckc_tree.specs.declared.expr.CallocWord.TheVariants as calloc_words
 use Rattle.ckc_tree.specs.declared.item.FunctionKind.{FunctionKind}
 use Rattle.ckc_tree.specs.declared.item.FunctionKind.TheVariants as function_kinds
 use Rattle.ckc_tree.specs.Expressions as e
@@ -32,6 +38,8 @@ use Rattle.ckc_core.specs.declared.program.Direction.{Direction}
 use Rattle.ckc_core.specs.declared.program.Direction.TheVariants as directions
 use Rattle.ckc_core.specs.declared.program.PointerBounds.{PointerBounds}
 use Rattle.ckc_core.specs.Core as core
+use Rattle.ckc_core.specs.States.{same_type}
+use Rattle.ckc_core.specs.Steps.{is_char}
 use Rattle.ckc_core.specs.Meaning.{bounds_of}
 use Rattle.bounds_exprs.specs.declared.term.Bounds.{Bounds}
 use Rattle.bounds_exprs.specs.declared.term.Term.{Term}
@@ -39,11 +47,15 @@ use Rattle.bounds_exprs.specs.Changes.{ends_filled_in}
 use Rattle.ckc_names_rules.specs.declared.given.Given.{Given}
 use Rattle.bounds_flow.specs.Flows.{Knowledge, held_at}
 use Rattle.bounds_flow.specs.Settling.{Finding, Meets, WasLost, Falls, bounds_find}
-use Rattle.region_typing_rules.specs.Verdicts.{Verdict, Passes, Unnamed, passing, needs, breaks, picked}
+use Rattle.region_typing_rules.specs.Verdicts.{Verdict, Passes, Stops, Unnamed, passing, needs, breaks, picked}
 use Rattle.region_typing_rules.specs.Scopes.{Scope, Signature, WrittenBounds, bounds_in, Named, Local, Object, Array, Nothing}
 use Rattle.region_typing_rules.specs.Scopes.{named, function_named, members_named}
-use Rattle.region_typing_rules.specs.Readings.{constant, term, pointer_local, sum_bounds, own_bounds, based_bounds, is_null}
-use Rattle.region_typing_rules.specs.Types.{type_named, is_number, is_pointer, is_checked_pointer, are_comparable, converts}
+use Rattle.region_typing_rules.specs.Readings.{constant, term, pointer_local, sum_bounds, own_bounds, based_bounds, is_null, left_told}
+use Rattle.region_typing_rules.specs.Knowing.{knowing}
+use Rattle.region_typing_rules.specs.Types.{type_named, is_number, is_pointer, is_single, is_row, is_checked_pointer, are_comparable, pointer_converts}
+use Rattle.region_typing_rules.specs.Types.{converts}
+use Rattle.region_typing_rules.specs.Cells.{cells_with}
+use Rattle.region_typing_rules.specs.DeclaredBounds.{declared_bounds}
 
 -- where a value may be stored: a local, or a cell
 pub data Lvalue : Type 0 where
@@ -298,24 +310,6 @@ unary_typed unary.Negate t site span = number_of t span (λ v. number (core.Nega
 unary_typed unary.Not t site span = scalar_of t span (λ v. number (core.Not v))
 unary_typed unary.Complement t site span = number_of t span (λ v. number (core.Complement v))
 
--- a pointer without bounds of its own
-abbrev pub is_single : CType → Bool
-is_single (Pointer mode kinds.One target) = true
-is_single (Pointer mode kinds.Array target) = false
-is_single (Pointer mode kinds.Nt target) = true
-is_single Int = false
-is_single Char = false
-is_single (Struct number) = false
-
--- a pointer that has its bounds at its node
-abbrev pub is_row : CType → Bool
-is_row (Pointer mode kinds.One target) = false
-is_row (Pointer mode kinds.Array target) = true
-is_row (Pointer mode kinds.Nt target) = false
-is_row Int = false
-is_row Char = false
-is_row (Struct number) = false
-
 abbrev pub is_single_value : Typed → Bool
 is_single_value (Value type zero value place) = is_single type
 is_single_value (AStruct number place) = false
@@ -415,6 +409,11 @@ binary_typed s binary.Subtract a b site span = sum_typed s directions.Backward a
 binary_typed s binary.Multiply a b site span = two_numbers a b span (arithmetic (operators.Arithmetic arithmetics.Multiply) site)
 binary_typed s binary.Divide a b site span = two_numbers a b span (arithmetic (operators.Arithmetic arithmetics.Divide) site)
 binary_typed s binary.Remainder a b site span = two_numbers a b span (arithmetic (operators.Arithmetic arithmetics.Remainder) site)
+
+-- what the right operand of an operator is typed in, by its left one: that of `&&`, and that of `||`, knows what the left one told
+abbrev pub beside : BinaryOperator → Typed → Scope → Scope
+beside operator (Value type zero value place) s = knowing (left_told operator s.locals value s.flow) s
+beside operator (AStruct number place) s = s
 
 abbrev pub element_at : CType → core.Expression → core.Expression → Site → Span → Verdict Typed
 element_at (Pointer mode kinds.Array target) pointer number site span =
@@ -641,6 +640,126 @@ abbrev pub with_result : Called → Span → Verdict Typed
 with_result (Gives type value) span = plain type value
 with_result (GivesNothing call) span = breaks E13 span
 
+-- ---- allocation
+
+-- the size of a type: `sizeof(T)`
+abbrev is_type : CType → Verdict CType → Bool
+is_type t (Passes other) = same_type t other
+is_type t (Stops stop) = false
+
+abbrev pub is_size : Scope → CType → Expression → Bool
+is_size s t (e.SizeOf type span) = is_type t (type_named s type)
+is_size s t _ = false
+
+abbrev pub first_factor : core.Expression → Option core.Expression
+first_factor (core.Arithmetic (operators.Arithmetic arithmetics.Multiply) left right site) = Some left
+first_factor _ = None
+
+abbrev pub second_factor : core.Expression → Option core.Expression
+second_factor (core.Arithmetic (operators.Arithmetic arithmetics.Multiply) left right site) = Some right
+second_factor _ = None
+
+-- the other factor where one is the size of the type: n of `n * sizeof(T)` and of `sizeof(T) * n`
+abbrev pub factor_beside : Scope → CType → Expression → core.Expression → Option core.Expression
+factor_beside s t (e.Binary binary.Multiply left right span) value =
+    picked (is_size s t right) (first_factor value) (picked (is_size s t left) (second_factor value) None)
+factor_beside s t _ value = None
+
+abbrev or_other : Option core.Expression → Option core.Expression → Option core.Expression
+or_other None other = other
+or_other (Some count) other = Some count
+
+-- how many elements a size is: n where it is n times the size of the type, and 1 where it is that size; each byte is a `char`
+abbrev pub elements_in : Scope → CType → Expression → core.Expression → Option core.Expression
+elements_in s t size value =
+    or_other (factor_beside s t size value) (picked (is_size s t size) (Some (core.Number (pos 1))) (picked (is_char t) (Some value) None))
+
+-- so many elements from the pointer on, where their number has a term
+abbrev pub row_counted : List Structure → CType → Option Term → Site → Option PointerBounds
+row_counted structs t None site = None
+row_counted structs t (Some n) site = Some (record {
+  bounds = record { base = None; lo = constant_term (pos 0); hi = n };
+  size = size_of structs t;
+  site = site;
+})
+
+-- new memory of so many elements, which have bytes, as all of a source have (E13)
+abbrev pub allocation : Scope → CType → core.Expression → Site → Span → Verdict Typed
+allocation s t count site span =
+    needs (nat_lt 0 (size_of s.structs t)) E13 span
+    (plain (Pointer modes.Checked kinds.Array t)
+    (core.Allocate count (cells_with s.structs t (pos 0)) (row_counted s.structs t (term s.locals count) site)))
+
+abbrev pub allocation_if : Scope → CType → Option core.Expression → Site → Span → Verdict Typed
+allocation_if s t None site span = breaks E13 span
+allocation_if s t (Some count) site span = allocation s t count site span
+
+-- size-in-elements: the size is a number of elements of the type, each with its size, or of bytes that are `char`s (E13)
+abbrev pub allocated_in : Scope → CType → Expression → Typed → Site → Span → Verdict Typed
+allocated_in s t size a site span = number_of a span (λ value. allocation_if s t (elements_in s t size value) site span)
+
+-- count-of-elements: a number of them, and the size of the type behind it (E13)
+abbrev pub allocated_of : Scope → CType → Typed → Expression → Site → Span → Verdict Typed
+allocated_of s t a size site span = number_of a span (λ count. needs (is_size s t size) E13 span (allocation s t count site span))
+
+-- what gives tainted memory, and what a zero ends, aren't forms of which rules speak here
+abbrev pub malloc_typed : MallocWord → Scope → CType → Expression → Typed → Site → Span → Verdict Typed
+malloc_typed malloc_words.Malloc s t size a site span = allocated_in s t size a site span
+malloc_typed malloc_words.TMalloc s t size a site span = breaks E13 span
+
+abbrev pub calloc_typed : CallocWord → Scope → CType → Typed → Expression → Site → Span → Verdict Typed
+calloc_typed calloc_words.Calloc s t a size site span = allocated_of s t a size site span
+calloc_typed calloc_words.NtCalloc s t a size site span = breaks E13 span
+
+-- ---- casts
+
+-- a pointer becomes a checked one of the same mode and element, as its kind converts, where elements have bytes, as all of a source have; casts to
+-- others aren't forms of which rules speak here
+abbrev pub casts_to : List Structure → CType → CType → Bool
+casts_to structs from Int = false
+casts_to structs from Char = false
+casts_to structs from (Struct number) = false
+casts_to structs from (Pointer modes.Checked kind target) =
+    pointer_converts from kind (Pointer modes.Checked kind target) && nat_lt 0 (size_of structs target)
+casts_to structs from (Pointer modes.Tainted kind target) = false
+casts_to structs from (Pointer modes.Raw kind target) = false
+
+-- a pointer to one element takes no bounds, and others take them
+abbrev pub takes : CType → WrittenBounds → Bool
+takes to None = not (is_row to)
+takes to (Some bounds) = is_row to
+
+abbrev counts_from : ℕ → Option Bounds → Bool
+counts_from q None = false
+counts_from q (Some b) = is_same b.base (Some q)
+
+-- a pointer has bounds with the base, where there is one
+abbrev pub has_base : Option ℕ → core.Expression → Bool
+has_base None value = true
+has_base (Some q) value = counts_from q (based_bounds value)
+
+abbrev pub base_in : Option Bounds → Option ℕ
+base_in None = None
+base_in (Some b) = b.base
+
+-- cast-of-like: pointers of one mode and element, and bounds exactly for an array (E13). cast-has-bounds: the source has bounds, and those that are
+-- written count from no base or from one of its own (E18)
+abbrev pub cast_checked : Scope → CType → Typed → WrittenBounds → Site → Span → Verdict Typed
+cast_checked s to (Value type zero value place) written site span =
+    needs (casts_to s.structs type to && takes to written) E13 span
+    (needs (is_some (bounds_of value) && has_base (base_in (bounds_in written)) value) E18 span
+    (plain to (core.Cast value (call_bounds s.structs to (bounds_in written) site))))
+cast_checked s to (AStruct number place) written site span = breaks E13 span
+
+-- no-assumed-bounds: E15
+abbrev pub cast_typed : CastWord → Scope → CType → Typed → WrittenBounds → Site → Span → Verdict Typed
+cast_typed cast_words.Dynamic s to a written site span = cast_checked s to a written site span
+cast_typed cast_words.Assume s to a written site span = breaks E15 span
+
+-- the bounds that are written in a cast have no name for what it gives
+abbrev pub cast_bounds : Scope → CType → e.Bounds → Verdict WrittenBounds
+cast_bounds s to bounds = passing (declared_bounds s to (length s.locals) (Some bounds)) (λ b. Passes (Some b))
+
 -- ---- the walk
 
 -- constant-has-31-bits: E04; the tokens of a source have no other
@@ -648,8 +767,8 @@ abbrev pub constant_typed : ℕ → Bool → Span → Verdict Typed
 constant_typed value zero span = needs (nat_lt value (2 ^ 31)) E04 span (Passes (Value Int zero (core.Number (pos value)) ForNothing))
 
 abbrev mutual
-  -- an expression: its children from left to right, and then its own rules. Strings, casts and allocations aren't forms of
-  -- which rules speak here: no tree that is built has them
+  -- an expression: its children from left to right, and then its own rules. Strings aren't a form of which rules speak here: no tree that is
+  -- built has them
   pub typed : Places → Scope → Expression → Verdict Typed
   typed at s (e.Number value span) = constant_typed value (value == 0) span
   typed at s (e.Character value span) = constant_typed value false span
@@ -658,17 +777,23 @@ abbrev mutual
   typed at s (e.Call callee arguments span) = passing (all_typed at s arguments)
       (λ ts. passing (called s (function_named s.functions callee.number) callee.number ts (site_at at span) span) (λ c. with_result c span))
   typed at s (e.SizeOf type span) = passing (type_named s type) (λ t. number (core.Number (pos (size_of s.structs t))))
-  typed at s (e.Cast word type operand span) = breaks E13 span
-  typed at s (e.BoundedCast word type operand bounds span) = breaks E13 span
-  typed at s (e.Malloc word type size span) = breaks E13 span
-  typed at s (e.Calloc word type count size span) = breaks E13 span
+  typed at s (e.Cast word type operand span) =
+      passing (type_named s type) (λ t. passing (typed at s operand) (λ a. cast_typed word s t a None (site_at at span) span))
+  typed at s (e.BoundedCast word type operand bounds span) =
+      passing (type_named s type) (λ t. passing (typed at s operand) (λ a. passing (cast_bounds s t bounds)
+      (λ written. cast_typed word s t a written (site_at at span) span)))
+  typed at s (e.Malloc word type size span) =
+      passing (type_named s type) (λ t. passing (typed at s size) (λ a. malloc_typed word s t size a (site_at at span) span))
+  typed at s (e.Calloc word type count size span) =
+      passing (type_named s type) (λ t. passing (typed at s count) (λ a. passing (typed at s size)
+      (λ b. calloc_typed word s t a size (site_at at span) span)))
   typed at s (e.Index base index span) =
       bounded s (site_at at span) (passing (typed at s base) (λ a. passing (typed at s index) (λ b. indexed a b (site_at at span) span)))
   typed at s (e.Dot base member span) = bounded s (site_at at span) (passing (typed at s base) (λ a. dotted s a member.number (site_at at span) span))
   typed at s (e.Arrow base member span) = bounded s (site_at at span) (passing (typed at s base) (λ a. arrowed s a member.number (site_at at span) span))
   typed at s (e.Unary operator operand span) = bounded s (site_at at span) (passing (typed at s operand) (λ a. unary_typed operator a (site_at at span) span))
   typed at s (e.Binary operator left right span) =
-      passing (typed at s left) (λ a. passing (typed at s right) (λ b. binary_typed s operator a b (site_at at span) span))
+      passing (typed at s left) (λ a. passing (typed at (beside operator a s) right) (λ b. binary_typed s operator a b (site_at at span) span))
 
   -- arguments, each with its span
   pub all_typed : Places → Scope → Expressions → Verdict (List (Typed × Span))

@@ -1,5 +1,5 @@
 -- The rules of what stands at file level.
-use Rattle.std.specs.Prelude.{ℕ, zero, suc, ◌+◌, ◌-◌, Bool, true, false, not, ◌&&◌, ◌||◌, ◌==◌, nat_lt, nat_le, List, [], ◌∷◌, ◌++◌, length, map}
+use Rattle.std.specs.Prelude.{ℕ, zero, suc, ◌+◌, Bool, true, false, not, ◌&&◌, ◌||◌, ◌==◌, nat_lt, nat_le, List, [], ◌∷◌, ◌++◌, length, map}
 use Rattle.std.specs.Prelude.{◌*◌, ◌^◌, Option, Some, None, is_none, is_some, option_map, pos, negsuc}
 use Rattle.std.proofs.Common.{ℤ}
 use Rattle.std.specs.List.{list_all}
@@ -31,7 +31,7 @@ use Rattle.bounds_flow.specs.Pointers.{same_bounds}
 use Rattle.bounds_flow.specs.Flows.{Knowledge, at_entry, entered}
 use Rattle.pointer_modes.specs.Types as types
 use Rattle.pointer_modes.specs.Types.{CType, Int, Char, Struct, Pointer, Structure, members_of}
-use Rattle.pointer_modes.specs.Layout.{Cell, cells_of, size_of}
+use Rattle.pointer_modes.specs.Layout.{size_of}
 use Rattle.ckc_core.specs.Programs.{Initial}
 use Rattle.ckc_core.specs.Core as core
 use Rattle.ckc_core.specs.States.{same_type}
@@ -39,6 +39,7 @@ use Rattle.ckc_core.specs.Steps.{low_byte}
 use Rattle.region_typing_rules.specs.Verdicts.{Verdict, Passes, Stops, passing, needs, breaks, meant, picked}
 use Rattle.region_typing_rules.specs.Scopes.{Scope, Signature, Visible, WrittenBounds, bounds_in, struct_named, function_named}
 use Rattle.region_typing_rules.specs.Types.{base_type, without_stars, type_named, is_scalar}
+use Rattle.region_typing_rules.specs.Cells.{cells_with}
 use Rattle.region_typing_rules.specs.Expressions.{Places, Typed, Value, AStruct, is_tainted, typed}
 use Rattle.region_typing_rules.specs.DeclaredBounds.{declared_bounds}
 use Rattle.region_typing_rules.specs.KeptParameters.{all_changed}
@@ -128,31 +129,6 @@ positive_of (Some n) = Some (pos n)
 abbrev pub signed_constant : Given → Expression → Option ℤ
 signed_constant given (e.Unary unary.Negate operand span) = negated_of (unsigned_constant given operand)
 signed_constant given a = positive_of (unsigned_constant given a)
-
--- the bytes of the cells from one on: from each to the next one, and from the last to the end
-abbrev pub strides_from : List Cell → ℕ → List ℕ
-strides_from [] end = []
-strides_from (c ∷ []) end = (end - c.offset) ∷ []
-strides_from (c ∷ d ∷ cells) end = (d.offset - c.offset) ∷ strides_from (d ∷ cells) end
-
-abbrev pub strides_of : List Structure → CType → List ℕ
-strides_of structs t = strides_from (cells_of structs t) (size_of structs t)
-
--- the types of the cells of a type
-abbrev pub cell_types : List Structure → CType → List CType
-cell_types structs Int = Int ∷ []
-cell_types structs Char = Char ∷ []
-cell_types structs (Pointer mode kind target) = Pointer mode kind target ∷ []
-cell_types structs (Struct number) = map (λ m. m.ctype) (members_of structs number)
-
-abbrev pub numbered_cells : ℤ → List CType → List ℕ → List Initial
-numbered_cells number [] strides = []
-numbered_cells number (t ∷ ts) [] = []
-numbered_cells number (t ∷ ts) (stride ∷ strides) = record { type = t; stride = stride; number = number } ∷ numbered_cells number ts strides
-
--- the cells of a variable, each with this number
-abbrev pub cells_with : List Structure → CType → ℤ → List Initial
-cells_with structs t number = numbered_cells number (cell_types structs t) (strides_of structs t)
 
 -- the number that stands in a list
 abbrev pub unsigned_number : Constant → ℕ

@@ -79,11 +79,10 @@ abbrev pub AreLimitedIf : Option Bounds → Type 0
 AreLimitedIf None = Unit {0}
 AreLimitedIf (Some b) = AreLimited b
 
--- the bounds that are declared for a pointer are limited, and so are those in force; where none are declared, none are in force
+-- the bounds that are declared for a pointer are limited, and they are those that are in force
 pub record IsLimited (h : Held) : Type 0 where
   pub declared : AreLimitedIf h.declared
-  pub bounds : AreLimitedIf h.bounds
-  pub bare : h.declared ≡ None → h.bounds ≡ None
+  pub in_force : h.bounds ≡ h.declared
 
 -- ---- scopes of a walk
 

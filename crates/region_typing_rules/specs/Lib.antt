@@ -1,6 +1,7 @@
 pub mod Verdicts
 pub mod Scopes
 pub mod Types
+pub mod Cells
 pub mod Expressions
 pub mod DeclaredBounds
 pub mod DeclaredFormed
@@ -19,3 +20,4 @@ pub mod KnowingExamples
 pub mod CallExamples
 pub mod KeptParameters
 pub mod KeptExamples
+pub mod MemoryExamples

@@ -3,6 +3,8 @@ use Rattle.std.specs.Prelude.{◌≡◌, pos, negsuc, Bool, true, false, List, [
 use Rattle.pointer_modes.specs.declared.ctype.Mode.TheVariants as modes
 use Rattle.pointer_modes.specs.declared.ctype.Kind.TheVariants as kinds
 use Rattle.pointer_modes.specs.Types.{CType, Int, Char, Pointer}
+use Rattle.ckc_tree.specs.declared.expr.BinaryOperator.{BinaryOperator}
+use Rattle.ckc_tree.specs.declared.expr.BinaryOperator.TheVariants as binary
 use Rattle.act_words.specs.declared.operator.Operator.TheVariants as operators
 use Rattle.act_words.specs.declared.operator.ArithmeticOperator.{ArithmeticOperator}
 use Rattle.act_words.specs.declared.operator.ArithmeticOperator.TheVariants as arithmetics
@@ -13,7 +15,7 @@ use Rattle.subsumption.specs.ClosedTables.{entails_terms}
 use Rattle.ckc_core.specs.declared.program.Direction.TheVariants as directions
 use Rattle.ckc_core.specs.declared.program.Site.{Site}
 use Rattle.ckc_core.specs.Core as core
-use Rattle.region_typing_rules.specs.Readings.{term, own_bounds, based_bounds, behind_local, told}
+use Rattle.region_typing_rules.specs.Readings.{term, own_bounds, based_bounds, behind_local, told, left_told}
 
 abbrev types : List CType
 types = Int ∷ Int ∷ Char ∷ Pointer modes.Checked kinds.Array Int ∷ []
@@ -75,6 +77,16 @@ abbrev pub conditions : Type 0
 conditions =
     (at_most less true 0 1 ≡ true) × (at_most less true 1 0 ≡ false) × (at_most less false 1 0 ≡ true) × (at_most (core.Not less) true 1 0 ≡ true)
     × (at_most (core.OrElse less p) true 0 1 ≡ false) × (at_most (core.OrElse less p) false 1 0 ≡ true) × (at_most (core.AndAlso p less) true 0 1 ≡ true)
+
+abbrev right_at_most : BinaryOperator → ℕ → ℕ → Bool
+right_at_most operator low high =
+    entails_terms (record { var = Some low; plus = pos 0 }) (record { var = Some high; plus = pos 0 }) (left_told operator types less start).facts
+
+-- the right operand of `n < m && ..` knows that n is at most m, that of `n < m || ..` that m is at most n, and that of another operator neither
+abbrev pub right_operands : Type 0
+right_operands =
+    (right_at_most binary.And 0 1 ≡ true) × (right_at_most binary.And 1 0 ≡ false) × (right_at_most binary.Or 0 1 ≡ false)
+    × (right_at_most binary.Or 1 0 ≡ true) × (right_at_most binary.BitAnd 0 1 ≡ false) × (right_at_most binary.BitOr 1 0 ≡ false)
 
 -- p, and p != 0, tell that p isn't null
 abbrev pub null_tests : Type 0

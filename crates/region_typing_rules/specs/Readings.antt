@@ -10,6 +10,8 @@ use Rattle.bounds_flow.specs.declared.steps.How.TheVariants as hows
 use Rattle.bounds_flow.specs.declared.steps.Test.TheVariants.{NotNull, Compare}
 use Rattle.bounds_flow.specs.Flows.{Knowledge, variable, held_at, assumed, met}
 use Rattle.pointer_modes.specs.Types.{CType, Int, Pointer}
+use Rattle.ckc_tree.specs.declared.expr.BinaryOperator.{BinaryOperator}
+use Rattle.ckc_tree.specs.declared.expr.BinaryOperator.TheVariants as binary
 use Rattle.act_words.specs.declared.operator.Operator.TheVariants as operators
 use Rattle.act_words.specs.declared.operator.ArithmeticOperator.{ArithmeticOperator}
 use Rattle.act_words.specs.declared.operator.ArithmeticOperator.TheVariants as arithmetics
@@ -98,10 +100,16 @@ from_base p b = picked (is_some b.base) b (record b { base = Some p })
 abbrev pub own_bounds : core.Expression → Option Bounds
 own_bounds e = option_map (λ (b : PointerBounds). b.bounds) (bounds_of e)
 
--- the bounds from a base that a pointer has beside those: a local pointer counts as its own base, and a sum has those of its pointer
+abbrev pub with_base : Option Bounds → Option Bounds
+with_base None = None
+with_base (Some b) = picked (is_some b.base) (Some b) None
+
+-- the bounds from a base that a pointer has beside those: a local pointer counts as its own base, a sum has those of its pointer, and a cast has
+-- its own, where they have a base
 abbrev pub based_bounds : core.Expression → Option Bounds
 based_bounds (core.Local local bounds) = option_map (λ (b : PointerBounds). from_base local b.bounds) bounds
 based_bounds (core.Sum pointer direction number site bounds) = based_bounds pointer
+based_bounds (core.Cast pointer bounds) = with_base (option_map (λ (b : PointerBounds). b.bounds) bounds)
 based_bounds _ = None
 
 -- ---- locals
@@ -187,3 +195,24 @@ told types (core.Compare comparison left right) truth f = compared comparison (t
 told types (core.Same left right) truth f = same_told types left right truth f
 told types (core.Local local bounds) truth f = null_told (pointer_local types (core.Local local bounds)) truth f
 told types _ truth f = f
+
+-- what is known at the right operand of an operator, by its left one: that of `&&` and that of `||` are worked out where the left one told
+abbrev pub left_told : BinaryOperator → List CType → core.Expression → Knowledge → Knowledge
+left_told binary.Or types value f = told types value false f
+left_told binary.And types value f = told types value true f
+left_told binary.BitOr types value f = f
+left_told binary.BitXor types value f = f
+left_told binary.BitAnd types value f = f
+left_told binary.Equal types value f = f
+left_told binary.NotEqual types value f = f
+left_told binary.Less types value f = f
+left_told binary.LessEqual types value f = f
+left_told binary.Greater types value f = f
+left_told binary.GreaterEqual types value f = f
+left_told binary.ShiftLeft types value f = f
+left_told binary.ShiftRight types value f = f
+left_told binary.Add types value f = f
+left_told binary.Subtract types value f = f
+left_told binary.Multiply types value f = f
+left_told binary.Divide types value f = f
+left_told binary.Remainder types value f = f

@@ -1,5 +1,5 @@
 -- What it is that a core has types: a rule for each form, by the types of what it is made of.
-use Rattle.std.specs.Prelude.{◌≡◌, ◌⊎◌, ℕ, ◌*◌, ◌<◌, ◌≤◌, Bool, true, false, List, [], ◌∷◌, length, take, replicate}
+use Rattle.std.specs.Prelude.{◌≡◌, ◌⊎◌, ℕ, ◌*◌, ◌<◌, ◌≤◌, Bool, true, false, List, [], ◌∷◌, length, take, replicate, pos}
 use Rattle.std.specs.Prelude.{Option, Some, None, slice_get}
 use Rattle.std.specs.List.{AllByRecursion}
 use Rattle.std.proofs.Common.{ℤ}
@@ -13,8 +13,9 @@ use Rattle.pointer_modes.specs.Layout.{size_of}
 use Rattle.bounds_exprs.specs.declared.term.Bounds.{Bounds}
 use Rattle.bounds_exprs.specs.declared.term.Term.{Term}
 use Rattle.bounds_exprs.specs.Changes.{ends_filled_in, moved_by}
-use Rattle.bounds_flow_meaning.specs.Holding.{AreInts, IsValid, HasSize, target_size, types_of}
-use Rattle.bounds_flow_meaning.specs.Rows.{slots, HasRow, IsPlace}
+use Rattle.bounds_flow_meaning.specs.Holding.{AreInts, IsValid, HasSize, at_node, target_size, types_of}
+use Rattle.bounds_flow_meaning.specs.Sums.{counted}
+use Rattle.bounds_flow_meaning.specs.Rows.{slots, HasRow, IsPlace, AreCellsOf}
 use Rattle.ckc_core.specs.declared.program.Site.{Site}
 use Rattle.act_words.specs.declared.operator.Operator.{Operator}
 use Rattle.act_words.specs.declared.operator.Comparison.{Comparison}
@@ -28,11 +29,14 @@ use Rattle.ckc_core.specs.declared.program.Direction.{Direction}
 use Rattle.ckc_core.specs.States.{Value, Number, Null, At, Local, State, Shape, shape, has_type, initial_value, object_block}
 use Rattle.ckc_core.specs.Meaning.{bounds_of}
 use Rattle.ckc_core.specs.Steps.{is_char}
+use Rattle.ckc_core.specs.Pointers.{element_size}
 use Rattle.region_typing_rules.specs.Types.{is_number, is_scalar}
 use Rattle.region_typing_rules.specs.Scopes.{Scope}
+use Rattle.region_typing_rules.specs.Knowing.{when}
 use Rattle.region_typing_rules.specs.Readings.{constant, against, term, pointer_local, own_bounds, based_bounds}
 use Rattle.region_typing_rules.specs.Expressions.{bounds_at, row_of, one_element, at_call}
 use Rattle.region_typing_rules.specs.KnownIsSo.{HasLocals, IsKnown, AreLimited}
+use Rattle.region_typing_rules.specs.Lowerable.{IsRoomy}
 
 -- what the parts of a program are typed in: its two sides, its structs, and for each trusted function the bounds of its parameters and those of its
 -- result
@@ -63,6 +67,10 @@ HasValue structs blocks (Pointer mode kind target) Null = Unit {0}
 HasValue structs blocks (Pointer mode kinds.One target) (At block byte) = IsPlace structs blocks target block byte
 HasValue structs blocks (Pointer mode kinds.Array target) (At block byte) = Unit {0}
 HasValue structs blocks (Pointer mode kinds.Nt target) (At block byte) = Unit {0}
+
+-- a cell before the run, which leads nowhere
+abbrev pub IsInitial : List Structure → Initial → Type 0
+IsInitial structs i = HasValue structs [] i.type (initial_value i.type i.number)
 
 -- ---- calls
 
@@ -173,11 +181,43 @@ pub data AreSumBounds (types : List CType) (e : Expression) (direction : Directi
   moved : {c : ℤ} {q : Bounds} {site : Site} → p.bounds.base ≡ None → constant types i ≡ Some c → moved_by (against direction c) p.bounds ≡ Some q
       → AreSumBounds types e direction i p (Some (record { bounds = q; size = p.size; site = site }))
 
+-- the cells of an element of new memory: values of the type stand in a row of them, and they begin with zeros
+pub record IsNewElement (structs : List Structure) (t : CType) (element : List Initial) : Type 0 where
+  pub bytes : 0 < size_of structs t
+  pub word : is_word_number (pos (size_of structs t)) ≡ true
+  pub size : element_size element ≡ size_of structs t
+  pub cells : AreCellsOf structs t element
+  pub initial : AllByRecursion (IsInitial structs) element
+  pub roomy : AllByRecursion IsRoomy element
+
+-- The bounds of new memory: they are unknown, or those of as many elements as the term of their number.
+pub data AreNewBounds (structs : List Structure) (types : List CType) (count : Expression) (t : CType) : Option PointerBounds → Type 0 where
+  uncounted : AreNewBounds structs types count t None
+  by_term : {n : Term} {site : Site} → term types count ≡ Some n
+      → AreNewBounds structs types count t (Some (at_node (counted n) (size_of structs t) site))
+
+-- bounds name `int` locals, and count from a local or from none
+pub record AreNamed (types : List CType) (b : Bounds) : Type 0 where
+  pub ints : AreInts types b
+  pub base : (q : ℕ) → b.base ≡ Some q → (t : CType) × (slice_get types q ≡ Some t)
+
+-- what is declared in a scope are locals of its function
+abbrev pub AreLocalsOf : List CType → Scope → Type 0
+AreLocalsOf locals here = (k : ℕ) (t : CType) → slice_get here.locals k ≡ Some t → slice_get locals k ≡ Some t
+
 -- an expression has bounds that count from this local pointer
 pub record CountsFrom (e : Expression) (k : ℕ) : Type 0 where
   pub bounds : Bounds
   pub based : based_bounds e ≡ Some bounds
   pub base : bounds.base ≡ Some k
+
+-- the same of a local that is a pointer there
+pub record IsBaseOf (locals : List CType) (e : Expression) (k : ℕ) : Type 0 where
+  pub counts : CountsFrom e k
+  pub mode : Mode
+  pub kind : Kind
+  pub target : CType
+  pub pointer : slice_get locals k ≡ Some (Pointer mode kind target)
 
 -- a pointer has these bounds at its node, of elements of the type
 pub record HasElements (structs : List Structure) (e : Expression) (type : CType) (p : PointerBounds) : Type 0 where
@@ -189,77 +229,99 @@ pub record HasElements (structs : List Structure) (e : Expression) (type : CType
 
 mutual
   -- an expression, where the locals have these types, in a scope of the walk, and its type
-  pub data HasType (g : Frame) (locals : List CType) (here : Scope) : Expression → CType → Type 0 where
-    word : {z : ℤ} → is_word_number z ≡ true → HasType g locals here (core.Number z) Int
-    byte : {z : ℤ} → has_type Char (Number z) ≡ true → HasType g locals here (core.Number z) Char
-    null : {mode : Mode} {kind : Kind} {t : CType} → HasType g locals here core.Null (Pointer mode kind t)
-    local : {k : ℕ} {t : CType} {b : Option PointerBounds} → slice_get here.locals k ≡ Some t → HasBounds g.structs t b
+  pub data HasType (g : Frame) (locals : List CType) : Scope → Expression → CType → Type 0 where
+    word : {here : Scope} {z : ℤ} → is_word_number z ≡ true → HasType g locals here (core.Number z) Int
+    byte : {here : Scope} {z : ℤ} → has_type Char (Number z) ≡ true → HasType g locals here (core.Number z) Char
+    null : {here : Scope} {mode : Mode} {kind : Kind} {t : CType} → HasType g locals here core.Null (Pointer mode kind t)
+    local : {here : Scope} {k : ℕ} {t : CType} {b : Option PointerBounds} → slice_get here.locals k ≡ Some t → HasBounds g.structs t b
         → HasType g locals here (core.Local k b) t
     -- a pointer with the bounds that are in force
-    bounded : {k : ℕ} {mode : Mode} {t : CType} {p : PointerBounds} → slice_get here.locals k ≡ Some (Pointer mode kinds.Array t) → p.size ≡ size_of g.structs t
-        → AreLimited p.bounds → IsInForce g.structs here k p.bounds → HasType g locals here (core.Local k (Some p)) (Pointer mode kinds.Array t)
+    bounded : {here : Scope} {k : ℕ} {mode : Mode} {t : CType} {p : PointerBounds} → slice_get here.locals k ≡ Some (Pointer mode kinds.Array t)
+        → p.size ≡ size_of g.structs t → AreLimited p.bounds → AreNamed here.locals p.bounds → IsInForce g.structs here k p.bounds
+        → HasType g locals here (core.Local k (Some p)) (Pointer mode kinds.Array t)
     -- each char is an int
-    widened : {e : Expression} → HasType g locals here e Char → HasType g locals here e Int
+    widened : {here : Scope} {e : Expression} → HasType g locals here e Char → HasType g locals here e Int
     -- a pointer to the element at which a pointer with bounds stands
-    single : {e : Expression} {mode : Mode} {t : CType} {p : PointerBounds} → HasType g locals here e (Pointer mode kinds.Array t) → HasElements g.structs e t p
-        → LeadsToOne g.structs here p.bounds → HasType g locals here e (Pointer mode kinds.One t)
+    single : {here : Scope} {e : Expression} {mode : Mode} {t : CType} {p : PointerBounds} → HasType g locals here e (Pointer mode kinds.Array t)
+        → HasElements g.structs e t p → LeadsToOne g.structs here p.bounds → HasType g locals here e (Pointer mode kinds.One t)
     -- a pointer to one element as one with bounds, and one into an array that a zero ends
-    row : {e : Expression} {mode : Mode} {t : CType} → HasType g locals here e (Pointer mode kinds.One t)
+    row : {here : Scope} {e : Expression} {mode : Mode} {t : CType} → HasType g locals here e (Pointer mode kinds.One t)
         → HasBounds g.structs (Pointer mode kinds.One t) (bounds_of e) → HasType g locals here e (Pointer mode kinds.Array t)
-    ended_row : {e : Expression} {mode : Mode} {t : CType} → HasType g locals here e (Pointer mode kinds.Nt t) → bounds_of e ≡ None
+    ended_row : {here : Scope} {e : Expression} {mode : Mode} {t : CType} → HasType g locals here e (Pointer mode kinds.Nt t) → bounds_of e ≡ None
         → HasType g locals here e (Pointer mode kinds.Array t)
-    load : {t : CType} {p : Place} {b : Option PointerBounds} → is_scalar t ≡ true → HasPlace g locals here p t → HasBounds g.structs t b
+    load : {here : Scope} {t : CType} {p : Place} {b : Option PointerBounds} → is_scalar t ≡ true → HasPlace g locals here p t → HasBounds g.structs t b
         → HasType g locals here (core.Load t p b) t
-    address_of : {mode : Mode} {t : CType} {p : Place} {b : Option PointerBounds} → HasPlace g locals here p t
+    address_of : {here : Scope} {mode : Mode} {t : CType} {p : Place} {b : Option PointerBounds} → HasPlace g locals here p t
         → HasBounds g.structs (Pointer mode kinds.One t) b → HasType g locals here (core.AddressOf p b) (Pointer mode kinds.One t)
     -- an array of 1 to 8,192 elements
-    array : {object n : ℕ} {t : CType} {p : PointerBounds} {cells : List Initial} → slice_get g.program.objects object ≡ Some cells → 0 < n → n ≤ 8192
-        → AreRows g.structs (shape (object_block cells)) t n → p.bounds ≡ row_of n → p.size ≡ size_of g.structs t
+    array : {here : Scope} {object n : ℕ} {t : CType} {p : PointerBounds} {cells : List Initial} → slice_get g.program.objects object ≡ Some cells
+        → 0 < n → n ≤ 8192 → AreRows g.structs (shape (object_block cells)) t n → p.bounds ≡ row_of n → p.size ≡ size_of g.structs t
         → HasType g locals here (core.AddressOf (core.Direct object 0) (Some p)) (Pointer modes.Checked kinds.Array t)
-    sum : {e i : Expression} {mode : Mode} {t : CType} {direction : Direction} {site : Site} {p : PointerBounds} {b : Option PointerBounds}
+    sum : {here : Scope} {e i : Expression} {mode : Mode} {t : CType} {direction : Direction} {site : Site} {p : PointerBounds} {b : Option PointerBounds}
         → HasType g locals here e (Pointer mode kinds.Array t) → HasElements g.structs e t p → HasType g locals here i Int
         → AreSumBounds here.locals e direction i p b
         → HasType g locals here (core.Sum e direction i site b) (Pointer mode kinds.Array t)
-    negate : {e : Expression} {site : Site} → HasType g locals here e Int → HasType g locals here (core.Negate e site) Int
-    complement : {e : Expression} → HasType g locals here e Int → HasType g locals here (core.Complement e) Int
-    inverse : {e : Expression} {t : CType} → HasType g locals here e t → HasType g locals here (core.Not e) Int
-    arithmetic : {operator : Operator} {a b : Expression} {site : Site} → HasType g locals here a Int → HasType g locals here b Int
+    negate : {here : Scope} {e : Expression} {site : Site} → HasType g locals here e Int → HasType g locals here (core.Negate e site) Int
+    complement : {here : Scope} {e : Expression} → HasType g locals here e Int → HasType g locals here (core.Complement e) Int
+    inverse : {here : Scope} {e : Expression} {t : CType} → HasType g locals here e t → HasType g locals here (core.Not e) Int
+    arithmetic : {here : Scope} {operator : Operator} {a b : Expression} {site : Site} → HasType g locals here a Int → HasType g locals here b Int
         → HasType g locals here (core.Arithmetic operator a b site) Int
-    compare : {comparison : Comparison} {a b : Expression} → HasType g locals here a Int → HasType g locals here b Int
+    compare : {here : Scope} {comparison : Comparison} {a b : Expression} → HasType g locals here a Int → HasType g locals here b Int
         → HasType g locals here (core.Compare comparison a b) Int
-    same : {mode mode' : Mode} {kind kind' : Kind} {t t' : CType} {a b : Expression} → HasType g locals here a (Pointer mode kind t)
+    same : {here : Scope} {mode mode' : Mode} {kind kind' : Kind} {t t' : CType} {a b : Expression} → HasType g locals here a (Pointer mode kind t)
         → HasType g locals here b (Pointer mode' kind' t') → HasType g locals here (core.Same a b) Int
     -- two pointers that count from one local pointer
-    order : {comparison : Comparison} {a b : Expression} {mode mode' : Mode} {t t' : CType} {k : ℕ} {site : Site}
+    order : {here : Scope} {comparison : Comparison} {a b : Expression} {mode mode' : Mode} {t t' : CType} {k : ℕ} {site : Site}
         → HasType g locals here a (Pointer mode kinds.Array t) → CountsFrom a k → HasType g locals here b (Pointer mode' kinds.Array t') → CountsFrom b k
         → HasType g locals here (core.Order comparison a b site) Int
-    both : {a b : Expression} {t t' : CType} → HasType g locals here a t → HasType g locals here b t' → HasType g locals here (core.AndAlso a b) Int
-    either : {a b : Expression} {t t' : CType} → HasType g locals here a t → HasType g locals here b t' → HasType g locals here (core.OrElse a b) Int
-    low_byte : {e : Expression} → HasType g locals here e Int → HasType g locals here (core.LowByte e) Char
-    call : {callee : Callee} {ts : List CType} {bs : List (Option Bounds)} {r : Option Bounds} {arguments : Arguments} {t : CType} {b : Option PointerBounds}
-        → IsCallee g callee ts bs (Some t) r → HaveTypes g locals here arguments ts
+    -- the right operand stands where the left one came out so
+    both : {here : Scope} {a b : Expression} {t t' : CType} → HasType g locals here a t → HasType g locals (when a true here) b t'
+        → HasType g locals here (core.AndAlso a b) Int
+    either : {here : Scope} {a b : Expression} {t t' : CType} → HasType g locals here a t → HasType g locals (when a false here) b t'
+        → HasType g locals here (core.OrElse a b) Int
+    low_byte : {here : Scope} {e : Expression} → HasType g locals here e Int → HasType g locals here (core.LowByte e) Char
+    call : {here : Scope} {callee : Callee} {ts : List CType} {bs : List (Option Bounds)} {r : Option Bounds} {arguments : Arguments} {t : CType}
+        {b : Option PointerBounds} → IsCallee g callee ts bs (Some t) r → HaveTypes g locals here arguments ts
         → AreAsked g.structs here (terms_of here.locals arguments ts) (pointers_of here.locals arguments) arguments bs
         → HasCallBounds g.structs here.locals (terms_of here.locals arguments ts) t r b → HasType g locals here (core.Call callee arguments b) t
-    next_input : HasType g locals here core.NextInput Int
+    next_input : {here : Scope} → HasType g locals here core.NextInput Int
+    -- new memory, or null
+    allocate : {here : Scope} {count : Expression} {t : CType} {element : List Initial} {b : Option PointerBounds} → HasType g locals here count Int
+        → IsNewElement g.structs t element → AreNewBounds g.structs here.locals count t b
+        → HasType g locals here (core.Allocate count element b) (Pointer modes.Checked kinds.Array t)
+    -- a pointer with other bounds, which count from no base or from one of its own
+    cast : {here : Scope} {e : Expression} {mode : Mode} {t : CType} {p q : PointerBounds} → HasType g locals here e (Pointer mode kinds.Array t)
+        → HasElements g.structs e t p → AreLocalsOf locals here → q.size ≡ size_of g.structs t → AreLimited q.bounds → AreInts here.locals q.bounds
+        → ((k : ℕ) → q.bounds.base ≡ Some k → IsBaseOf here.locals e k) → HasType g locals here (core.Cast e (Some q)) (Pointer mode kinds.Array t)
+    -- one to the element at which it stands
+    cast_single : {here : Scope} {e : Expression} {t : CType} {p : PointerBounds} {b : Option PointerBounds}
+        → HasType g locals here e (Pointer modes.Checked kinds.Array t) → HasElements g.structs e t p → AreLocalsOf locals here
+        → HasBounds g.structs (Pointer modes.Checked kinds.One t) b → HasType g locals here (core.Cast e b) (Pointer modes.Checked kinds.One t)
+    -- one without bounds
+    cast_unbounded : {here : Scope} {e : Expression} {mode : Mode} {t : CType} {p : PointerBounds}
+        → HasType g locals here e (Pointer mode kinds.Array t) → HasElements g.structs e t p
+        → HasType g locals here (core.Cast e None) (Pointer mode kinds.Array t)
 
   -- arguments, and the types of the parameters
-  pub data HaveTypes (g : Frame) (locals : List CType) (here : Scope) : Arguments → List CType → Type 0 where
-    done : HaveTypes g locals here core.Done []
-    more : {e : Expression} {rest : Arguments} {t : CType} {ts : List CType} → HasType g locals here e t → HaveTypes g locals here rest ts
-        → HaveTypes g locals here (core.More e rest) (t ∷ ts)
+  pub data HaveTypes (g : Frame) (locals : List CType) : Scope → Arguments → List CType → Type 0 where
+    done : {here : Scope} → HaveTypes g locals here core.Done []
+    more : {here : Scope} {e : Expression} {rest : Arguments} {t : CType} {ts : List CType} → HasType g locals here e t
+        → HaveTypes g locals here rest ts → HaveTypes g locals here (core.More e rest) (t ∷ ts)
 
   -- a place, and the type of what stands there: in a variable, behind a pointer or at an element, or at a member of the struct there
-  pub data HasPlace (g : Frame) (locals : List CType) (here : Scope) : Place → CType → Type 0 where
-    direct : {object offset : ℕ} {t : CType} {cells : List Initial} → slice_get g.program.objects object ≡ Some cells
+  pub data HasPlace (g : Frame) (locals : List CType) : Scope → Place → CType → Type 0 where
+    direct : {here : Scope} {object offset : ℕ} {t : CType} {cells : List Initial} → slice_get g.program.objects object ≡ Some cells
         → HasRow g.structs (shape (object_block cells)) offset t → HasPlace g locals here (core.Direct object offset) t
-    pointed : {mode : Mode} {e : Expression} {t : CType} {site : Site} → HasType g locals here e (Pointer mode kinds.One t)
+    pointed : {here : Scope} {mode : Mode} {e : Expression} {t : CType} {site : Site} → HasType g locals here e (Pointer mode kinds.One t)
         → HasPlace g locals here (core.Through e core.First 0 site) t
-    member : {mode : Mode} {e : Expression} {n offset : ℕ} {t : CType} {site : Site} (k : ℕ) → HasType g locals here e (Pointer mode kinds.One (Struct n))
+    member : {here : Scope} {mode : Mode} {e : Expression} {n offset : ℕ} {t : CType} {site : Site} (k : ℕ)
+        → HasType g locals here e (Pointer mode kinds.One (Struct n))
         → slice_get (slots g.structs (Struct n)) k ≡ Some (record { type = t; offset = offset }) → is_scalar t ≡ true
         → HasPlace g locals here (core.Through e core.First offset site) t
-    element : {mode : Mode} {e i : Expression} {t : CType} {p : PointerBounds} {site : Site} → HasType g locals here e (Pointer mode kinds.Array t)
-        → HasElements g.structs e t p → HasType g locals here i Int → HasPlace g locals here (core.Through e (core.Element i) 0 site) t
-    element_member : {mode : Mode} {e i : Expression} {n offset : ℕ} {t : CType} {p : PointerBounds} {site : Site} (k : ℕ)
+    element : {here : Scope} {mode : Mode} {e i : Expression} {t : CType} {p : PointerBounds} {site : Site}
+        → HasType g locals here e (Pointer mode kinds.Array t) → HasElements g.structs e t p → HasType g locals here i Int
+        → HasPlace g locals here (core.Through e (core.Element i) 0 site) t
+    element_member : {here : Scope} {mode : Mode} {e i : Expression} {n offset : ℕ} {t : CType} {p : PointerBounds} {site : Site} (k : ℕ)
         → HasType g locals here e (Pointer mode kinds.Array (Struct n)) → HasElements g.structs e (Struct n) p → HasType g locals here i Int
         → slice_get (slots g.structs (Struct n)) k ≡ Some (record { type = t; offset = offset }) → is_scalar t ≡ true
         → HasPlace g locals here (core.Through e (core.Element i) offset site) t
@@ -329,10 +391,6 @@ pub record IsFunction (g : Frame) (f : Function) : Type 0 where
   pub locals : AllByRecursion IsScalar f.locals
   pub result : IsScalarResult f.result
   pub body : AreStatements g f.locals f.result bounds false f.body
-
--- a cell before the run, which leads nowhere
-abbrev pub IsInitial : List Structure → Initial → Type 0
-IsInitial structs i = HasValue structs [] i.type (initial_value i.type i.number)
 
 -- a program of two sides with its structs has types, and a `main` without parameters that gives a number
 pub record IsTyped (program : Parted) : Type 0 where

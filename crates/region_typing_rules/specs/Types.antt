@@ -64,6 +64,24 @@ is_checked_pointer Int = false
 is_checked_pointer Char = false
 is_checked_pointer (Struct number) = false
 
+-- a pointer without bounds of its own
+abbrev pub is_single : CType → Bool
+is_single (Pointer mode kinds.One target) = true
+is_single (Pointer mode kinds.Array target) = false
+is_single (Pointer mode kinds.Nt target) = true
+is_single Int = false
+is_single Char = false
+is_single (Struct number) = false
+
+-- a pointer that has its bounds at its node
+abbrev pub is_row : CType → Bool
+is_row (Pointer mode kinds.One target) = false
+is_row (Pointer mode kinds.Array target) = true
+is_row (Pointer mode kinds.Nt target) = false
+is_row Int = false
+is_row Char = false
+is_row (Struct number) = false
+
 abbrev pub is_scalar : CType → Bool
 is_scalar t = is_number t || is_pointer t
 

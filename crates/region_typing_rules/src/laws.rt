@@ -22,6 +22,7 @@ ghost use Rattle.region_typing_rules.specs.ReadingExamples as readings;
 ghost use Rattle.region_typing_rules.specs.KnowingExamples as knowing;
 ghost use Rattle.region_typing_rules.specs.CallExamples as calls;
 ghost use Rattle.region_typing_rules.specs.KeptExamples as kept;
+ghost use Rattle.region_typing_rules.specs.MemoryExamples as memory;
 
 /// Programs and what they become, worked out from the rules.
 pub fn examples()
@@ -37,6 +38,7 @@ pub fn readings()
     ensures sums { readings.sums }
     ensures conditions { readings.conditions }
     ensures null_tests { readings.null_tests }
+    ensures right_operands { readings.right_operands }
 {}
 
 /// What is known behind small statements.
@@ -67,6 +69,14 @@ pub fn kept()
     ensures first { kept.first }
     ensures steps { kept.steps }
     ensures hidden { kept.hidden }
+{}
+
+/// How many elements new memory has, and what a pointer is cast to.
+pub fn memory()
+    ensures factors { memory.factors }
+    ensures bytes { memory.bytes }
+    ensures bases { memory.bases }
+    ensures casts { memory.casts }
 {}
 
 /// Bounds that are declared for a local or a parameter are formed: they are of a pointer to elements that have bytes, their ends speak of `int` locals, their

@@ -7,3 +7,4 @@ pub mod Innermost
 pub mod Settled
 pub mod Entailing
 pub mod Declaring
+mod Cells

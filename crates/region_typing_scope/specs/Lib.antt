@@ -15,3 +15,5 @@ pub mod Tracked
 pub mod Settlings
 pub mod Entailing
 pub mod Declaring
+pub mod Points
+pub mod CellParts

@@ -11,6 +11,7 @@ ghost use Rattle.region_typing_scope.specs.OnHeap.{typed};
 ghost use Rattle.region_typing_scope.specs.Views.{scope as scope_of};
 
 use crate::context::Context;
+use crate::entailment::is_met;
 use crate::operands::{Operand, value_of};
 use crate::refusals::{CheckError, needs};
 use crate::scope::Scope;
@@ -68,7 +69,7 @@ pub fn fitted(
 ) -> Result<Expr, CheckError>
     ensures { Answers expression (fitted_to (scope_of scope.now).flow (typed t) (ctype_of to.now) span) result }
 {
-    let met = scope.is_met(&t, to)?;
+    let met = is_met(&scope.flow, &t, to)?;
     let value = converted(context, t, to, span)?;
     needs(met, Code::E17, span)?;
     Ok(value)

@@ -10,10 +10,10 @@ ghost use Rattle.region_typing_scope.specs.Entailing.{asked_for as asked_for_in,
 ghost use Rattle.region_typing_scope.specs.Typed.{typed};
 
 use crate::bounds::row_of;
-use crate::scope::Scope;
 use crate::typed::Typed;
 use bounds_exprs::expression::constant;
 use bounds_exprs::term::{Bounds, Term};
+use bounds_flow::flow::Flow;
 use ckc_text::fault::NoMemory;
 use pointer_modes::ctype::{CType, Kind};
 use region_typing_flow::conditions::is_null;
@@ -97,65 +97,64 @@ fn based(t: &Typed) -> Option<Bounds>
     }
 }
 
-impl Scope {
-    // Whether the one term is at most the other wherever what is known holds. Of a variable that it hasn't a flow entails
-    // something only where it entails everything.
-    fn entails(&self, a: &Term, b: &Term) -> Result<bool, NoMemory>
-        ensures { IfOk result (λ yes. yes ≡ entails_terms a.now b.now self.now.flow.facts) }
-    {
-        self.flow.is_flow();
-        if is_below(self.most_locals, a.var) && is_below(self.most_locals, b.var) {
-            let answer = self.flow.entails(a, b)?;
-            return Ok(is_yes(&answer));
-        }
-        let answer = self.flow.entails(&constant(1), &constant(0))?;
-        Ok(is_yes(&answer))
+// Whether the one term is at most the other wherever what is known holds. Of a variable that it hasn't a flow entails
+// something only where it entails everything.
+fn entails(flow: &Flow, a: &Term, b: &Term) -> Result<bool, NoMemory>
+    ensures { IfOk result (λ yes. yes ≡ entails_terms a.now b.now flow.now.facts) }
+{
+    flow.is_flow();
+    let vars = flow.vars();
+    if is_below(vars, a.var) && is_below(vars, b.var) {
+        let answer = flow.entails(a, b)?;
+        return Ok(is_yes(&answer));
     }
+    let answer = flow.entails(&constant(1), &constant(0))?;
+    Ok(is_yes(&answer))
+}
 
-    // Whether bounds are entailed to lie around others.
-    fn ends_meet(&self, asked: &Bounds, b: &Bounds) -> Result<bool, NoMemory>
-        ensures { IfOk result (λ met. met ≡ is_met_by (ends_find self.now.flow.facts asked.now b.now)) }
-    {
-        if !self.entails(&b.lo, &asked.lo)? {
-            return Ok(false);
-        }
-        self.entails(&asked.hi, &b.hi)
+// Whether bounds are entailed to lie around others.
+fn ends_meet(flow: &Flow, asked: &Bounds, b: &Bounds) -> Result<bool, NoMemory>
+    ensures { IfOk result (λ met. met ≡ is_met_by (ends_find flow.now.facts asked.now b.now)) }
+{
+    if !entails(flow, &b.lo, &asked.lo)? {
+        return Ok(false);
     }
+    entails(flow, &asked.hi, &b.hi)
+}
 
-    // Whether bounds, if there are any, are entailed to lie around others, from the same base.
-    fn bounds_meet(&self, asked: &Bounds, bounds: &Option<Bounds>) -> Result<bool, NoMemory>
-        ensures { IfOk result (λ met. met ≡ is_met_by (bounds_find self.now.flow.facts asked.now bounds.now)) }
-    {
-        match bounds {
-            None => Ok(false),
-            Some(b) => {
-                if asked.base == b.base {
-                    self.ends_meet(asked, b)
-                } else {
-                    Ok(false)
-                }
+// Whether bounds, if there are any, are entailed to lie around others, from the same base.
+fn bounds_meet(flow: &Flow, asked: &Bounds, bounds: &Option<Bounds>) -> Result<bool, NoMemory>
+    ensures { IfOk result (λ met. met ≡ is_met_by (bounds_find flow.now.facts asked.now bounds.now)) }
+{
+    match bounds {
+        None => Ok(false),
+        Some(b) => {
+            if asked.base == b.base {
+                ends_meet(flow, asked, b)
+            } else {
+                Ok(false)
             }
         }
     }
+}
 
-    /// Whether the bounds of an expression, without a base or with one, are entailed to lie around others.
-    pub fn has_bounds(&self, t: &Typed, asked: &Bounds) -> Result<bool, NoMemory>
-        ensures { IfOk result (λ met. met ≡ has_bounds_as self.now.flow (typed t.now) asked.now) }
-    {
-        if self.bounds_meet(asked, &own(t))? {
-            return Ok(true);
-        }
-        self.bounds_meet(asked, &based(t))
+/// Whether the bounds of an expression, without a base or with one, are entailed to lie around others.
+pub fn has_bounds(flow: &Flow, t: &Typed, asked: &Bounds) -> Result<bool, NoMemory>
+    ensures { IfOk result (λ met. met ≡ has_bounds_as flow.now (typed t.now) asked.now) }
+{
+    if bounds_meet(flow, asked, &own(t))? {
+        return Ok(true);
     }
+    bounds_meet(flow, asked, &based(t))
+}
 
-    /// Whether the bounds of an expression, without a base or with one, are entailed to lie around those that it is asked for
-    /// as a value of a type.
-    pub fn is_met(&self, t: &Typed, to: &CType) -> Result<bool, NoMemory>
-        ensures { IfOk result (λ met. met ≡ is_met_as self.now.flow (typed t.now) (ctype_of to.now)) }
-    {
-        match asked_for(t, to) {
-            None => Ok(true),
-            Some(asked) => self.has_bounds(t, &asked),
-        }
+/// Whether the bounds of an expression, without a base or with one, are entailed to lie around those that it is asked for
+/// as a value of a type.
+pub fn is_met(flow: &Flow, t: &Typed, to: &CType) -> Result<bool, NoMemory>
+    ensures { IfOk result (λ met. met ≡ is_met_as flow.now (typed t.now) (ctype_of to.now)) }
+{
+    match asked_for(t, to) {
+        None => Ok(true),
+        Some(asked) => has_bounds(flow, t, &asked),
     }
 }

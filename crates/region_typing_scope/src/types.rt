@@ -136,8 +136,8 @@ fn kind_converts(from: Kind, to: Kind) -> bool
     }
 }
 
-// Whether a pointer of a type converts to another one, which is of a kind.
-fn pointer_converts(from: &CType, kind: Kind, to: &CType) -> bool
+/// Whether a pointer of a type converts to another one, which is of a kind.
+pub fn pointer_converts(from: &CType, kind: Kind, to: &CType) -> bool
     ensures { result ≡ pointer_converts_to (ctype from.now) kind (ctype to.now) }
 {
     match from {

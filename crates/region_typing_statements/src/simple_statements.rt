@@ -32,6 +32,7 @@ use region_typing_expressions::calls::Called;
 use region_typing_expressions::expressions::{call_typed, typed};
 use region_typing_scope::context::Context;
 use region_typing_scope::conversions::converted;
+use region_typing_scope::entailment::{has_bounds, is_met};
 use region_typing_scope::refusals::{CheckError, needs, refusal};
 use region_typing_scope::scope::Scope;
 use region_typing_scope::typed::Typed;
@@ -88,7 +89,7 @@ fn refused_value(
 fn result_meets(scope: &Scope, t: &Typed, to: &CType) -> Result<bool, NoMemory>
     ensures { IfOk result (λ met. met ≡ result_meets_in (scope_of scope.now).flow (scope_of scope.now).result_bounds (inline_typed t.now) (ctype_of to.now)) }
 {
-    if !scope.is_met(t, to)? {
+    if !is_met(&scope.flow, t, to)? {
         return Ok(false);
     }
     match &scope.result_bounds {
@@ -97,7 +98,7 @@ fn result_meets(scope: &Scope, t: &Typed, to: &CType) -> Result<bool, NoMemory>
             if is_unasked(t) {
                 return Ok(true);
             }
-            scope.has_bounds(t, asked)
+            has_bounds(&scope.flow, t, asked)
         }
     }
 }

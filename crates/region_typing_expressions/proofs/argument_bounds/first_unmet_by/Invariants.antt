@@ -7,6 +7,6 @@ use Rattle.region_typing_expressions.proofs.argument_bounds.first_unmet_by.Given
 -- the first one of all is the first one of those that are left
 abbrev pub invariant-loop-i : goal.invariant-loop-i
 invariant-loop-i l = record {
-  left : first_unmet l.scope.flow l.passed.terms.items l.passed.pointers.items (map argument l.arguments) (map ctype l.f.parameters.items) l.f.bounds.items
-      ≡ first_unmet l.scope.flow l.passed.terms.items l.passed.pointers.items (map argument (drop l.i l.arguments)) (map ctype (drop l.i l.f.parameters.items)) (drop l.i l.f.bounds.items);
+  left : first_unmet l.flow l.passed.terms.items l.passed.pointers.items (map argument l.arguments) (map ctype l.f.parameters.items) l.f.bounds.items
+      ≡ first_unmet l.flow l.passed.terms.items l.passed.pointers.items (map argument (drop l.i l.arguments)) (map ctype (drop l.i l.f.parameters.items)) (drop l.i l.f.bounds.items);
 }

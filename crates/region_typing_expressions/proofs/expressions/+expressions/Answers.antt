@@ -6,7 +6,7 @@ use Rattle.ckc_tree.specs.declared.expr.Expr.{Expr}
 use Rattle.ckc_tree.specs.declared.expr.Expr.TheVariants as exprs
 use Rattle.ckc_tree.specs.declared.expr.UnaryOperator.{UnaryOperator}
 use Rattle.ckc_tree.specs.Expressions.{Index, Dot, Unary, expression}
-use Rattle.region_typing_scope.specs.Views.{scope}
+use Rattle.region_typing_scope.specs.Points.{point}
 use Rattle.region_typing_expressions.specs.Calls.{argument}
 use Rattle.region_typing_expressions.specs.Slices.{expression_list}
 use Rattle.region_typing_scope.proofs.Going.{goes_on, refused, refused_by}
@@ -20,49 +20,49 @@ dot_tree x inner base member span is same = ap expression is ∙ ap (λ e. Dot (
 unary_tree : (x inner : Expr) (operator : UnaryOperator) (operand : Box Expr Global) (span : Span) → x ≡ exprs.Unary operator operand span → inner ≡ operand.value → expression x ≡ Unary operator (expression inner) span
 unary_tree x inner operator operand span is same = ap expression is ∙ ap (λ e. Unary operator (expression e) span) (sym same)
 
-pub typed-returns-in-Dot : goal.typed-returns-in-Dot
-typed-returns-in-Dot t c = rw (dot_tree c.args.e.now c.deref-in-Dot.result.now c.in-Dot.base c.in-Dot.member c.in-Dot.span c.in-Dot.is c.deref-in-Dot.ensures) c.member_of.ensures
+pub typed_at-returns-in-Dot : goal.typed_at-returns-in-Dot
+typed_at-returns-in-Dot t c = rw (dot_tree c.args.e.now c.deref-in-Dot.result.now c.in-Dot.base c.in-Dot.member c.in-Dot.span c.in-Dot.is c.deref-in-Dot.ensures) c.member_of.ensures
 
 index_tree : (x a b : Expr) (base index : Box Expr Global) (span : Span) → x ≡ exprs.Index base index span → a ≡ base.value → b ≡ index.value → expression x ≡ Index (expression a) (expression b) span
 index_tree x a b base index span is first second =
     ap expression is ∙ ap (λ e. Index (expression e) (expression index.value) span) (sym first) ∙ ap (λ e. Index (expression a) (expression e) span) (sym second)
 
-pub typed-returns-in_err-base-in-Index : goal.typed-returns-in_err-base-in-Index
-typed-returns-in_err-base-in-Index t c =
+pub typed_at-returns-in_err-base-in-Index : goal.typed_at-returns-in_err-base-in-Index
+typed_at-returns-in_err-base-in-Index t c =
     let i = c.in-Index in
     let at = place_at c.args.context.now in
-    rw (index_tree c.args.e.now c.deref.result.now i.index.value i.base i.index i.span i.is c.deref.ensures refl, element_parts at (scope c.args.scope.now) (expression c.deref.result.now) (expression i.index.value) i.span)
+    rw (index_tree c.args.e.now c.deref.result.now i.index.value i.base i.index i.span i.is c.deref.ensures refl, element_parts at (point c.args.point.now) (expression c.deref.result.now) (expression i.index.value) i.span)
     (refused _ c.from_residual-in_err-base-in-Index.result c.from_residual-in_err-base-in-Index.ensures.1 c.in_err-base-in-Index.ensures)
 
-pub typed-returns-in_err-index-in-Index : goal.typed-returns-in_err-index-in-Index
-typed-returns-in_err-index-in-Index t c =
+pub typed_at-returns-in_err-index-in-Index : goal.typed_at-returns-in_err-index-in-Index
+typed_at-returns-in_err-index-in-Index t c =
     let i = c.in-Index in
     let at = place_at c.args.context.now in
-    rw (index_tree c.args.e.now c.deref.result.now c.deref-in-Index.result.now i.base i.index i.span i.is c.deref.ensures c.deref-in-Index.ensures, element_parts at (scope c.args.scope.now) (expression c.deref.result.now) (expression c.deref-in-Index.result.now) i.span)
+    rw (index_tree c.args.e.now c.deref.result.now c.deref-in-Index.result.now i.base i.index i.span i.is c.deref.ensures c.deref-in-Index.ensures, element_parts at (point c.args.point.now) (expression c.deref.result.now) (expression c.deref-in-Index.result.now) i.span)
     (goes_on _ c.in_ok-base-in-Index.ensures (refused _ c.from_residual-in_err-index-in-Index.result c.from_residual-in_err-index-in-Index.ensures.1 c.in_err-index-in-Index.ensures))
 
-pub typed-returns-in_ok-index-in-Index : goal.typed-returns-in_ok-index-in-Index
-typed-returns-in_ok-index-in-Index t c =
+pub typed_at-returns-in_ok-index-in-Index : goal.typed_at-returns-in_ok-index-in-Index
+typed_at-returns-in_ok-index-in-Index t c =
     let i = c.in-Index in
     let at = place_at c.args.context.now in
-    rw (index_tree c.args.e.now c.deref.result.now c.deref-in-Index.result.now i.base i.index i.span i.is c.deref.ensures c.deref-in-Index.ensures, element_parts at (scope c.args.scope.now) (expression c.deref.result.now) (expression c.deref-in-Index.result.now) i.span)
+    rw (index_tree c.args.e.now c.deref.result.now c.deref-in-Index.result.now i.base i.index i.span i.is c.deref.ensures c.deref-in-Index.ensures, element_parts at (point c.args.point.now) (expression c.deref.result.now) (expression c.deref-in-Index.result.now) i.span)
     (goes_on _ c.in_ok-base-in-Index.ensures (goes_on _ c.in_ok-index-in-Index.ensures c.element_of.ensures))
 
-pub typed-returns-in-Unary : goal.typed-returns-in-Unary
-typed-returns-in-Unary t c = rw (unary_tree c.args.e.now c.deref-in-Unary.result.now c.in-Unary.operator c.in-Unary.operand c.in-Unary.span c.in-Unary.is c.deref-in-Unary.ensures) c.unary_of.ensures
+pub typed_at-returns-in-Unary : goal.typed_at-returns-in-Unary
+typed_at-returns-in-Unary t c = rw (unary_tree c.args.e.now c.deref-in-Unary.result.now c.in-Unary.operator c.in-Unary.operand c.in-Unary.span c.in-Unary.is c.deref-in-Unary.ensures) c.unary_of.ensures
 
-pub typed-returns-in-Call : goal.typed-returns-in-Call
-typed-returns-in-Call t c =
+pub typed_at-returns-in-Call : goal.typed_at-returns-in-Call
+typed_at-returns-in-Call t c =
     rw (call_tree c.args.e.now c.in-Call.callee c.in-Call.arguments c.in-Call.span c.as_slice.result.now c.in-Call.is c.as_slice.ensures.value) c.call_value.ensures
 
 pub call_value-returns-in_err-call : goal.call_value-returns-in_err-call
 call_value-returns-in_err-call t c =
-    rw (call_parts (place_at c.args.context.now) (scope c.args.scope.now) c.args.callee.now (expression_list c.args.arguments.now) c.args.span)
+    rw (call_parts (place_at c.args.context.now) (point c.args.point.now) c.args.callee.now (expression_list c.args.arguments.now) c.args.span)
     (refused _ c.from_residual.result c.from_residual.ensures.1 c.in_err-call.ensures)
 
 pub call_value-returns : goal.call_value-returns
 call_value-returns t c =
-    rw (call_parts (place_at c.args.context.now) (scope c.args.scope.now) c.args.callee.now (expression_list c.args.arguments.now) c.args.span)
+    rw (call_parts (place_at c.args.context.now) (point c.args.point.now) c.args.callee.now (expression_list c.args.arguments.now) c.args.span)
     (goes_on _ c.in_ok-call.ensures c.with_result.ensures)
 
 pub member_of-returns-in_err-t : goal.member_of-returns-in_err-t
@@ -94,7 +94,7 @@ all_typed-returns-in_err-typed t c =
     let xs = c.args.arguments.now in
     let less : c.loop-written.written-index < length xs = omega (arith, c.loop-written-test.true) in
     refused_by c.from_residual.result c.from_residual.ensures.1
-    (λ stop breaks. argument_breaks (place_at c.args.context.now) (scope c.args.scope.now) xs c.loop-written.written-index c.written-item.result (map argument c.loop-written.built.items) stop less c.written-item.is c.loop-written.invariant.so_far breaks)
+    (λ stop breaks. argument_breaks (place_at c.args.context.now) (point c.args.point.now) xs c.loop-written.written-index c.written-item.result (map argument c.loop-written.built.items) stop less c.written-item.is c.loop-written.invariant.so_far breaks)
     c.in_err-typed.ensures
 
 pub all_typed-loop-written-preserved : goal.all_typed-loop-written-preserved
@@ -102,9 +102,9 @@ all_typed-loop-written-preserved t c =
     let xs = c.args.arguments.now in
     let less : c.loop-written.written-index < length xs = omega (arith, c.loop-written-test.true) in
     record {
-      so_far = argument_pushed (place_at c.args.context.now) (scope c.args.scope.now) xs c.loop-written.written-index c.written-item.result c.loop-written.built.items c.push.new.self.items (record { typed = c.in_ok-typed.typed; span = c.span.result }) c.in_ok-push.ensures.items less c.written-item.is c.span.ensures c.loop-written.invariant.so_far c.in_ok-typed.ensures.so;
+      so_far = argument_pushed (place_at c.args.context.now) (point c.args.point.now) xs c.loop-written.written-index c.written-item.result c.loop-written.built.items c.push.new.self.items (record { typed = c.in_ok-typed.typed; span = c.span.result }) c.in_ok-push.ensures.items less c.written-item.is c.span.ensures c.loop-written.invariant.so_far c.in_ok-typed.ensures.so;
     }
 
 pub all_typed-returns : goal.all_typed-returns
 all_typed-returns t c =
-    record { so = arguments_done (place_at c.args.context.now) (scope c.args.scope.now) c.args.arguments.now c.loop-written.written-index (map argument c.loop-written.built.items) (omega (arith, c.loop-written-test.false)) c.loop-written.invariant.so_far }
+    record { so = arguments_done (place_at c.args.context.now) (point c.args.point.now) c.args.arguments.now c.loop-written.written-index (map argument c.loop-written.built.items) (omega (arith, c.loop-written-test.false)) c.loop-written.invariant.so_far }

@@ -1,8 +1,8 @@
 use Rattle.std.proofs.Common.{◌≡◌, ◌++◌, map, drop}
 use Rattle.pointer_modes.specs.Types.{ctype}
 use Rattle.ckc_core.specs.Core.{initial}
-use Rattle.region_typing_rules.specs.Items.{cells_with, numbered_cells, strides_of}
-use Rattle.region_typing.proofs.initials.push_member_cells.Given as goal
+use Rattle.region_typing_rules.specs.Cells.{cells_with, numbered_cells, strides_of}
+use Rattle.region_typing_scope.proofs.initial_cells.push_member_cells.Given as goal
 
 -- the cells so far with those that are left make all of them
 abbrev pub invariant-loop-i : goal.invariant-loop-i

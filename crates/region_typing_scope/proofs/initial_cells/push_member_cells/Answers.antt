@@ -2,9 +2,9 @@ use Rattle.std.proofs.Common.{◌++◌, map, refl, ap, sym, w32, to_z, of_z, ari
 use Rattle.std.proofs.lemmas.Int.{to_z-of_z}
 use Rattle.pointer_modes.specs.Types.{ctype}
 use Rattle.ckc_core.specs.Core.{initial}
-use Rattle.region_typing_rules.specs.Items.{cells_with}
-use Rattle.region_typing.proofs.Constants.{struct_cells, as_many_cells, cell_more, cells_done}
-use Rattle.region_typing.proofs.initials.push_member_cells.Goals as goal
+use Rattle.region_typing_rules.specs.Cells.{cells_with}
+use Rattle.region_typing_scope.proofs.Cells.{struct_cells, as_many_cells, cell_more, cells_done}
+use Rattle.region_typing_scope.proofs.initial_cells.push_member_cells.Goals as goal
 
 pub loop-i-init : goal.loop-i-init
 loop-i-init c = record {

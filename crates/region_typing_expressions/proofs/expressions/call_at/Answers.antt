@@ -1,5 +1,5 @@
 use Rattle.region_typing_expressions.proofs.Arguments.{call_tree}
-use Rattle.region_typing_expressions.proofs.expressions.call_typed.Goals as goal
+use Rattle.region_typing_expressions.proofs.expressions.call_at.Goals as goal
 
 pub returns-in-Call : goal.returns-in-Call
 returns-in-Call c =

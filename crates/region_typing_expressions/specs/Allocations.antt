@@ -1,0 +1,23 @@
+-- Inside: which part of a size is the number of its elements.
+use Rattle.std.specs.Prelude.{pos, Option, Some, None}
+use Rattle.ckc_tree.specs.Expressions.{Expression}
+use Rattle.pointer_modes.specs.Types.{CType}
+use Rattle.ckc_core.specs.Core as core
+use Rattle.ckc_core.specs.Steps.{is_char}
+use Rattle.region_typing_rules.specs.Verdicts.{picked}
+use Rattle.region_typing_rules.specs.Scopes.{Scope}
+use Rattle.region_typing_rules.specs.Expressions.{is_size, first_factor, second_factor}
+use Rattle.region_typing_expressions.specs.declared.allocations.Factor.{Factor}
+use Rattle.region_typing_expressions.specs.declared.allocations.Factor.TheVariants as factors
+
+abbrev pub factor_of : Factor → core.Expression → Option core.Expression
+factor_of factors.First value = first_factor value
+factor_of factors.Second value = second_factor value
+
+abbrev pub factor_in : Option Factor → core.Expression → Option core.Expression
+factor_in None value = None
+factor_in (Some which) value = factor_of which value
+
+-- a size that isn't a product with the size of the type
+abbrev pub alone_in : Scope → CType → Expression → core.Expression → Option core.Expression
+alone_in s t size value = picked (is_size s t size) (Some (core.Number (pos 1))) (picked (is_char t) (Some value) None)

@@ -1,0 +1,135 @@
+-- How many elements new memory has, and which bounds a cast may have, where n is an `int` local and p is a pointer to `int`s: their names have the numbers 0
+-- and 1, and so have they.
+use Rattle.std.specs.Prelude.{◌≡◌, ℕ, true, false, [], ◌∷◌, Option, Some, None, pos}
+use Rattle.ckc_text.specs.declared.place.Span.{Span}
+use Rattle.ckc_text.specs.declared.code.Code.TheVariants.{E13, E15, E18}
+use Rattle.ckc_tree.specs.declared.expr.BinaryOperator.TheVariants as binary
+use Rattle.ckc_tree.specs.declared.expr.CastWord.TheVariants as cast_words
+use Rattle.ckc_tree.specs.Types as types
+use Rattle.ckc_tree.specs.Types.{TypeName}
+use Rattle.ckc_tree.specs.Expressions as e
+use Rattle.ckc_tree.specs.Expressions.{Expression}
+use Rattle.ckc_names_rules.specs.declared.given.Given.{Given}
+use Rattle.pointer_modes.specs.declared.ctype.Mode.TheVariants as modes
+use Rattle.pointer_modes.specs.declared.ctype.Kind.TheVariants as kinds
+use Rattle.pointer_modes.specs.Types.{CType, Int, Char, Pointer}
+use Rattle.bounds_exprs.specs.declared.term.Term.{Term}
+use Rattle.bounds_exprs.specs.declared.term.Bounds.{Bounds}
+use Rattle.bounds_flow.specs.Flows.{at_entry}
+use Rattle.act_words.specs.declared.operator.Operator.TheVariants as operators
+use Rattle.act_words.specs.declared.operator.ArithmeticOperator.TheVariants as arithmetics
+use Rattle.ckc_core.specs.declared.program.PointerBounds.{PointerBounds}
+use Rattle.ckc_core.specs.declared.program.Site.{Site}
+use Rattle.ckc_core.specs.Core as core
+use Rattle.region_typing_rules.specs.Verdicts.{breaks}
+use Rattle.region_typing_rules.specs.Scopes.{Scope}
+use Rattle.region_typing_rules.specs.Readings.{based_bounds}
+use Rattle.region_typing_rules.specs.Expressions.{Typed, Value, For, OfLocal, plain, elements_in, has_base, cast_typed}
+use Rattle.region_typing_rules.specs.Items.{nothing_known}
+
+abbrev here : Span
+here = record { from = 0; to = 0 }
+
+abbrev site : Site
+site = record { place = record { line = 1; col = 1 } }
+
+abbrev given : Given
+given = record { null = 100; next_input = 101; print_int = 102; putchar = 103; main = 104 }
+
+abbrev scope : Scope
+scope = record (nothing_known given) {
+  locals = Int ∷ Pointer modes.Checked kinds.Array Int ∷ [];
+  visible = record { name = 1; local = 1 } ∷ record { name = 0; local = 0 } ∷ [];
+  flow = at_entry 2;
+}
+
+abbrev name : ℕ → Expression
+name number = e.Name (record { name = []; number = number; span = here })
+
+-- ---- numbers of elements
+
+abbrev number : ℕ → core.Expression
+number k = core.Number (pos k)
+
+abbrev times : core.Expression → core.Expression → core.Expression
+times a b = core.Arithmetic (operators.Arithmetic arithmetics.Multiply) a b site
+
+abbrev n : core.Expression
+n = core.Local 0 None
+
+-- `10 * sizeof(int)`, `sizeof(int) * n`, `sizeof(int)` and `10`
+abbrev size_of_int : Expression
+size_of_int = e.SizeOf (record { base = types.IntType here; stars = 0 }) here
+
+abbrev ten_sizes : Expression
+ten_sizes = e.Binary binary.Multiply (e.Number 10 here) size_of_int here
+
+abbrev sizes : Expression
+sizes = e.Binary binary.Multiply size_of_int (name 0) here
+
+-- ten of ten sizes, n of n sizes, and one of one
+abbrev pub factors : Type 0
+factors =
+    (elements_in scope Int ten_sizes (times (number 10) (number 4)) ≡ Some (number 10)) × (elements_in scope Int sizes (times (number 4) n) ≡ Some n)
+    × (elements_in scope Int size_of_int (number 4) ≡ Some (number 1))
+
+-- a number is as many `char`s, and so is any size; but it isn't a number of `int`s, and neither is a product without their size
+abbrev pub bytes : Type 0
+bytes =
+    let product = e.Binary binary.Multiply (e.Number 10 here) (name 0) here in
+    (elements_in scope Char (e.Number 10 here) (number 10) ≡ Some (number 10)) × (elements_in scope Char size_of_int (number 4) ≡ Some (number 4))
+    × (elements_in scope Int (e.Number 10 here) (number 10) ≡ None) × (elements_in scope Int product (times (number 10) n) ≡ None)
+
+-- ---- casts
+
+abbrev term : Option ℕ → ℕ → Term
+term var plus = record { var = var; plus = pos plus }
+
+abbrev from_to : Option ℕ → Term → Term → Bounds
+from_to base lo hi = record { base = base; lo = lo; hi = hi }
+
+abbrev at_node : Bounds → Option PointerBounds
+at_node b = Some (record { bounds = b; size = 4; site = site })
+
+abbrev three : Bounds
+three = from_to None (term None 0) (term None 3)
+
+-- p with three elements, without bounds, and as it is cast to two elements from itself or from its place
+abbrev p : core.Expression
+p = core.Local 1 (at_node three)
+
+abbrev unknown : core.Expression
+unknown = core.Local 1 None
+
+abbrev two_from : Option ℕ → Bounds
+two_from base = from_to base (term None 0) (term None 2)
+
+abbrev cast : Option ℕ → core.Expression
+cast base = core.Cast p (at_node (two_from base))
+
+-- a local pointer counts as its own base, and so may a cast of it; a cast of that has the base too, and one without a base has none
+abbrev pub bases : Type 0
+bases =
+    (has_base (Some 1) p ≡ true) × (has_base (Some 1) (cast (Some 1)) ≡ true) × (has_base (Some 0) (cast (Some 1)) ≡ false)
+    × (has_base (Some 1) (cast None) ≡ false) × (has_base None (cast None) ≡ true)
+    × (based_bounds (cast (Some 1)) ≡ Some (two_from (Some 1))) × (has_base (Some 1) unknown ≡ false)
+
+abbrev row : CType
+row = Pointer modes.Checked kinds.Array Int
+
+abbrev single : CType
+single = Pointer modes.Checked kinds.One Int
+
+abbrev of_local : core.Expression → Typed
+of_local value = Value row false value (For (OfLocal 1))
+
+-- one to a single element has no bounds of its own, and one to an array has those that are written; of a pointer without bounds there is none
+abbrev pub casts : Type 0
+casts =
+    (cast_typed cast_words.Dynamic scope single (of_local p) None site here ≡ plain single (core.Cast p (at_node (from_to None (term None 0) (term None 1)))))
+    × (cast_typed cast_words.Dynamic scope row (of_local p) (Some (Some (two_from (Some 1)))) site here ≡ plain row (cast (Some 1)))
+    × (cast_typed cast_words.Dynamic scope row (of_local p) None site here ≡ breaks E13 here)
+    × (cast_typed cast_words.Dynamic scope single (of_local p) (Some None) site here ≡ breaks E13 here)
+    × (cast_typed cast_words.Dynamic scope row (of_local unknown) (Some (Some (two_from None))) site here ≡ breaks E18 here)
+    × (cast_typed cast_words.Dynamic scope row (of_local p) (Some (Some (two_from (Some 0)))) site here ≡ breaks E18 here)
+    × (cast_typed cast_words.Assume scope row (of_local p) (Some (Some (two_from None))) site here ≡ breaks E15 here)
