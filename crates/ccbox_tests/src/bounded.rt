@@ -687,7 +687,7 @@ const NOT_BUILT: &str =
 [refused E09 1:1 not built yet]@int main(void) { array_ptr<char> p : count(strlen(p)); return 0; }
 [refused E09 1:1 not built yet]@int main(void) { array_ptr<char> p : bounds(p, p + strlen(p)); return 0; }
 [refused E09 1:1 not built yet]@int main(void) { array_ptr<int> p : count(sizeof(nt_array_ptr<char>)); return 0; }
-[refused E09 1:1 not built yet]@int main(void) { array_ptr<int> p : count(2) = malloc<int>(2 * sizeof(int)); return 0; }
+[refused E09 1:1 not built yet]@int main(void) { array_ptr<int> p : count(2) = t_malloc<int>(2 * sizeof(int)); return 0; }
 [refused E09 1:1 not built yet]@int main(void) { int n = 1; array_ptr<int> p : count(n); _Bundled { n = 2; p = NULL; } return 0; }
 [refused E09 1:1 not built yet]@_Tainted int t(array_ptr<int> p); int main(void) { return 0; }";
 

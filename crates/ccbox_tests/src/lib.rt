@@ -34,6 +34,8 @@ mod listings;
 #[cfg(test)]
 mod memories;
 #[cfg(test)]
+mod memory;
+#[cfg(test)]
 mod options;
 #[cfg(test)]
 mod parameters;

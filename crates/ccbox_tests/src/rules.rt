@@ -49,8 +49,8 @@ const FORMS_OF_STATEMENTS: &str = r#"[refused E09 1:1 not built yet]@nt_array_pt
 [refused E09 1:1 not built yet]@int a _Checked[2];
 [refused E09 1:1 not built yet]@ptr<nt_array_ptr<int>> p;
 [refused E09 1:1 not built yet]@int n = strlen("a");
-[refused E09 1:1 not built yet]@ptr<int> p = malloc<int>(4);
-[refused E09 1:1 not built yet]@ptr<int> p = _Assume_bounds_cast<ptr<int>>(0);
+[refused E09 1:1 not built yet]@ptr<int> p = t_malloc<int>(sizeof(int));
+[refused E09 1:1 not built yet]@ptr<int> p = _Assume_bounds_cast<_TPtr<int>>(0);
 [refused E09 1:1 not built yet]@int a _Checked[2] : count(2);"#;
 
 // Names: that no item, member or function has, that are declared twice, and a `main` that isn't there.

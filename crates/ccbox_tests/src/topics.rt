@@ -10,6 +10,7 @@ use crate::flows::flows;
 use crate::limits::limits;
 use crate::listings::{listings, printed_listings};
 use crate::memories::memories_and_layouts;
+use crate::memory::memory;
 use crate::options::options;
 use crate::parameters::parameters;
 use crate::printing::printing;
@@ -40,6 +41,7 @@ fn programs(rt: HostRuntime) -> Result<(), Fail> {
     dumps(alloc)?;
     arrays(alloc)?;
     bounded(alloc)?;
+    memory(alloc)?;
     limits(alloc)?;
     options(alloc)
 }
