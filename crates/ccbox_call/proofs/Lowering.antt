@@ -5,17 +5,13 @@ use Rattle.std.proofs.lemmas.List.{length-map}
 use Rattle.std.proofs.lemmas.List.Elements.{All-map, All-from_recursion}
 use Rattle.std.proofs.lemmas.List.Sums.{sum_by-cons}
 use Rattle.flat_bytes.specs.Blocks.{first_offset, grown, rounded_up}
-use Rattle.pointer_modes.specs.Types.{CType, Int, Char, Struct, Pointer}
-use Rattle.pointer_modes.specs.Layout.{scalar_size}
 use Rattle.ckc_core.specs.Programs.{Initial}
 use Rattle.ckc_core.specs.Core.{Parted, Function}
-use Rattle.ckc_core.specs.Steps.{is_char}
 use Rattle.check_insertion.specs.Erased as erased
 use Rattle.check_insertion.specs.Insert.{function, with_checks}
 use Rattle.check_insertion.proofs.Insertions.{function_there}
 use Rattle.check_insertion.proofs.Sizes.{same_body, few_in_statements}
 use Rattle.ckc_core.specs.Weights.{statements_weight}
-use Rattle.lowering_code.specs.Images.{width_if}
 use Rattle.lowering_code.specs.Correct.{counted_from, IsCell, IsFunction, IsLowerable}
 use Rattle.region_typing_rules.specs.Lowerable.{cells_size, objects_size, IsRoomy, IsSmall, HasFewFunctions, IsSmallCore}
 use Rattle.region_typing_rules.specs.Typed as typed

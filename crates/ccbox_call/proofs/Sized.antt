@@ -21,7 +21,6 @@ use Rattle.pointer_modes.specs.Layout.{scalar_size}
 use Rattle.ckc_core.specs.Programs.{Initial}
 use Rattle.ckc_core.specs.States.{has_type, initial_value, zero_of}
 use Rattle.ckc_core.specs.Steps.{is_char}
-use Rattle.ckc_core.specs.Pointers.{element_size}
 use Rattle.lowering_code.specs.Images.{width_if}
 use Rattle.region_typing_rules.specs.KnownIsSo.{AreLimited}
 use Rattle.region_typing_rules.specs.Lowerable.{IsRoomy}
@@ -289,6 +288,7 @@ width_is Int = omega arith
 width_is Char = omega arith
 width_is (Struct number) = omega arith
 width_is (Pointer mode kind target) = omega arith
+
 zero_typed : (i : Initial) → has_type i.type (initial_value i.type i.number) ≡ true → has_type i.type (zero_of i.type) ≡ true
 zero_typed i h = by i.type h
   where

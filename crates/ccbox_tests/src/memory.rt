@@ -6,7 +6,8 @@ use std::alloc::Global;
 use std::test::Fail;
 
 // Memory that is allocated.
-const ALLOCATIONS: &str = "[exit 0]@array_ptr<int> p : count(3) = malloc<int>(3 * sizeof(int)); return p[2];
+const ALLOCATIONS: &str =
+    "[exit 0]@array_ptr<int> p : count(3) = malloc<int>(3 * sizeof(int)); return p[2];
 [exit 0]@array_ptr<int> p : count(3) = malloc<int>(sizeof(int) * 3); return p[0];
 [check C2 3:68 bounds]@array_ptr<int> p : count(3) = malloc<int>(3 * sizeof(int)); return p[3];
 [check C2 3:68 bounds]@array_ptr<int> p : count(3) = malloc<int>(3 * sizeof(int)); return p[-1];
@@ -87,7 +88,8 @@ const ALLOCATIONS: &str = "[exit 0]@array_ptr<int> p : count(3) = malloc<int>(3 
 [exit 1]@array_ptr<int> p = malloc<int>(is_a(a) * sizeof(int)); return p != NULL;";
 
 // Sizes that are no numbers of elements, and bounds that aren't there or aren't enough.
-const SIZES: &str = "[refused E17 3:1 bounds not proved]@array_ptr<int> p : count(2) = malloc<int>(sizeof(int)); return *p;
+const SIZES: &str =
+    "[refused E17 3:1 bounds not proved]@array_ptr<int> p : count(2) = malloc<int>(sizeof(int)); return *p;
 [refused E17 3:1 bounds not proved]@ptr<int> r = malloc<int>(0 * sizeof(int)); return r == NULL;
 [refused E17 3:1 bounds not proved]@ptr<int> r = malloc<int>(n * sizeof(int)); return r == NULL;
 [refused E17 3:1 bounds not proved]@array_ptr<int> p : count(n + 1) = malloc<int>(n * sizeof(int)); return 0;
@@ -143,7 +145,8 @@ const SIZES: &str = "[refused E17 3:1 bounds not proved]@array_ptr<int> p : coun
 [stop S3 sandbox ended]@array_ptr<int> p = calloc<int>(t(1), sizeof(int)); return p != NULL;";
 
 // Casts that check bounds.
-const CASTS: &str = "[exit 3]@array_ptr<int> p : count(4) = _Dynamic_bounds_cast<array_ptr<int>>(a, count(4)); return p[3];
+const CASTS: &str =
+    "[exit 3]@array_ptr<int> p : count(4) = _Dynamic_bounds_cast<array_ptr<int>>(a, count(4)); return p[3];
 [exit 9]@array_ptr<int> p : count(10) = _Dynamic_bounds_cast<array_ptr<int>>(a, count(10)); return p[9];
 [check C5 3:32 dynamic cast]@array_ptr<int> p : count(11) = _Dynamic_bounds_cast<array_ptr<int>>(a, count(11)); return 0;
 [exit 4]@array_ptr<int> p : count(n) = _Dynamic_bounds_cast<array_ptr<int>>(a, count(n)); return p[n - 1];
@@ -221,7 +224,8 @@ const CASTS: &str = "[exit 3]@array_ptr<int> p : count(4) = _Dynamic_bounds_cast
 [exit 1]@array_ptr<int> p : count(n) = _Dynamic_bounds_cast<array_ptr<int>>(malloc<int>(0 * sizeof(int)), count(n)); return p == NULL;";
 
 // Casts that are refused.
-const REFUSED_CASTS: &str = "[refused E17 3:1 bounds not proved]@array_ptr<int> p : count(m) = _Dynamic_bounds_cast<array_ptr<int>>(a, count(n)); return 0;
+const REFUSED_CASTS: &str =
+    "[refused E17 3:1 bounds not proved]@array_ptr<int> p : count(m) = _Dynamic_bounds_cast<array_ptr<int>>(a, count(n)); return 0;
 [refused E16 3:71 bounds form]@array_ptr<int> p : count(4) = _Dynamic_bounds_cast<array_ptr<int>>(a, byte_count(n)); return 0;
 [refused E16 3:71 bounds form]@array_ptr<int> p : count(4) = _Dynamic_bounds_cast<array_ptr<int>>(a, count(-1)); return 0;
 [refused E16 3:71 bounds form]@array_ptr<int> p : count(4) = _Dynamic_bounds_cast<array_ptr<int>>(a, count(n * m)); return 0;
@@ -271,7 +275,8 @@ const REFUSED_CASTS: &str = "[refused E17 3:1 bounds not proved]@array_ptr<int> 
 [refused E18 3:31 no bounds]@array_ptr<int> p : count(2) = _Dynamic_bounds_cast<array_ptr<int>>(a, bounds(p, p + 2)); return 0;";
 
 // Counts that come from the input or from the sandbox, memory that runs out, and last bytes.
-const CALLS: &str = r#"[exit 0]@run a.c --trusted 65536 --input=0@@int main(void) { int n = next_input(); array_ptr<char> p : count(n) = malloc<char>(n); return p != NULL; }
+const CALLS: &str =
+    r#"[exit 0]@run a.c --trusted 65536 --input=0@@int main(void) { int n = next_input(); array_ptr<char> p : count(n) = malloc<char>(n); return p != NULL; }
 [exit 0]@run a.c --trusted 65536 --input=-1@@int main(void) { int n = next_input(); array_ptr<char> p : count(n) = malloc<char>(n); return p != NULL; }
 [exit 0]@run a.c --trusted 65536 --input=65505@@int main(void) { int n = next_input(); array_ptr<char> p : count(n) = malloc<char>(n); return p != NULL; }
 [exit 1]@run a.c --trusted 65536 --input=65504@@int main(void) { int n = next_input(); array_ptr<char> p : count(n) = malloc<char>(n); return p != NULL; }
@@ -309,7 +314,8 @@ const CALLS: &str = r#"[exit 0]@run a.c --trusted 65536 --input=0@@int main(void
 [exit 0]¶[block 65552 4 00000000]@run a.c --dump@@array_ptr<int> w; int main(void) { w = malloc<int>(0 * sizeof(int)); return 0; }"#;
 
 // Calls with new memory and with casts, and forms that can't be run.
-const MORE_CALLS: &str = r#"[exit 0]¶[block 65552 4 50000100]¶[block 65584 4 05000000]¶[block 65616 4 00000000]@run a.c --dump@@ptr<int> w; int main(void) { w = malloc<int>(sizeof(int)); *w = 5; w = malloc<int>(sizeof(int)); return *w; }
+const MORE_CALLS: &str =
+    r#"[exit 0]¶[block 65552 4 50000100]¶[block 65584 4 05000000]¶[block 65616 4 00000000]@run a.c --dump@@ptr<int> w; int main(void) { w = malloc<int>(sizeof(int)); *w = 5; w = malloc<int>(sizeof(int)); return *w; }
 [exit 1]@run a.c --budget 1@@int f(void) { return 3; } int main(void) { array_ptr<int> p = malloc<int>(f() * sizeof(int)); return p != NULL; }
 [stop S1 budget]@run a.c --budget 1@@int f(void) { return 3; } int main(void) { array_ptr<int> p = calloc<int>(f() + f(), sizeof(int)); return p != NULL; }
 0¶[exit 1]@run a.c --input 3@@int main(void) { array_ptr<int> p = malloc<int>(next_input() * sizeof(int)); print_int(next_input()); return p != NULL; }

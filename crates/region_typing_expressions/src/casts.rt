@@ -120,7 +120,11 @@ fn cast_checked(
         zero: _,
         value: pointer,
     } = value_of(context, t, span)?;
-    needs(is_like(&scope.structs, &ctype, &to, written), Code::E13, span)?;
+    needs(
+        is_like(&scope.structs, &ctype, &to, written),
+        Code::E13,
+        span,
+    )?;
     let bounds = bounds_in(written);
     needs(is_bounded(&pointer, bounds), Code::E18, span)?;
     let bounds = call_bounds(&scope.structs, &to, bounds, context.site(span));
