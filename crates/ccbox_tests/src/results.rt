@@ -310,7 +310,7 @@ const CHANGES: &str =
 [refused E29 3:1 return bounds parameter assigned]@array_ptr<int> f(array_ptr<int> p : count(n), int n) : count(n)@0@n--;
 [refused E17 3:6 bounds not proved]@array_ptr<int> f(array_ptr<int> p : count(n), int n) : count(n)@0@n--; n++;
 [refused E15 3:8 unchecked in a checked region]@array_ptr<int> f(int n) : count(n)@0@n = 1; _Unchecked { }
-[refused E30 3:8 break outside loop]@array_ptr<int> f(int n) : count(n)@0@n = 1; break;
+[refused E30 3:8 break outside a loop]@array_ptr<int> f(int n) : count(n)@0@n = 1; break;
 [refused E11 3:5 name twice]@array_ptr<int> f(int n) : count(n)@0@int n; n = 1;
 [refused E29 3:1 return bounds parameter assigned]@_Unchecked array_ptr<int> f(int n) : count(n)@0@n = 1;
 [refused E13 2:1 type]@array_ptr<int> f(int n, struct s x) : count(n)@0@n = 1;
