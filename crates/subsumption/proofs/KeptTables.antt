@@ -7,9 +7,9 @@ use Rattle.std.proofs.lemmas.Bool.Decides.{nat_tests}
 use Rattle.std.proofs.lemmas.List.Elements.{All-contains_itself, All-weaker, Contains-append_left}
 use Rattle.subsumption.specs.declared.fact.Fact.{Fact}
 use Rattle.subsumption.specs.declared.fact.Answer.{Answer}
-use Rattle.subsumption.specs.declared.matrix.Step.{Step}
+use Rattle.subsumption.specs.declared.row.Step.{Step}
 use Rattle.subsumption.specs.declared.matrix.Change.{Change}
-use Rattle.subsumption.specs.declared.matrix.Change.TheVariants.{Clear, Add, Kill, Shift}
+use Rattle.subsumption.specs.declared.matrix.Change.TheVariants.{Add, Kill, Shift}
 use Rattle.subsumption.specs.Graphs.{at_index, fact_at, node_of}
 use Rattle.subsumption.specs.Distances.{is_near, longer_of}
 use Rattle.subsumption.specs.Shifts.{moved}
@@ -124,13 +124,11 @@ module _ (vars : ℕ) (m : Cells) (size : m.n ≡ vars + 1) where
 
   -- the nodes that are named by a fact are nodes of the table
   abbrev pub Names : Change → ℕ → Type 0
-  Names Clear n = Unit {0}
   Names (Add x y c) n = (x < n) × (y < n)
   Names (Kill x) n = Unit {0}
   Names (Shift x c) n = Unit {0}
 
   after_same : (change : Change) → Names change (vars + 1) → AreSame (vars + 1) (pairs_after change (constants_of m)) (pairs_after change seen)
-  after_same Clear placed i j li lj = refl
   after_same (Add x y c) placed i j li lj =
       let F : Option ℤ → Option ℤ → Option ℤ → Option ℤ = λ o p q. smaller_of o (sum_of (sum_of p (Some c)) q) in
       ap (λ o. F o (seen i x) (seen y j)) (same i j li lj) ∙ (ap (λ p. F (constants_of m i j) p (seen y j)) (same i x li placed.0) ∙ ap (F (constants_of m i j) (constants_of m i x)) (same y j placed.1 lj))

@@ -8,7 +8,7 @@ use Rattle.std.proofs.lemmas.List.{length-append, get_or_append_left, get_or-app
 use Rattle.std.proofs.lemmas.List.Elements.{All-nil, All-cons, All-append, All-contains, All-weaker, Contains-append_left, Contains-append_right}
 use Rattle.subsumption.specs.declared.fact.Fact.{Fact}
 use Rattle.subsumption.specs.Graphs.{fact_at, node_of, at_index}
-use Rattle.subsumption.specs.declared.matrix.Step.{Step}
+use Rattle.subsumption.specs.declared.row.Step.{Step}
 use Rattle.subsumption.specs.Facts.{Holds, Meets, Entails, IsAlike, HasOneEach}
 use Rattle.subsumption.specs.Squares.{Cells}
 use Rattle.subsumption.specs.ClosedTables.{Least, rows_of, are_near, entry}

@@ -6,7 +6,7 @@ use Rattle.std.proofs.lemmas.Bool.Decides.{nat_tests}
 use Rattle.subsumption.specs.declared.fact.Fact.{Fact}
 use Rattle.subsumption.specs.Graphs.{node_of, IsWithin}
 use Rattle.subsumption.specs.Distances.{is_near}
-use Rattle.subsumption.specs.declared.matrix.Step.{Step}
+use Rattle.subsumption.specs.declared.row.Step.{Step}
 use Rattle.subsumption.specs.Facts.{Holds, Meets, numbers_of}
 use Rattle.subsumption.specs.Squares.{Cells}
 use Rattle.subsumption.specs.ClosedTables.{AtMost, smaller_of}

@@ -5,18 +5,19 @@ use Rattle.std.proofs.lemmas.Bool.{cases_eq}
 use Rattle.std.proofs.lemmas.Bool.Decides.{nat_tests}
 use Rattle.std.specs.Int.Signed.{le_z}
 use Rattle.subsumption.specs.Distances.{longer_of, is_near}
-use Rattle.subsumption.specs.declared.matrix.Step.{Step}
+use Rattle.subsumption.specs.declared.row.Step.{Step}
 use Rattle.subsumption.specs.declared.matrix.Change.{Change}
-use Rattle.subsumption.specs.declared.matrix.Change.TheVariants.{Clear, Add, Kill, Shift}
+use Rattle.subsumption.specs.declared.matrix.Change.TheVariants.{Add, Kill, Shift}
 use Rattle.subsumption.specs.Squares.{Cells}
-use Rattle.subsumption.specs.ClosedTables.{AtMost, Pairs, no_pairs, sum_of, smaller_of, added, killed, raised, shared, is_broken, rows_of, are_near}
+use Rattle.subsumption.specs.ClosedTables.{AtMost, Pairs, is_at_most, no_pairs, sum_of, smaller_of, added, killed, raised, shared, is_broken, rows_of, are_near}
 use Rattle.subsumption.specs.TableLaws.{IsClosed}
-use Rattle.subsumption.specs.Matrices.{cell, plus_of, first_of, constants_of, own, better_of, more_of, cleared, killed_step, changed, longer_step, joined_step, AreChanged, IsPlaced, IsSteady, MayAdd, AreNear}
+use Rattle.subsumption.specs.Matrices.{cell, plus_of, first_of, constants_of, own, better_of, more_of, cleared, killed_step, changed, longer_step, joined_step, reach_of, turn_of, AreChanged, IsPlaced, IsSteady, Keeps, Opens, AreNear}
+use Rattle.subsumption.specs.declared.matrix.Turn.TheVariants.{Reach}
 use Rattle.subsumption.specs.MatrixPaths.{HasPaths, IsCanonical, IsCleared, IsMet, guarded_rows, pairs_after}
-use Rattle.subsumption.proofs.TableConstants.{at_most_up, le_from, lt_of}
+use Rattle.subsumption.proofs.TableConstants.{at_most_from, at_most_up, le_from, lt_of}
 use Rattle.subsumption.proofs.TableChanges.{to_same, from_same, not_broken, closed_same, none_closed, added_closed, killed_closed, raised_closed, shared_closed}
 use Rattle.subsumption.proofs.TableNumbers.{at_least}
-use Rattle.subsumption.proofs.TableSteps.{rows_same, rows_near, none_near}
+use Rattle.subsumption.proofs.TableSteps.{rows_same, rows_near, near_rows, none_near}
 
 abbrev stepped : ℤ → ℕ → Step
 stepped c f = record { plus = c; first = f }
@@ -55,9 +56,6 @@ killed_plus s false false false = refl
 cleared_plus : (j : ℕ) (b : Bool) → plus_of (cond b (Some (record { plus = pos 0; first = j })) None) ≡ cond b (Some (pos 0)) None
 cleared_plus j true = refl
 cleared_plus j false = refl
-
-pub clear_constant : (m : Cells) (i j : ℕ) → plus_of (changed Clear m i j) ≡ no_pairs i j
-clear_constant m i j = cleared_plus j (i == j)
 
 pub add_constant : (m : Cells) (x y : ℕ) (c : ℤ) (i j : ℕ) → plus_of (changed (Add x y c) m i j) ≡ added x y c (constants_of m) i j
 add_constant m x y c i j = better_plus (cell m i j) (sum_of (sum_of (constants_of m i x) (Some c)) (constants_of m y j)) (cond (i == x) y (first_of (cell m i x)))
@@ -272,7 +270,21 @@ module _ (m : Cells) (x y : ℕ) (c : ℤ) (lx : x < m.n) (ly : y < m.n) (closed
       b.lower (up_some (t y j) b.behind ((b.before +ℤ c) +ℤ b.behind) b.from (omega (arith, ints, low)))
 
   pub add_steady : IsSteady (Add x y c) m
-  add_steady = ((λ i li. kept i x (to_kept i li)), (λ j lj. kept y j (from_kept j lj)))
+  add_steady = λ j lj. kept y j (from_kept j lj)
+
+  -- where the path to y is no better through the new fact, no other one is
+  pub row_kept : (i : ℕ) → i < m.n → turn_of (Add x y c) m i ≡ None → (j : ℕ) → j < m.n → new i j ≡ cell m i j
+  row_kept i li e j lj = kept i j (λ b. b.lower (closed.triangle i y j (b.before +ℤ c) b.behind li ly lj (no_better (cell m i x) e b.before b.to) (at_some (t y j) b.behind b.from)))
+    where
+      no_better : (o : Option Step) → reach_of o c (t i y) y (i == x) ≡ None → (d : ℤ) → plus_of o ≡ Some d → AtMost (t i y) (d +ℤ c)
+      no_better None e d f = absurd (cc)
+      no_better (Some s) e d f =
+          let same : s.plus ≡ d = cc in
+          subst (λ d. AtMost (t i y) (d +ℤ c)) same (by (is_at_most (t i y) (s.plus +ℤ c)) refl e)
+        where
+          by : (b : Bool) → is_at_most (t i y) (s.plus +ℤ c) ≡ b → cond b None (Some (Reach y (s.plus +ℤ c) (cond (i == x) y s.first))) ≡ None → AtMost (t i y) (s.plus +ℤ c)
+          by true q r = at_most_from (t i y) (s.plus +ℤ c) q
+          by false q r = absurd (cc)
 
   module _ (paths : HasPaths m) where
     rank_by : (i j : ℕ) → Better i j ⊎ (Better i j → ⊥) → ℕ
@@ -466,35 +478,30 @@ cleared_canonical m h =
 
 module _ (m new : Cells) (canonical : IsCanonical m) where
   constants_after : (change : Change) (i j : ℕ) → plus_of (changed change m i j) ≡ pairs_after change (constants_of m) i j
-  constants_after Clear i j = clear_constant m i j
   constants_after (Add x y c) i j = add_constant m x y c i j
   constants_after (Kill x) i j = kill_constant m x i j
   constants_after (Shift x c) i j = shift_constant m x c i j
 
   closed_after : (change : Change) → IsPlaced change m.n → IsMet change m → IsClosed m.n (pairs_after change (constants_of m))
-  closed_after Clear placed met = none_closed m.n
   closed_after (Add x y c) placed met = added_closed m.n x y c (constants_of m) placed.0 placed.1 canonical.closed met
   closed_after (Kill x) placed met = killed_closed m.n x (constants_of m) canonical.closed
   closed_after (Shift x c) placed met = raised_closed m.n x c (constants_of m) canonical.closed
 
   pub steady_by : (change : Change) → IsPlaced change m.n → IsMet change m → IsSteady change m
-  steady_by Clear placed met = tt
   steady_by (Add x y c) placed met = add_steady m x y c placed.0 placed.1 canonical.closed met
   steady_by (Kill x) placed met = tt
   steady_by (Shift x c) placed met = tt
 
-  pub may_add : (change : Change) → MayAdd change m
-  may_add Clear = tt
-  may_add (Add x y c) = canonical.near
-  may_add (Kill x) = tt
-  may_add (Shift x c) = canonical.near
+  pub keeps_by : (change : Change) → IsPlaced change m.n → IsMet change m → (i : ℕ) → i < m.n → Keeps change m i
+  keeps_by (Add x y c) placed met i li = row_kept m x y c placed.0 placed.1 canonical.closed met i li
+  keeps_by (Kill x) placed met i li = tt
+  keeps_by (Shift x c) placed met i li = tt
 
   -- where each step of what was made leads to its node at once
   own_after : (f : ℕ → ℕ → Option Step) → AreChanged f m new → IsClosed new.n (constants_of new) → ((i j : ℕ) (s : Step) → f i j ≡ Some s → s.first ≡ j) → HasPaths new
   own_after f h closed leads = own_paths new closed.diagonal (λ i j s li lj e. leads i j s (sym (h.done i j (subst (λ n. i < n) h.size li) (subst (λ n. j < n) h.size lj)) ∙ e))
 
   paths_after : (change : Change) → IsPlaced change m.n → IsMet change m → AreChanged (changed change m) m new → IsClosed new.n (constants_of new) → HasPaths new
-  paths_after Clear placed met h closed = own_after (changed Clear m) h closed (λ i j s e. cleared_first j (i == j) s e)
   paths_after (Add x y c) placed met h closed = add_paths m x y c placed.0 placed.1 canonical.closed met canonical.paths new h
   paths_after (Kill x) placed met h closed = own_after (changed (Kill x) m) h closed (λ i j s e. own_first j (killed_step x (cell m i j) i j) s e)
   paths_after (Shift x c) placed met h closed = shift_paths m new x c h canonical.paths
@@ -539,8 +546,22 @@ module _ (m new : Cells) (canonical : IsCanonical m) where
     changed_none last far again = guarded_cleared (changed change m) (pairs_after change (constants_of m)) h (constants_after change) last far again
 
   module _ (other : Cells) (same : other.n ≡ m.n) (both : IsCanonical other) (h : AreChanged (joined_step m other) m new) where
-    pub joined_canonical : are_near (rows_of m.n (constants_of new)) ≡ true → IsCanonical new
-    joined_canonical near =
+    longer_near : (o p : Option ℤ) → is_near o ≡ true → is_near p ≡ true → is_near (longer_of o p) ≡ true
+    longer_near None p e f = refl
+    longer_near (Some d) None e f = refl
+    longer_near (Some d) (Some g) e f = by (le_z d g)
+      where
+        by : (b : Bool) → is_near (Some (cond b g d)) ≡ true
+        by true = f
+        by false = e
+
+    near : are_near (rows_of m.n (constants_of new)) ≡ true
+    near = near_rows m.n (constants_of new) (λ i j li lj.
+        let lies : is_near (constants_of other i j) ≡ true = both.near i j (subst (λ n. i < n) (sym same) li) (subst (λ n. j < n) (sym same) lj) in
+        ap is_near (constants_made (joined_step m other) (shared (constants_of m) (constants_of other)) h (join_constant m other) i j li lj) ∙ longer_near (constants_of m i j) (constants_of other i j) (canonical.near i j li lj) lies)
+
+    pub joined_canonical : IsCanonical new
+    joined_canonical =
         let second : IsClosed m.n (constants_of other) = subst (λ n. IsClosed n (constants_of other)) same both.closed in
         let closed = closed_made (joined_step m other) (shared (constants_of m) (constants_of other)) h (join_constant m other) (shared_closed m.n (constants_of m) (constants_of other) canonical.closed second) in
         record {
@@ -549,11 +570,45 @@ module _ (m new : Cells) (canonical : IsCanonical m) where
           paths = own_after (joined_step m other) h closed (λ i j s e. longer_first j (cell m i j) (cell other i j) s e);
         }
 
-    pub joined_rows : are_near (rows_of m.n (constants_of new)) ≡ true → rows_of new.n (constants_of new) ≡ guarded_rows m.n (shared (constants_of m) (constants_of other))
-    joined_rows near = guarded_made (joined_step m other) (shared (constants_of m) (constants_of other)) h (join_constant m other) near
-
-    pub joined_none : (last : Cells) → are_near (rows_of m.n (constants_of new)) ≡ false → AreChanged cleared new last → rows_of last.n (constants_of last) ≡ guarded_rows m.n (shared (constants_of m) (constants_of other))
-    joined_none last far again = guarded_cleared (joined_step m other) (shared (constants_of m) (constants_of other)) h (join_constant m other) last far again
+    pub joined_rows : rows_of new.n (constants_of new) ≡ guarded_rows m.n (shared (constants_of m) (constants_of other))
+    joined_rows = guarded_made (joined_step m other) (shared (constants_of m) (constants_of other)) h (join_constant m other) near
 
 pub cleared_after : (m new : Cells) → AreChanged cleared m new → IsCleared new
 cleared_after m new h = λ i j li lj. h.done i j (subst (λ n. i < n) h.size li) (subst (λ n. j < n) h.size lj)
+
+-- the same steps, however they are kept
+pub canonical_same : (m new : Cells) → new.n ≡ m.n → ((i j : ℕ) → i < m.n → j < m.n → cell new i j ≡ cell m i j) → IsCanonical m → IsCanonical new
+canonical_same m new size same canonical = record {
+  closed = subst (λ n. IsClosed n (constants_of new)) (sym size) (closed_same m.n (constants_of m) (constants_of new) constants canonical.closed);
+  near = λ i j li lj. ap is_near (constants i j (below i li) (below j lj)) ∙ canonical.near i j (below i li) (below j lj);
+  paths = record {
+    rank = canonical.paths.rank;
+    continues = λ i j s li lj ne e.
+        let on = canonical.paths.continues i j s (below i li) (below j lj) ne (sym (same i j (below i li) (below j lj)) ∙ e) in
+        record {
+          room = subst (λ n. s.first < n) (sym size) on.room;
+          apart = on.apart;
+          head = on.head;
+          rest = on.rest;
+          fact = same i s.first (below i li) on.room ∙ on.fact;
+          behind = constants s.first j on.room (below j lj) ∙ on.behind;
+          sum = on.sum;
+          sooner = on.sooner;
+        };
+  };
+}
+  where
+    below : (i : ℕ) → i < new.n → i < m.n
+    below i li = subst (λ n. i < n) size li
+
+    constants : (i j : ℕ) → i < m.n → j < m.n → constants_of new i j ≡ constants_of m i j
+    constants i j li lj = ap plus_of (same i j li lj)
+
+-- a new fact says the same of both
+pub added_same : (m new : Cells) (x y : ℕ) (c : ℤ) → x < m.n → y < m.n → Opens m x new → guarded_rows new.n (added x y c (constants_of new)) ≡ guarded_rows m.n (added x y c (constants_of m))
+added_same m new x y c lx ly h =
+    let rows : rows_of m.n (added x y c (constants_of new)) ≡ rows_of m.n (added x y c (constants_of m)) = rows_same m.n (added x y c (constants_of new)) (added x y c (constants_of m)) (λ i j li lj.
+    ap (λ s. smaller_of (plus_of s) (sum_of (sum_of (constants_of new i x) (Some c)) (constants_of new y j))) (h.same i j li lj)
+    ∙ (ap (λ s. smaller_of (constants_of m i j) (sum_of (sum_of (plus_of s) (Some c)) (constants_of new y j))) (h.same i x li lx)
+    ∙ ap (λ s. smaller_of (constants_of m i j) (sum_of (sum_of (constants_of m i x) (Some c)) (plus_of s))) (h.same y j ly lj))) in
+    subst (λ n. guarded_rows n (added x y c (constants_of new)) ≡ guarded_rows m.n (added x y c (constants_of m))) (sym h.size) (ap (λ r. cond (are_near r) r (rows_of m.n no_pairs)) rows)

@@ -1,13 +1,15 @@
 -- Matrices of steps (*inside*): for each two nodes a constant and the node that its path leads to first, where there is one.
-use Rattle.std.specs.Prelude.{ℕ, ◌+◌, ◌*◌, ◌^◌, ◌<◌, ◌≤◌, ◌≡◌, ◌≢◌, ◌==◌, ℤ, pos, ◌+ℤ◌, ◌-ℤ◌, true, cond, Option, None, Some, slice_index_or}
+use Rattle.std.specs.Prelude.{ℕ, ◌^◌, ◌<◌, ◌≤◌, ◌≡◌, ◌≢◌, ◌==◌, ℤ, pos, ◌+ℤ◌, ◌-ℤ◌, Bool, true, false, cond, Option, None, Some, slice_index_or, slice_set, replicate}
 use Rattle.std.specs.Int.Signed.{le_z}
 use Rattle.subsumption.specs.Graphs.{IsWithin}
 use Rattle.subsumption.specs.Distances.{is_near}
-use Rattle.subsumption.specs.declared.matrix.Step.{Step}
+use Rattle.subsumption.specs.declared.row.Step.{Step}
 use Rattle.subsumption.specs.declared.matrix.Change.{Change}
-use Rattle.subsumption.specs.declared.matrix.Change.TheVariants.{Clear, Add, Kill, Shift}
-use Rattle.subsumption.specs.Squares.{Cells}
-use Rattle.subsumption.specs.ClosedTables.{Pairs, sum_of}
+use Rattle.subsumption.specs.declared.matrix.Change.TheVariants.{Add, Kill, Shift}
+use Rattle.subsumption.specs.declared.matrix.Turn.{Turn}
+use Rattle.subsumption.specs.declared.matrix.Turn.TheVariants.{Reach, Forget, Gain}
+use Rattle.subsumption.specs.Squares.{Cells, Line, is_open, line, no_line}
+use Rattle.subsumption.specs.ClosedTables.{Pairs, is_at_most, sum_of}
 
 -- ---- what stands in a matrix
 
@@ -16,8 +18,16 @@ abbrev pub step_of : Option ℕ → ℤ → Option Step
 step_of None c = None
 step_of (Some y) c = Some (record { plus = c; first = y })
 
+-- nothing is known
+abbrev pub cleared : ℕ → ℕ → Option Step
+cleared i j = cond (i == j) (Some (record { plus = pos 0; first = j })) None
+
+-- what the line of i has for j
+abbrev pub line_cell : Line → ℕ → ℕ → Option Step
+line_cell l i j = cond (is_open l) (step_of (slice_index_or l.firsts j None) (slice_index_or l.constants j (pos 0))) (cleared i j)
+
 abbrev pub cell : Cells → ℕ → ℕ → Option Step
-cell m i j = step_of (slice_index_or m.firsts (i * m.n + j) None) (slice_index_or m.constants (i * m.n + j) (pos 0))
+cell m i j = line_cell (line m i) i j
 
 abbrev pub plus_of : Option Step → Option ℤ
 plus_of None = None
@@ -31,11 +41,46 @@ first_of (Some s) = s.first
 abbrev pub constants_of : Cells → Pairs
 constants_of m i j = plus_of (cell m i j)
 
+-- a step to j was put
+abbrev pub line_with : Line → ℕ → Option Step → Line
+line_with l j None = record { constants = l.constants; firsts = slice_set l.firsts j None }
+line_with l j (Some s) = record { constants = slice_set l.constants j s.plus; firsts = slice_set l.firsts j (Some s.first) }
+
+-- nothing is known of i, and there is room for steps
+abbrev pub alone : ℕ → ℕ → Line
+alone n i = record { constants = replicate n (pos 0); firsts = slice_set (replicate n None) i (Some i) }
+
 -- one step was put
 pub record Puts (m : Cells) (i j : ℕ) (s : Option Step) (new : Cells) : Type 0 where
   pub size : new.n ≡ m.n
+  pub ready : is_open (line new i) ≡ true
   pub here : cell new i j ≡ s
-  pub others : (a b : ℕ) → a < m.n → b < m.n → (a * m.n + b ≢ i * m.n + j) → cell new a b ≡ cell m a b
+  pub beside : (b : ℕ) → b < m.n → b ≢ j → cell new i b ≡ cell m i b
+  pub others : (a : ℕ) → a ≢ i → line new a ≡ line m a
+
+-- there is room for steps from i, and none changed
+pub record Opens (m : Cells) (i : ℕ) (new : Cells) : Type 0 where
+  pub size : new.n ≡ m.n
+  pub ready : is_open (line new i) ≡ true
+  pub same : (a b : ℕ) → a < m.n → b < m.n → cell new a b ≡ cell m a b
+
+-- nothing is known from i any more
+pub record Closes (m : Cells) (i : ℕ) (new : Cells) : Type 0 where
+  pub size : new.n ≡ m.n
+  pub here : line new i ≡ no_line
+  pub others : (a : ℕ) → a ≢ i → line new a ≡ line m a
+
+-- from i up to the k-th node the steps are the new ones
+pub record IsRowChanged (new : ℕ → Option Step) (start now : Cells) (i k : ℕ) : Type 0 where
+  pub size : now.n ≡ start.n
+  pub done : (j : ℕ) → j < start.n → j < k → cell now i j ≡ new j
+  pub left : (j : ℕ) → j < start.n → k ≤ j → cell now i j ≡ cell start i j
+  pub others : (a : ℕ) → a ≢ i → line now a ≡ line start a
+
+-- whether the first k constants are near
+abbrev pub ShowsRow : Bool → (ℕ → Option Step) → ℕ → Type 0
+ShowsRow true f k = (j : ℕ) → j < k → is_near (plus_of (f j)) ≡ true
+ShowsRow false f k = (j : ℕ) × (j < k) × (is_near (plus_of (f j)) ≡ false)
 
 -- ---- what a change makes of a step
 
@@ -55,16 +100,11 @@ abbrev pub more_of : Option Step → ℤ → Option Step
 more_of None c = None
 more_of (Some s) c = Some (record { plus = s.plus +ℤ c; first = s.first })
 
--- nothing is known
-abbrev pub cleared : ℕ → ℕ → Option Step
-cleared i j = cond (i == j) (Some (record { plus = pos 0; first = j })) None
-
 -- nothing is known of x
 abbrev pub killed_step : ℕ → Option Step → ℕ → ℕ → Option Step
 killed_step x s i j = cond (i == j) s (cond (i == x) None (cond (j == x) None s))
 
 abbrev pub changed : Change → Cells → ℕ → ℕ → Option Step
-changed Clear m i j = cleared i j
 changed (Add x y c) m i j =
     better_of (cell m i j) (sum_of (sum_of (constants_of m i x) (Some c)) (constants_of m y j)) (cond (i == x) y (first_of (cell m i x)))
 changed (Kill x) m i j = own j (killed_step x (cell m i j) i j)
@@ -79,13 +119,30 @@ longer_step j (Some s) (Some t) = Some (record { plus = cond (le_z s.plus t.plus
 abbrev pub joined_step : Cells → Cells → ℕ → ℕ → Option Step
 joined_step m other i j = longer_step j (cell m i j) (cell other i j)
 
--- ---- a change on the way
+-- ---- a change by rows
 
--- up to the k-th place the steps are the new ones
+-- what a turn makes of a step
+abbrev pub turned : Turn → Cells → ℕ → ℕ → Option Step
+turned (Reach y d f) m i j = better_of (cell m i j) (sum_of (Some d) (constants_of m y j)) f
+turned (Forget x) m i j = own j (killed_step x (cell m i j) i j)
+turned (Gain x c) m i j = more_of (cell m i j) (cond (i == x) c (pos 0) -ℤ cond (j == x) c (pos 0))
+
+-- a path that leads to x, and from there to y, unless one to y is known that is no worse
+abbrev pub reach_of : Option Step → ℤ → Option ℤ → ℕ → Bool → Option Turn
+reach_of None c e y here = None
+reach_of (Some s) c e y here = cond (is_at_most e (s.plus +ℤ c)) None (Some (Reach y (s.plus +ℤ c) (cond here y s.first)))
+
+-- what a change makes of the steps from i, where it changes any
+abbrev pub turn_of : Change → Cells → ℕ → Option Turn
+turn_of (Add x y c) m i = reach_of (cell m i x) c (constants_of m i y) y (i == x)
+turn_of (Kill x) m i = cond (is_open (line m i)) (Some (Forget x)) None
+turn_of (Shift x c) m i = cond (is_open (line m i)) (Some (Gain x c)) None
+
+-- the steps of the first k nodes are the new ones
 pub record IsChanged (new : ℕ → ℕ → Option Step) (start now : Cells) (k : ℕ) : Type 0 where
   pub size : now.n ≡ start.n
-  pub done : (i j : ℕ) → i < start.n → j < start.n → i * start.n + j < k → cell now i j ≡ new i j
-  pub left : (i j : ℕ) → i < start.n → j < start.n → k ≤ i * start.n + j → cell now i j ≡ cell start i j
+  pub done : (i j : ℕ) → i < start.n → j < start.n → i < k → cell now i j ≡ new i j
+  pub left : (i : ℕ) → k ≤ i → line now i ≡ line start i
 
 -- all steps are the new ones
 pub record AreChanged (new : ℕ → ℕ → Option Step) (start now : Cells) : Type 0 where
@@ -94,32 +151,52 @@ pub record AreChanged (new : ℕ → ℕ → Option Step) (start now : Cells) : 
 
 -- the nodes of a change are nodes of the matrix
 abbrev pub IsPlaced : Change → ℕ → Type 0
-IsPlaced Clear n = Unit {0}
 IsPlaced (Add x y c) n = (x < n) × (y < n) × IsWithin (2 ^ 66) c
 IsPlaced (Kill x) n = x < n
 IsPlaced (Shift x c) n = (x < n) × IsWithin (2 ^ 64) c
 
--- what a change reads of other places stays as it is
+abbrev pub IsTurnPlaced : Turn → ℕ → Type 0
+IsTurnPlaced (Reach y d f) n = (y < n) × IsWithin (2 ^ 101) d
+IsTurnPlaced (Forget x) n = Unit {0}
+IsTurnPlaced (Gain x c) n = IsWithin (2 ^ 64) c
+
+-- what a new fact reads of other rows stays as it is
 abbrev pub IsSteady : Change → Cells → Type 0
-IsSteady Clear m = Unit {0}
-IsSteady (Add x y c) m = ((i : ℕ) → i < m.n → changed (Add x y c) m i x ≡ cell m i x) × ((j : ℕ) → j < m.n → changed (Add x y c) m y j ≡ cell m y j)
+IsSteady (Add x y c) m = (j : ℕ) → j < m.n → changed (Add x y c) m y j ≡ cell m y j
 IsSteady (Kill x) m = Unit {0}
 IsSteady (Shift x c) m = Unit {0}
 
--- what a change adds up isn't outside -2^100 to 2^100
-abbrev pub ReadsNear : Change → Cells → ℕ → ℕ → Type 0
-ReadsNear Clear m i j = Unit {0}
-ReadsNear (Add x y c) m i j = (is_near (constants_of m i x) ≡ true) × (is_near (constants_of m y j) ≡ true)
-ReadsNear (Kill x) m i j = Unit {0}
-ReadsNear (Shift x c) m i j = is_near (constants_of m i j) ≡ true
+-- there is room for the steps from i that a change makes
+abbrev pub HasRoom : Change → Cells → ℕ → Type 0
+HasRoom (Add x y c) m i = i ≡ x → is_open (line m i) ≡ true
+HasRoom (Kill x) m i = Unit {0}
+HasRoom (Shift x c) m i = Unit {0}
 
 -- no constant lies outside -2^100 to 2^100
 abbrev pub AreNear : Cells → Type 0
 AreNear m = (i j : ℕ) → i < m.n → j < m.n → is_near (constants_of m i j) ≡ true
 
--- the constants that a change adds up aren't too large
-abbrev pub MayAdd : Change → Cells → Type 0
-MayAdd Clear m = Unit {0}
-MayAdd (Add x y c) m = AreNear m
-MayAdd (Kill x) m = Unit {0}
-MayAdd (Shift x c) m = AreNear m
+abbrev pub IsRowNear : Cells → ℕ → Type 0
+IsRowNear m i = (j : ℕ) → j < m.n → is_near (constants_of m i j) ≡ true
+
+-- what a change adds up isn't outside -2^100 to 2^100
+abbrev pub ReadsNear : Change → Cells → ℕ → Type 0
+ReadsNear (Add x y c) m i = is_near (constants_of m i x) ≡ true
+ReadsNear (Kill x) m i = Unit {0}
+ReadsNear (Shift x c) m i = Unit {0}
+
+abbrev pub TurnsNear : Turn → Cells → ℕ → ℕ → Type 0
+TurnsNear (Reach y d f) m i j = is_near (constants_of m y j) ≡ true
+TurnsNear (Forget x) m i j = Unit {0}
+TurnsNear (Gain x c) m i j = is_near (constants_of m i j) ≡ true
+
+abbrev pub RowsNear : Change → Cells → ℕ → Type 0
+RowsNear (Add x y c) m i = IsRowNear m i × IsRowNear m y
+RowsNear (Kill x) m i = IsRowNear m i
+RowsNear (Shift x c) m i = IsRowNear m i
+
+-- a row that a new fact doesn't turn stays as it is
+abbrev pub Keeps : Change → Cells → ℕ → Type 0
+Keeps (Add x y c) m i = turn_of (Add x y c) m i ≡ None → (j : ℕ) → j < m.n → changed (Add x y c) m i j ≡ cell m i j
+Keeps (Kill x) m i = Unit {0}
+Keeps (Shift x c) m i = Unit {0}

@@ -4,11 +4,11 @@ use Rattle.std.specs.Prelude.{◌∷◌, ◌++◌, length}
 use Rattle.std.specs.List.{All}
 use Rattle.subsumption.specs.declared.fact.Fact.{Fact}
 use Rattle.subsumption.specs.Graphs.{fact_at, at_index}
-use Rattle.subsumption.specs.declared.matrix.Step.{Step}
+use Rattle.subsumption.specs.declared.row.Step.{Step}
 use Rattle.subsumption.specs.Facts.{Entails, HasOneEach, IsKept}
 use Rattle.subsumption.specs.Squares.{Cells}
 use Rattle.subsumption.specs.declared.matrix.Change.{Change}
-use Rattle.subsumption.specs.declared.matrix.Change.TheVariants.{Clear, Add, Kill, Shift}
+use Rattle.subsumption.specs.declared.matrix.Change.TheVariants.{Add, Kill, Shift}
 use Rattle.subsumption.specs.ClosedTables.{ClosedTable, Contradiction, Least, Pairs, Rows, rows_of, are_near, no_pairs, added, killed, raised, is_broken}
 use Rattle.subsumption.specs.TableLaws.{IsClosed}
 use Rattle.subsumption.specs.Matrices.{cell, cleared, constants_of, AreNear}
@@ -63,14 +63,12 @@ IsCleared m = (i j : ℕ) → i < m.n → j < m.n → cell m i j ≡ cleared i j
 
 -- what becomes of the constants
 abbrev pub pairs_after : Change → Pairs → Pairs
-pairs_after Clear t = no_pairs
 pairs_after (Add x y c) t = added x y c t
 pairs_after (Kill x) t = killed x t
 pairs_after (Shift x c) t = raised x c t
 
 -- a fact that is added can be met together with what is known
 abbrev pub IsMet : Change → Cells → Type 0
-IsMet Clear m = Unit {0}
 IsMet (Add x y c) m = is_broken (constants_of m y x) c ≡ false
 IsMet (Kill x) m = Unit {0}
 IsMet (Shift x c) m = Unit {0}

@@ -4,7 +4,7 @@ use Rattle.std.specs.Prelude.{[], ◌∷◌, ◌++◌, length, slice_index_or}
 use Rattle.std.specs.List.{All, Contains}
 use Rattle.subsumption.specs.declared.fact.Fact.{Fact}
 use Rattle.subsumption.specs.Graphs.{fact_at, IsWithin, at_index}
-use Rattle.subsumption.specs.declared.matrix.Step.{Step}
+use Rattle.subsumption.specs.declared.row.Step.{Step}
 use Rattle.subsumption.specs.Facts.{Entails, HasOneEach, IsKept, Meets, value_of}
 use Rattle.subsumption.specs.Squares.{Cells}
 use Rattle.subsumption.specs.ClosedTables.{sum_of, smaller_of}

@@ -109,7 +109,7 @@ impl Facts {
             return Ok(());
         }
         self.matrix
-            .apply(&Change::Add(node(fact.left), node(fact.right), fact.plus));
+            .add(self.alloc, node(fact.left), node(fact.right), fact.plus)?;
         Ok(())
     }
 
@@ -170,7 +170,7 @@ impl Facts {
             return Ok(());
         }
         if self.broken {
-            self.matrix.copy_from(&other.matrix);
+            self.matrix = other.matrix.copy(self.alloc)?;
             self.broken = false;
             return Ok(());
         }

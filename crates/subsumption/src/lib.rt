@@ -8,5 +8,6 @@ pub mod laws;
 mod matrix;
 mod numbers;
 mod relaxation;
+mod row;
 pub mod search;
 mod walks;

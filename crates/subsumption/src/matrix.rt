@@ -1,13 +1,15 @@
 // The constants of all pairs of nodes, and where their paths begin.
 
-ghost use Rattle.std.specs.Prelude.{◌≡◌, ◌<◌, ◌≤◌, ◌+◌, ◌*◌, ◌^◌, None, Some, cond, ◌==◌, ◌&&◌, ◌-ℤ◌, pos, true, replicate, IfOk, slice_set};
+ghost use Rattle.std.specs.Prelude.{ℕ, ◌≡◌, ◌<◌, ◌≤◌, ◌^◌, Some, cond, ◌==◌, ◌&&◌, ◌-ℤ◌, pos, true, replicate, IfOk, OnErr, OnOk};
 ghost use Rattle.subsumption.specs.Graphs.{IsWithin};
 ghost use Rattle.subsumption.specs.Distances.{is_near};
-ghost use Rattle.subsumption.specs.Squares.{Cells, IsSquare};
-ghost use Rattle.subsumption.specs.ClosedTables.{are_near, rows_of, sum_of, shared};
+ghost use Rattle.subsumption.specs.Squares.{is_open, line, no_line};
+ghost use Rattle.subsumption.specs.ClosedTables.{are_near, is_at_most, rows_of, shared, sum_of};
 ghost use Rattle.subsumption.specs.MatrixPaths.{IsCanonical, IsCleared, IsMet, guarded_rows, pairs_after};
-ghost use Rattle.subsumption.specs.Matrices.{cell, plus_of, first_of, constants_of, Puts, cleared, own, better_of, more_of, killed_step, changed, longer_step, joined_step, AreChanged, IsPlaced, IsSteady, ReadsNear, MayAdd, AreNear};
+ghost use Rattle.subsumption.specs.declared.matrix.Change.TheVariants.{Add};
+ghost use Rattle.subsumption.specs.Matrices.{AreChanged, Closes, HasRoom, IsPlaced, IsRowChanged, IsTurnPlaced, Keeps, Opens, Puts, ReadsNear, RowsNear, ShowsRow, TurnsNear, better_of, cell, changed, cleared, constants_of, joined_step, killed_step, longer_step, more_of, own, plus_of, turn_of, turned};
 
+use crate::row::{Row, Step};
 use ckc_text::fault::NoMemory;
 use std::alloc::Global;
 use std::marker::Model;
@@ -15,18 +17,9 @@ use std::marker::Model;
 /// The largest of the least constants; the smallest is its negative: 2^100.
 const MAX_CONSTANT: i128 = 1_267_650_600_228_229_401_496_703_205_376;
 
-/// A constant for two nodes, and the node that its path leads to first.
-#[derive(Clone, Copy)]
-pub struct Step {
-    pub plus: i128,
-    pub first: u32,
-}
-
 /// What becomes of all steps.
 #[derive(Drop)]
 pub enum Change {
-    /// No facts are left.
-    Clear,
     /// The first node is at most the second plus the constant.
     Add(usize, usize, i128),
     /// Nothing is known of the node any more.
@@ -35,12 +28,22 @@ pub enum Change {
     Shift(usize, i128),
 }
 
+/// What becomes of the steps from one node.
+#[derive(Drop)]
+enum Turn {
+    /// A path leads to the node with this constant, and to that node first.
+    Reach(usize, i128, u32),
+    /// Nothing is known of the node any more.
+    Forget(usize),
+    /// So much was added to the node.
+    Gain(usize, i128),
+}
+
 /// For each two of `n` nodes a step, where there is one.
 #[derive(Drop)]
 pub struct Matrix {
     n: usize,
-    constants: Vec<i128>,
-    firsts: Vec<Option<u32>>,
+    rows: Vec<Row>,
 }
 
 impl Model for Matrix {
@@ -48,59 +51,50 @@ impl Model for Matrix {
 
     ghost Value = { Cells };
 
-    ghost view = { λ m. record { n = m.n; constants = m.constants.items; firsts = m.firsts.items } };
+    ghost view = { λ m. record { n = m.n; rows = m.rows.items } };
 
-    ghost invariant = { λ m. IsSquare (record { n = m.n; constants = m.constants.items; firsts = m.firsts.items }) };
+    ghost invariant = { λ m. IsSquare (record { n = m.n; rows = m.rows.items }) };
+}
+
+/// Rows of nodes of which nothing is known.
+fn closed_rows(alloc: Global, n: usize) -> Result<Vec<Row>, NoMemory>
+    ensures { IfOk result (λ v. v.items ≡ replicate n no_line) }
+{
+    let mut rows = Vec::with_capacity(alloc, n)?;
+    for _i in 0..n {
+        rows.push(Row::new(alloc))?;
+    }
+    Ok(rows)
+}
+
+/// The same rows once more.
+fn copied_rows(alloc: Global, rows: &[Row]) -> Result<Vec<Row>, NoMemory>
+    ensures { IfOk result (λ v. v.items ≡ rows.now) }
+{
+    let mut copied = Vec::with_capacity(alloc, rows.len())?;
+    for row in rows {
+        copied.push(row.copy(alloc)?)?;
+    }
+    Ok(copied)
 }
 
 impl Matrix {
-    /// A matrix without steps.
-    fn empty(alloc: Global, n: usize) -> Result<Matrix, NoMemory>
-        requires { n ≤ 4097 }
-        ensures size { IfOk result (λ m. m.n ≡ n) }
-        ensures near { IfOk result AreNear }
-    {
-        let constants = vec![in alloc; 0; n * n]?;
-        let firsts = nowhere(alloc, n * n)?;
-        Ok(Matrix {
-            n,
-            constants,
-            firsts,
-        })
-    }
-
     /// The steps of so many nodes, of which nothing is known.
     pub fn new(alloc: Global, n: usize) -> Result<Matrix, NoMemory>
-        requires some { 0 < n }
-        requires few { n ≤ 4097 }
+        requires { n ≤ 4097 }
         ensures size { IfOk result (λ m. m.n ≡ n) }
         ensures cleared { IfOk result IsCleared }
     {
-        let mut matrix = Matrix::empty(alloc, n)?;
-        let _ = matrix.change(&Change::Clear);
-        Ok(matrix)
+        let rows = closed_rows(alloc, n)?;
+        Ok(Matrix { n, rows })
     }
 
     /// The same steps once more.
     pub fn copy(&self, alloc: Global) -> Result<Matrix, NoMemory>
         ensures { IfOk result (λ m. m ≡ self.now) }
     {
-        let constants = Vec::from_slice(alloc, self.constants.as_slice())?;
-        let firsts = Vec::from_slice(alloc, self.firsts.as_slice())?;
-        Ok(Matrix {
-            n: self.n,
-            constants,
-            firsts,
-        })
-    }
-
-    /// Takes over the steps of another matrix.
-    pub fn copy_from(&mut self, other: &Matrix)
-        requires { other.now.n ≡ self.old.n }
-        ensures { self.new ≡ other.now }
-    {
-        self.constants.copy_from_slice(other.constants.as_slice());
-        self.firsts.copy_from_slice(other.firsts.as_slice());
+        let rows = copied_rows(alloc, self.rows.as_slice())?;
+        Ok(Matrix { n: self.n, rows })
     }
 
     /// The number of nodes.
@@ -111,58 +105,50 @@ impl Matrix {
         self.n
     }
 
-    /// Where the step of two nodes stands.
-    fn place(&self, i: usize, j: usize) -> usize
-        requires i { i < self.now.n }
-        requires j { j < self.now.n }
-        ensures value { result ≡ i * self.now.n + j }
-        ensures below { result < self.now.n * self.now.n }
-        ensures square { IsSquare self.now }
-    {
-        i * self.n + j
-    }
-
     /// The step of two nodes.
     pub fn step(&self, i: usize, j: usize) -> Option<Step>
         requires i { i < self.now.n }
         requires j { j < self.now.n }
         ensures { result ≡ cell self.now i j }
     {
-        let place = self.place(i, j);
-        match self.firsts[place] {
-            None => None,
-            Some(first) => Some(Step {
-                plus: self.constants[place],
-                first,
-            }),
+        self.rows[i].step(i, j)
+    }
+
+    /// Whether more is known from a node than of it alone.
+    fn is_open(&self, i: usize) -> bool
+        requires { i < self.now.n }
+        ensures { result ≡ is_open (line self.now i) }
+    {
+        self.rows[i].is_open()
+    }
+
+    /// Makes room for steps from a node.
+    fn make_room(&mut self, alloc: Global, i: usize) -> Result<(), NoMemory>
+        requires { i < self.old.n }
+        ensures ok { OnOk result (Opens self.old i self.new) }
+        ensures err { OnErr result (self.new ≡ self.old) }
+    {
+        if !self.is_open(i) {
+            self.rows[i] = Row::alone(alloc, self.n, i)?;
         }
-    }
-
-    fn forget(&mut self, place: usize)
-        requires { place < self.old.n * self.old.n }
-        ensures { self.new ≡ record { n = self.old.n; constants = self.old.constants; firsts = slice_set self.old.firsts place None } }
-    {
-        self.firsts[place] = None;
-    }
-
-    fn write(&mut self, place: usize, step: Step)
-        requires { place < self.old.n * self.old.n }
-        ensures { self.new ≡ record { n = self.old.n; constants = slice_set self.old.constants place step.plus; firsts = slice_set self.old.firsts place (Some step.first) } }
-    {
-        self.constants[place] = step.plus;
-        self.firsts[place] = Some(step.first);
+        Ok(())
     }
 
     fn put(&mut self, i: usize, j: usize, step: Option<Step>)
         requires i { i < self.old.n }
         requires j { j < self.old.n }
+        requires ready { is_open (line self.old i) ≡ true }
         ensures { Puts self.old i j step self.new }
     {
-        let place = self.place(i, j);
-        match step {
-            None => self.forget(place),
-            Some(step) => self.write(place, step),
-        }
+        self.rows[i].put(j, step);
+    }
+
+    /// Forgets all that is known from a node.
+    fn close(&mut self, i: usize)
+        requires i { i < self.old.n }
+        ensures { Closes self.old i self.new }
+    {
+        self.rows[i].clear();
     }
 
     /// The step of two nodes once nothing is known of `x`.
@@ -183,125 +169,241 @@ impl Matrix {
         self.step(i, j)
     }
 
-    /// The step of two nodes once `x` is at most `y` plus `c`.
-    fn added(&self, x: usize, y: usize, c: i128, i: usize, j: usize) -> Option<Step>
+    /// What becomes of the steps from `i` once `x` is at most `y` plus `c`: nothing, where the path to `y` is no better. Then
+    /// no other path is.
+    fn reach(&self, x: usize, y: usize, c: i128, i: usize) -> Option<Turn>
         requires few { self.now.n ≤ 4097 }
         requires i { i < self.now.n }
-        requires j { j < self.now.n }
         requires x { x < self.now.n }
         requires y { y < self.now.n }
         requires c { IsWithin (2 ^ 66) c }
-        requires before { is_near (constants_of self.now i x) ≡ true }
-        requires behind { is_near (constants_of self.now y j) ≡ true }
-        ensures { result ≡ better_of (cell self.now i j) (sum_of (sum_of (constants_of self.now i x) (Some c)) (constants_of self.now y j)) (cond (i == x) y (first_of (cell self.now i x))) }
+        requires near { is_near (constants_of self.now i x) ≡ true }
+        ensures { result ≡ turn_of (Add x y c) self.now i }
     {
-        let before = self.step(i, x);
-        let constant = through(before, c, self.step(y, j));
-        better(self.step(i, j), constant, towards(i, x, y, before))
-    }
-
-    /// What a change makes of the step of two nodes.
-    fn changed(&self, change: &Change, i: usize, j: usize) -> Option<Step>
-        requires few { self.now.n ≤ 4097 }
-        requires i { i < self.now.n }
-        requires j { j < self.now.n }
-        requires placed { IsPlaced change.now self.now.n }
-        requires near { ReadsNear change.now self.now i j }
-        ensures { result ≡ changed change.now self.now i j }
-    {
-        match change {
-            Change::Clear => cleared(i, j),
-            Change::Add(x, y, c) => self.added(*x, *y, *c, i, j),
-            Change::Kill(x) => own(j, self.killed(*x, i, j)),
-            Change::Shift(x, c) => more(self.step(i, j), gain(i, j, *x, *c)),
+        match self.step(i, x) {
+            None => None,
+            Some(before) => {
+                let plus = before.plus + c;
+                if known(self.step(i, y), plus) {
+                    None
+                } else {
+                    let first = if i == x { y as u32 } else { before.first };
+                    Some(Turn::Reach(y, plus, first))
+                }
+            }
         }
     }
 
-    /// Changes the step at a place. Whether its constant isn't too large.
-    fn change_at(&mut self, change: &Change, at: Place) -> bool
-        requires few { self.old.n ≤ 4097 }
-        requires row { at.row < self.old.n }
-        requires column { at.column < self.old.n }
-        requires placed { IsPlaced change.now self.old.n }
-        requires near { ReadsNear change.now self.old at.row at.column }
-        ensures puts { Puts self.old at.row at.column (changed change.now self.old at.row at.column) self.new }
-        ensures near { result ≡ is_near (plus_of (changed change.now self.old at.row at.column)) }
+    /// What a change makes of the steps from a node, where it changes any.
+    fn turn(&self, change: &Change, i: usize) -> Option<Turn>
+        requires few { self.now.n ≤ 4097 }
+        requires i { i < self.now.n }
+        requires placed { IsPlaced change.now self.now.n }
+        requires near { ReadsNear change.now self.now i }
+        ensures { result ≡ turn_of change.now self.now i }
     {
-        let step = self.changed(change, at.row, at.column);
-        self.put(at.row, at.column, step);
+        match change {
+            Change::Add(x, y, c) => self.reach(*x, *y, *c, i),
+            Change::Kill(x) => {
+                if self.is_open(i) {
+                    Some(Turn::Forget(*x))
+                } else {
+                    None
+                }
+            }
+            Change::Shift(x, c) => {
+                if self.is_open(i) {
+                    Some(Turn::Gain(*x, *c))
+                } else {
+                    None
+                }
+            }
+        }
+    }
+
+    /// What a turn makes of the step of two nodes.
+    fn turned(&self, turn: &Turn, i: usize, j: usize) -> Option<Step>
+        requires few { self.now.n ≤ 4097 }
+        requires i { i < self.now.n }
+        requires j { j < self.now.n }
+        requires placed { IsTurnPlaced turn.now self.now.n }
+        requires near { TurnsNear turn.now self.now i j }
+        ensures { result ≡ turned turn.now self.now i j }
+    {
+        match turn {
+            Turn::Reach(y, plus, first) => {
+                better(self.step(i, j), through(*plus, self.step(*y, j)), *first)
+            }
+            Turn::Forget(x) => own(j, self.killed(*x, i, j)),
+            Turn::Gain(x, c) => more(self.step(i, j), gain(i, j, *x, *c)),
+        }
+    }
+
+    /// Turns a step. Whether its constant isn't too large.
+    fn turn_at(&mut self, turn: &Turn, i: usize, j: usize) -> bool
+        requires few { self.old.n ≤ 4097 }
+        requires i { i < self.old.n }
+        requires j { j < self.old.n }
+        requires ready { is_open (line self.old i) ≡ true }
+        requires placed { IsTurnPlaced turn.now self.old.n }
+        requires near { TurnsNear turn.now self.old i j }
+        ensures puts { Puts self.old i j (turned turn.now self.old i j) self.new }
+        ensures near { result ≡ is_near (plus_of (turned turn.now self.old i j)) }
+    {
+        let step = self.turned(turn, i, j);
+        self.put(i, j, step);
         near(step)
     }
 
-    /// Changes all steps. Whether no constant is too large.
-    pub fn change(&mut self, change: &Change) -> bool
-        requires some { 0 < self.old.n }
-        requires placed { IsPlaced change.now self.old.n }
-        requires steady { IsSteady change.now self.old }
-        requires near { MayAdd change.now self.old }
-        ensures changed { AreChanged (changed change.now self.old) self.old self.new }
-        ensures near { result ≡ are_near (rows_of self.old.n (constants_of self.new)) }
+    /// Turns all steps from a node. Whether no constant is too large.
+    fn turn_row(&mut self, turn: &Turn, i: usize) -> bool
+        requires i { i < self.old.n }
+        requires ready { is_open (line self.old i) ≡ true }
+        requires placed { IsTurnPlaced turn.now self.old.n }
+        requires near { (j : ℕ) → j < self.old.n → TurnsNear turn.now self.old i j }
+        ensures turned { IsRowChanged (turned turn.now self.old i) self.old self.new i self.old.n }
+        ensures near { ShowsRow result (turned turn.now self.old i) self.old.n }
     {
         let mut all_near = true;
-        let mut at = Place { row: 0, column: 0 };
         let n = self.size();
-        for _k in 0..n * n {
-            all_near = both(self.change_at(change, at), all_near);
-            at = at.next(n);
+        for j in 0..n {
+            all_near = both(self.turn_at(turn, i, j), all_near);
         }
         all_near
     }
 
-    /// Changes all steps. Where a constant is too large then, nothing is known any more.
-    pub fn apply(&mut self, change: &Change)
-        requires some { 0 < self.old.n }
+    /// Changes all steps from a node. Whether no constant is too large.
+    fn change_row(&mut self, change: &Change, i: usize) -> bool
+        requires few { self.old.n ≤ 4097 }
+        requires i { i < self.old.n }
+        requires placed { IsPlaced change.now self.old.n }
+        requires near { RowsNear change.now self.old i }
+        requires room { HasRoom change.now self.old i }
+        requires keeps { Keeps change.now self.old i }
+        ensures changed { IsRowChanged (changed change.now self.old i) self.old self.new i self.old.n }
+        ensures near { ShowsRow result (changed change.now self.old i) self.old.n }
+    {
+        match self.turn(change, i) {
+            None => true,
+            Some(turn) => self.turn_row(&turn, i),
+        }
+    }
+
+    /// Changes all steps. Whether no constant is too large.
+    fn change(&mut self, change: &Change) -> bool
         requires placed { IsPlaced change.now self.old.n }
         requires canonical { IsCanonical self.old }
         requires met { IsMet change.now self.old }
+        requires room { (i : ℕ) → HasRoom change.now self.old i }
+        ensures changed { AreChanged (changed change.now self.old) self.old self.new }
+        ensures near { result ≡ are_near (rows_of self.old.n (constants_of self.new)) }
+    {
+        let mut all_near = true;
+        let n = self.size();
+        for i in 0..n {
+            all_near = both(self.change_row(change, i), all_near);
+        }
+        all_near
+    }
+
+    /// Forgets all that is known.
+    fn clear(&mut self)
+        ensures { AreChanged cleared self.old self.new }
+    {
+        let n = self.size();
+        for i in 0..n {
+            self.close(i);
+        }
+    }
+
+    /// Changes all steps. Where a constant is too large then, nothing is known any more.
+    pub fn apply(&mut self, change: &Change)
+        requires placed { IsPlaced change.now self.old.n }
+        requires canonical { IsCanonical self.old }
+        requires met { IsMet change.now self.old }
+        requires room { (i : ℕ) → HasRoom change.now self.old i }
         ensures size { self.new.n ≡ self.old.n }
         ensures canonical { IsCanonical self.new }
         ensures table { rows_of self.new.n (constants_of self.new) ≡ guarded_rows self.old.n (pairs_after change.now (constants_of self.old)) }
     {
         if !self.change(change) {
-            let _ = self.change(&Change::Clear);
+            self.clear();
         }
     }
 
-    /// Puts the longer of two steps at a place. Whether its constant isn't too large.
-    fn join_at(&mut self, other: &Matrix, at: Place) -> bool
+    /// Adds that `x` is at most `y` plus `c`. Where a constant is too large then, nothing is known any more.
+    pub fn add(&mut self, alloc: Global, x: usize, y: usize, c: i128) -> Result<(), NoMemory>
+        requires placed { IsPlaced (Add x y c) self.old.n }
+        requires canonical { IsCanonical self.old }
+        requires met { IsMet (Add x y c) self.old }
+        ensures size { OnOk result (self.new.n ≡ self.old.n) }
+        ensures canonical { OnOk result (IsCanonical self.new) }
+        ensures table { OnOk result (rows_of self.new.n (constants_of self.new) ≡ guarded_rows self.old.n (pairs_after (Add x y c) (constants_of self.old))) }
+        ensures err { OnErr result (self.new ≡ self.old) }
+    {
+        self.make_room(alloc, x)?;
+        self.apply(&Change::Add(x, y, c));
+        Ok(())
+    }
+
+    /// Puts the longer of two steps at a place.
+    fn join_at(&mut self, other: &Matrix, i: usize, j: usize)
         requires few { self.old.n ≤ 4097 }
-        requires row { at.row < self.old.n }
-        requires column { at.column < self.old.n }
+        requires i { i < self.old.n }
+        requires j { j < self.old.n }
         requires same { other.now.n ≡ self.old.n }
-        ensures puts { Puts self.old at.row at.column (joined_step self.old other.now at.row at.column) self.new }
-        ensures near { result ≡ is_near (plus_of (joined_step self.old other.now at.row at.column)) }
+        requires ready { is_open (line self.old i) ≡ true }
+        ensures { Puts self.old i j (joined_step self.old other.now i j) self.new }
     {
-        let first = self.step(at.row, at.column);
-        let second = other.step(at.row, at.column);
-        let step = longer(at.column, first, second);
-        self.put(at.row, at.column, step);
-        near(step)
+        let step = longer(j, self.step(i, j), other.step(i, j));
+        self.put(i, j, step);
     }
 
-    /// Puts the longer of two steps everywhere. Whether no constant is too large.
-    fn join_all(&mut self, other: &Matrix) -> bool
-        requires some { 0 < self.old.n }
+    /// Puts the longer of two steps everywhere from a node.
+    fn join_each(&mut self, other: &Matrix, i: usize)
+        requires i { i < self.old.n }
         requires same { other.now.n ≡ self.old.n }
-        ensures changed { AreChanged (joined_step self.old other.now) self.old self.new }
-        ensures near { result ≡ are_near (rows_of self.old.n (constants_of self.new)) }
+        requires ready { is_open (line self.old i) ≡ true }
+        ensures { IsRowChanged (joined_step self.old other.now i) self.old self.new i self.old.n }
     {
-        let mut all_near = true;
-        let mut at = Place { row: 0, column: 0 };
         let n = self.size();
-        for _k in 0..n * n {
-            all_near = both(self.join_at(other, at), all_near);
-            at = at.next(n);
+        for j in 0..n {
+            self.join_at(other, i, j);
         }
-        all_near
+    }
+
+    /// Keeps what is known in both from a node.
+    fn join_row(&mut self, other: &Matrix, i: usize)
+        requires i { i < self.old.n }
+        requires same { other.now.n ≡ self.old.n }
+        requires own { constants_of self.old i i ≡ Some (pos 0) }
+        requires other { constants_of other.now i i ≡ Some (pos 0) }
+        ensures { IsRowChanged (joined_step self.old other.now i) self.old self.new i self.old.n }
+    {
+        if self.is_open(i) {
+            if other.is_open(i) {
+                self.join_each(other, i);
+            } else {
+                self.close(i);
+            }
+        }
+    }
+
+    /// Puts the longer of two steps everywhere.
+    fn join_all(&mut self, other: &Matrix)
+        requires same { other.now.n ≡ self.old.n }
+        requires canonical { IsCanonical self.old }
+        requires other { IsCanonical other.now }
+        ensures { AreChanged (joined_step self.old other.now) self.old self.new }
+    {
+        let n = self.size();
+        for i in 0..n {
+            self.join_row(other, i);
+        }
     }
 
     /// Keeps what is known in both.
     pub fn join(&mut self, other: &Matrix)
-        requires some { 0 < self.old.n }
         requires same { other.now.n ≡ self.old.n }
         requires canonical { IsCanonical self.old }
         requires other { IsCanonical other.now }
@@ -309,39 +411,17 @@ impl Matrix {
         ensures canonical { IsCanonical self.new }
         ensures table { rows_of self.new.n (constants_of self.new) ≡ guarded_rows self.old.n (shared (constants_of self.old) (constants_of other.now)) }
     {
-        if !self.join_all(other) {
-            let _ = self.change(&Change::Clear);
-        }
+        self.join_all(other);
     }
 }
 
-/// Where a step stands.
-#[derive(Clone, Copy)]
-struct Place {
-    row: usize,
-    column: usize,
-}
-
-impl Place {
-    /// The next place in rows of `n`.
-    fn next(&self, n: usize) -> Place
-        requires row { self.now.row < n }
-        requires column { self.now.column < n }
-        requires few { n ≤ 4097 }
-        ensures place { result.row * n + result.column ≡ self.now.row * n + self.now.column + 1 }
-        ensures column { result.column < n }
-    {
-        if self.column + 1 < n {
-            Place {
-                row: self.row,
-                column: self.column + 1,
-            }
-        } else {
-            Place {
-                row: self.row + 1,
-                column: 0,
-            }
-        }
+/// Whether a step's constant is at most this one.
+fn known(step: Option<Step>, plus: i128) -> bool
+    ensures { result ≡ is_at_most (plus_of step) plus }
+{
+    match step {
+        None => false,
+        Some(step) => step.plus <= plus,
     }
 }
 
@@ -349,28 +429,6 @@ fn both(a: bool, b: bool) -> bool
     ensures { result ≡ a && b }
 {
     a && b
-}
-
-/// Paths that lead nowhere.
-fn nowhere(alloc: Global, count: usize) -> Result<Vec<Option<u32>>, NoMemory>
-    ensures { IfOk result (λ v. v.items ≡ replicate count None) }
-{
-    Ok(vec![in alloc; None; count]?)
-}
-
-/// The step of two nodes where nothing is known.
-fn cleared(i: usize, j: usize) -> Option<Step>
-    requires { j < 4097 }
-    ensures { result ≡ cleared i j }
-{
-    if i == j {
-        Some(Step {
-            plus: 0,
-            first: j as u32,
-        })
-    } else {
-        None
-    }
 }
 
 /// A step that leads to `j` at once.
@@ -420,19 +478,15 @@ fn more(step: Option<Step>, gain: i128) -> Option<Step>
     }
 }
 
-/// The constant of a path through a fact with the constant `c`.
-fn through(before: Option<Step>, c: i128, behind: Option<Step>) -> Option<i128>
-    requires before { is_near (plus_of before) ≡ true }
+/// The constant of a path whose front has the constant `plus`.
+fn through(plus: i128, behind: Option<Step>) -> Option<i128>
+    requires plus { IsWithin (2 ^ 101) plus }
     requires behind { is_near (plus_of behind) ≡ true }
-    requires c { IsWithin (2 ^ 66) c }
-    ensures { result ≡ sum_of (sum_of (plus_of before) (Some c)) (plus_of behind) }
+    ensures { result ≡ sum_of (Some plus) (plus_of behind) }
 {
-    match before {
+    match behind {
         None => None,
-        Some(before) => match behind {
-            None => None,
-            Some(behind) => Some(before.plus + c + behind.plus),
-        },
+        Some(behind) => Some(plus + behind.plus),
     }
 }
 
@@ -452,20 +506,6 @@ fn better(step: Option<Step>, constant: Option<i128>, first: u32) -> Option<Step
                 }
             }
         },
-    }
-}
-
-/// Where a path to `x`, and from there to `y`, leads first.
-fn towards(i: usize, x: usize, y: usize, before: Option<Step>) -> u32
-    requires { y < 4097 }
-    ensures { result ≡ cond (i == x) y (first_of before) }
-{
-    if i == x {
-        return y as u32;
-    }
-    match before {
-        None => 0,
-        Some(step) => step.first,
     }
 }
 

@@ -9,8 +9,9 @@ ghost use Rattle.subsumption.specs.MatrixPaths.{IsCanonical};
 ghost use Rattle.subsumption.specs.MatrixWays.{Contradicts, GoesOn, IsWay, Reaches};
 
 use crate::fact::Fact;
-use crate::matrix::{Matrix, Step};
+use crate::matrix::Matrix;
 use crate::relaxation::node;
+use crate::row::Step;
 use ckc_text::fault::NoMemory;
 
 /// The node with a number.

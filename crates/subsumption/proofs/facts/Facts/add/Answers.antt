@@ -10,7 +10,7 @@ use Rattle.subsumption.specs.ClosedTables.{Contradiction, with_fact}
 use Rattle.subsumption.specs.MatrixPaths.{table_by}
 use Rattle.subsumption.proofs.KeptTables.{add_becomes, add_table, broken_more, contradicted, contradicted_among, contradicted_table, front_among, kept_after, named_below, view}
 use Rattle.subsumption.proofs.facts.Facts.add.Goals as goal
-use Rattle.subsumption.proofs.facts.Facts.add.Goals.{In_ok-contradiction, After-apply}
+use Rattle.subsumption.proofs.facts.Facts.add.Goals.{In_ok-contradiction, In_ok-add}
 
 -- a fact about terms whose variables are those of the table is about them
 about_terms : (t u : Table) (f g : Fact) → t ≡ u → f ≡ g → IsBelow u.vars g.left → IsBelow u.vars g.right → IsAbout t.vars f
@@ -36,6 +36,9 @@ returns-then-contradicts-clause-table c =
     let here = contradicted_table c.self.inside.vars c.self.inside.matrix f c.self.inside.path.items _ c.if-self.false c.self.invariant left right (sym c.contradicts.ensures ∙ c.if-contradicts.true) in
     subst (λ t. P t (fact_of c.args.a c.args.b)) c.self.view_is (subst (P (view c.self.inside.vars c.self.inside.broken c.self.inside.path.items c.self.inside.matrix)) c.fact_from-fact.ensures.value here)
 
+pub invariant_of-self-then-contradicts : goal.invariant_of-self-then-contradicts
+invariant_of-self-then-contradicts c = contradicted c.self.inside.vars c.self.inside.matrix c.fact_from-fact.result _ _ _ c.self.invariant c.in_ok-contradiction.ensures
+
 pub returns-then-contradicts-clause-ok : goal.returns-then-contradicts-clause-ok
 returns-then-contradicts-clause-ok c =
     let f = c.fact_from-fact.result in
@@ -55,7 +58,7 @@ returns-then-contradicts-clause-path c = λ e.
     (contradicted_among c.self.inside.matrix c.fact_from-fact.result _ c.self.inside.path.items _ c.if-self.false c.in_ok-contradiction.ensures))
 
 -- the table after a fact that can be met
-table_here : (c : After-apply) → table_by c.self.inside.broken c.apply.new.self ≡ with_fact c.self.inside.vars c.fact_from-fact.result (table_by c.self.inside.broken c.self.inside.matrix)
+table_here : (c : In_ok-add) → table_by c.self.inside.broken c.add.new.self ≡ with_fact c.self.inside.vars c.fact_from-fact.result (table_by c.self.inside.broken c.self.inside.matrix)
 table_here c =
     let f = c.fact_from-fact.result in
     let about : IsAbout c.self.inside.vars f = about_terms _ _ f _ c.self.view_is c.fact_from-fact.ensures.value c.requires.a_below c.requires.b_below in
@@ -63,18 +66,18 @@ table_here c =
     let right = named_below c.self.inside.vars c.self.inside.matrix f.right c.self.invariant.size about.right in
     let small : IsWithin (2 ^ 66) f.plus = c.fact_from-fact.ensures.small in
     let fits : FitsSigned w128 f.plus = search rules in
-    add_table c.self.inside.vars c.self.inside.path.items c.self.inside.matrix c.apply.new.self c.self.inside.broken f _ _ _ c.if-self.false c.self.invariant c.node.ensures c.node-2.ensures (to_z-of_z w128 f.plus fits) left right (sym c.contradicts.ensures ∙ c.if-contradicts.false) c.apply.ensures.table
+    add_table c.self.inside.vars c.self.inside.path.items c.self.inside.matrix c.add.new.self c.self.inside.broken f _ _ _ c.if-self.false c.self.invariant c.node.ensures c.node-2.ensures (to_z-of_z w128 f.plus fits) left right (sym c.contradicts.ensures ∙ c.if-contradicts.false) c.in_ok-add.ensures.table
 
 pub returns-clause-table : goal.returns-clause-table
 returns-clause-table c =
-    let P : Table → Fact → Type 0 = λ t f. table_by c.self.inside.broken c.apply.new.self ≡ with_fact t.vars f t.table in
+    let P : Table → Fact → Type 0 = λ t f. table_by c.self.inside.broken c.add.new.self ≡ with_fact t.vars f t.table in
     subst (λ t. P t (fact_of c.args.a c.args.b)) c.self.view_is (subst (P (view c.self.inside.vars c.self.inside.broken c.self.inside.path.items c.self.inside.matrix)) c.fact_from-fact.ensures.value (table_here c))
 
 pub returns-clause-ok : goal.returns-clause-ok
 returns-clause-ok c =
     let f = c.fact_from-fact.result in
     let about : IsAbout c.self.inside.vars f = about_terms _ _ f _ c.self.view_is c.fact_from-fact.ensures.value c.requires.a_below c.requires.b_below in
-    let after = kept_after _ _ _ _ _ c.if-self.false c.self.invariant c.apply.ensures.size c.apply.ensures.canonical in
-    let P : Table → Fact → Type 0 = λ t f. Becomes t (Entails (t.facts ++ f ∷ [])) (view c.self.inside.vars c.self.inside.broken c.self.inside.path.items c.apply.new.self) in
+    let after = kept_after _ _ _ _ _ c.if-self.false c.self.invariant c.in_ok-add.ensures.size c.in_ok-add.ensures.canonical in
+    let P : Table → Fact → Type 0 = λ t f. Becomes t (Entails (t.facts ++ f ∷ [])) (view c.self.inside.vars c.self.inside.broken c.self.inside.path.items c.add.new.self) in
     subst (λ t. P t (fact_of c.args.a c.args.b)) c.self.view_is (subst (P (view c.self.inside.vars c.self.inside.broken c.self.inside.path.items c.self.inside.matrix)) c.fact_from-fact.ensures.value
     (add_becomes _ _ _ _ _ _ _ c.self.invariant after f about (table_here c)))

@@ -1,57 +1,39 @@
-use Rattle.std.proofs.Common.{ℕ, ◌+◌, ◌*◌, ◌≤◌, ◌≡◌, Bool, Option, sym, subst, ◌∙◌, ap, arith}
-use Rattle.subsumption.specs.declared.matrix.Step.{Step}
-use Rattle.subsumption.specs.Matrices.{changed, plus_of, Puts}
-use Rattle.subsumption.specs.Distances.{is_near}
-use Rattle.subsumption.proofs.Matrices.{ShowsNear, changed_none, changed_more, changed_all, near_none, near_more, near_all, place_in, step_same, reads_near}
+use Rattle.std.proofs.Common.{ℕ, ◌+◌, ◌<◌, ◌≤◌, ◌≡◌, Bool, sym, subst, arith}
+use Rattle.subsumption.specs.Matrices.{changed}
+use Rattle.subsumption.proofs.MatrixSteps.{keeps_by, steady_by}
+use Rattle.subsumption.proofs.Matrices.{ShowsNear, changed_all, changed_more, keeps_on, near_all, near_by, near_to, room_on, row_by, rows_more, rows_near_on, step_same}
 use Rattle.subsumption.proofs.matrix.Matrix.change.Goals as goal
 
-pub loop-k-init : goal.loop-k-init
-loop-k-init c = record {
-  size = c.size-n.ensures.value;
-  here = omega arith;
-  column = (let e = c.size-n.ensures.value in let p = c.requires.some in omega (arith, e, p));
-  steps = changed_none (changed c.args.change.now c.args.self.now) c.args.self.now;
-  near = near_none (changed c.args.change.now c.args.self.now) c.args.self.now.n;
-}
+pub change_row-requires-clause-near : goal.change_row-requires-clause-near
+change_row-requires-clause-near c =
+    let lt : c.loop-i.i < c.args.self.now.n = (let size = c.size-n.ensures.value in let test = c.loop-i-test.true in omega (arith, size, test)) in
+    rows_near_on _ _ _ lt c.args.change.now c.requires.placed (steady_by _ c.args.self.now c.requires.canonical _ c.requires.placed c.requires.met) c.requires.canonical.near c.loop-i.invariant.steps
 
-pub change_at-requires-clause-near : goal.change_at-requires-clause-near
-change_at-requires-clause-near c =
-    let at = place_in _ _ _ _ _ c.loop-k.invariant.size c.loop-k.invariant.here c.loop-k.invariant.column c.loop-k-test.true in
-    reads_near _ _ _ _ _ _ c.requires.placed c.requires.steady c.requires.near c.loop-k.invariant.steps at.0 at.1 at.2
+pub change_row-requires-clause-room : goal.change_row-requires-clause-room
+change_row-requires-clause-room c =
+    let lt : c.loop-i.i < c.args.self.now.n = (let size = c.size-n.ensures.value in let test = c.loop-i-test.true in omega (arith, size, test)) in
+    room_on _ _ _ lt c.args.change.now (c.requires.room _) c.loop-i.invariant.steps
 
-pub change_at-requires-clause-row : goal.change_at-requires-clause-row
-change_at-requires-clause-row c =
-    let at = place_in _ _ _ _ _ c.loop-k.invariant.size c.loop-k.invariant.here c.loop-k.invariant.column c.loop-k-test.true in
-    let lt = at.0 in let e = c.loop-k.invariant.steps.size in omega (arith, lt, e)
+pub change_row-requires-clause-keeps : goal.change_row-requires-clause-keeps
+change_row-requires-clause-keeps c =
+    let lt : c.loop-i.i < c.args.self.now.n = (let size = c.size-n.ensures.value in let test = c.loop-i-test.true in omega (arith, size, test)) in
+    keeps_on _ _ _ lt c.args.change.now c.requires.placed (steady_by _ c.args.self.now c.requires.canonical _ c.requires.placed c.requires.met)
+    (keeps_by _ c.args.self.now c.requires.canonical _ c.requires.placed c.requires.met _ lt) c.loop-i.invariant.steps
 
-pub next-at-requires-clause-row : goal.next-at-requires-clause-row
-next-at-requires-clause-row c = (place_in _ _ _ _ _ c.loop-k.invariant.size c.loop-k.invariant.here c.loop-k.invariant.column c.loop-k-test.true).3
-
-pub loop-k-preserved : goal.loop-k-preserved
-loop-k-preserved c =
-    let at = place_in _ _ _ _ _ c.loop-k.invariant.size c.loop-k.invariant.here c.loop-k.invariant.column c.loop-k-test.true in
-    let same = step_same c.args.change.now c.args.self.now c.loop-k.self c.loop-k._k c.loop-k.at.row c.loop-k.at.column c.requires.placed c.requires.steady c.loop-k.invariant.steps at.0 at.1 at.2 in
-    let here = c.loop-k.invariant.here in
-    let next = c.next-at.ensures.place in
-    let near : c.change_at.result ≡ is_near (plus_of (changed c.args.change.now c.args.self.now c.loop-k.at.row c.loop-k.at.column)) = c.change_at.ensures.near ∙ ap (λ s. is_near (plus_of s)) same in
-    let P : Option Step → Type 0 = λ s. Puts c.loop-k.self c.loop-k.at.row c.loop-k.at.column s c.change_at.new.self in
-    let Q : Bool → Type 0 = λ b. ShowsNear b (changed c.args.change.now c.args.self.now) c.args.self.now.n (c.loop-k._k + 1) in
+pub loop-i-preserved : goal.loop-i-preserved
+loop-i-preserved c =
+    let lt : c.loop-i.i < c.args.self.now.n = (let size = c.size-n.ensures.value in let test = c.loop-i-test.true in omega (arith, size, test)) in
+    let size : c.loop-i.self.n ≡ c.args.self.now.n = c.loop-i.invariant.steps.size in
+    let below : (j : ℕ) → j < c.loop-i.self.n → j < c.args.self.now.n = λ j lj. subst (λ n. j < n) size lj in
+    let same : (j : ℕ) → j < c.args.self.now.n → changed c.args.change.now c.loop-i.self c.loop-i.i j ≡ changed c.args.change.now c.args.self.now c.loop-i.i j
+    = step_same _ _ _ lt c.args.change.now c.requires.placed (steady_by _ c.args.self.now c.requires.canonical _ c.requires.placed c.requires.met) c.loop-i.invariant.steps in
+    let Q : Bool → Type 0 = λ b. ShowsNear b (changed c.args.change.now c.args.self.now) c.args.self.now.n (c.loop-i.i + 1) in
     record {
-      size = c.loop-k.invariant.size;
-      here = omega (arith, here, next);
-      column = c.next-at.ensures.column;
-      steps = changed_more _ _ _ _ _ _ _ at.0 at.1 at.2 c.loop-k.invariant.steps (subst P same c.change_at.ensures.puts);
-      near = subst Q (sym c.both-all_near.ensures) (near_more _ _ _ _ _ _ _ at.0 at.1 at.2 near c.loop-k.invariant.near);
+      steps = changed_more _ _ _ _ _ c.loop-i.invariant.steps (row_by _ _ _ _ _ (λ j lj. same j (below j lj)) c.change_row.ensures.changed);
+      near = subst Q (sym c.both-all_near.ensures) (rows_more _ _ _ _ _ lt (near_by _ _ _ _ same (near_to _ _ _ _ size c.change_row.ensures.near)) c.loop-i.invariant.near);
     }
-
-pub returns-clause-changed : goal.returns-clause-changed
-returns-clause-changed c =
-    let e = c.size-n.ensures.value in
-    let P : ℕ → Type 0 = λ n. n * n ≤ c.loop-k._k in
-    changed_all _ _ _ _ (subst P e (let h = c.loop-k-test.false in omega (arith, h))) c.loop-k.invariant.steps
 
 pub returns-clause-near : goal.returns-clause-near
 returns-clause-near c =
-    let e = c.size-n.ensures.value in
-    let P : ℕ → Type 0 = λ n. n * n ≤ c.loop-k._k in
-    near_all _ _ _ _ _ (subst P e (let h = c.loop-k-test.false in omega (arith, h))) (returns-clause-changed c) c.loop-k.invariant.near
+    let all : c.args.self.now.n ≤ c.loop-i.i = (let size = c.size-n.ensures.value in let test = c.loop-i-test.false in omega (arith, size, test)) in
+    near_all _ _ _ _ _ all (changed_all _ _ _ _ all c.loop-i.invariant.steps) c.loop-i.invariant.near
