@@ -1,6 +1,7 @@
 -- Steps that were put into a matrix, row by row.
 use Rattle.std.proofs.Common.{ℕ, cond, ◌==◌, ◌-ℤ◌, ◌+ℤ◌, ◌+◌, ◌^◌, ◌<◌, ◌≤◌, ◌≡◌, ◌≢◌, ℤ, pos, Option, None, Some, length, get_or, replicate, refl, sym, ◌∙◌, ap, subst, arith, inl, inr, Bool, true, false}
-use Rattle.std.specs.Prelude.{slice_set, not, ◌&&◌}
+use Rattle.std.specs.Prelude.{slice_set, not, nat_lt, ◌&&◌}
+use Rattle.subsumption.specs.declared.matrix.Columns.{Columns}
 use Rattle.std.proofs.lemmas.Int.{ints}
 use Rattle.std.proofs.lemmas.List.{get_or-set_same, get_or-set_other, get_or-replicate, length-set, length-replicate}
 use Rattle.std.proofs.lemmas.Bool.{cases_eq, cases_lt}
@@ -14,7 +15,7 @@ use Rattle.subsumption.specs.declared.matrix.Change.TheVariants.{Add, Kill, Shif
 use Rattle.subsumption.specs.declared.matrix.Turn.{Turn}
 use Rattle.subsumption.specs.declared.matrix.Turn.TheVariants.{Reach, Forget, Gain}
 use Rattle.subsumption.specs.ClosedTables.{are_near, is_at_most, rows_of, sum_of}
-use Rattle.subsumption.specs.Matrices.{AreChanged, AreNear, HasRoom, IsChanged, IsPlaced, IsRowChanged, IsSteady, IsTurnPlaced, Keeps, Opens, Puts, RowsNear, ShowsRow, TurnsNear, alone, better_of, cell, changed, cleared, constants_of, first_of, joined_step, killed_step, line_cell, longer_step, more_of, own, plus_of, reach_of, step_of, turn_of, turned}
+use Rattle.subsumption.specs.Matrices.{AreColumns, LeavesOut, Spares, columns_of, with_column, AreChanged, AreNear, HasRoom, IsChanged, IsPlaced, IsRowChanged, IsSteady, IsTurnPlaced, Keeps, Opens, Puts, RowsNear, ShowsRow, TurnsNear, alone, better_of, cell, changed, cleared, constants_of, first_of, joined_step, killed_step, line_cell, longer_step, more_of, own, plus_of, reach_of, step_of, turn_of, turned}
 use Rattle.subsumption.proofs.TableSteps.{rows_near, near_rows}
 use Rattle.subsumption.proofs.MatrixNumbers.{near_within}
 
@@ -87,6 +88,18 @@ row_more new m now next i k lk h puts = record {
     below : (j : ℕ) → j < m.n → j < now.n
     below j lj = subst (λ n. j < n) (sym h.size) lj
 
+-- what the new steps leave as it is
+pub row_skip : (new : ℕ → Option Step) (m now : Cells) (i k n : ℕ) → IsRowChanged new m now i k → k ≤ n → ((j : ℕ) → j < m.n → k ≤ j → j < n → new j ≡ cell m i j) → IsRowChanged new m now i n
+row_skip new m now i k n h le same = record {
+  size = h.size;
+  done = λ j lj lt. elim (cases_lt j k) [ inl before ↦ h.done j lj before | inr ge ↦ h.left j lj ge ∙ sym (same j lj ge lt) ];
+  left = λ j lj ge. h.left j lj (omega (arith, le, ge));
+  others = h.others;
+}
+
+pub row_start : (new : ℕ → Option Step) (m : Cells) (i k : ℕ) → ((j : ℕ) → j < m.n → j < k → new j ≡ cell m i j) → IsRowChanged new m m i k
+row_start new m i k same = record { size = refl; done = λ j lj lt. sym (same j lj lt); left = λ j lj le. refl; others = λ a ne. refl }
+
 -- a row that is as the new steps say
 pub row_same : (new : ℕ → Option Step) (m : Cells) (i : ℕ) → ((j : ℕ) → j < m.n → new j ≡ cell m i j) → IsRowChanged new m m i m.n
 row_same new m i same = record { size = refl; done = λ j lj lt. sym (same j lj); left = λ j lj le. refl; others = λ a ne. refl }
@@ -104,6 +117,11 @@ near_more new k true true e h = λ j lt. elim (cases_eq j k) [
 near_more new k false true e h = (k, omega arith, sym e)
 near_more new k true false e (j, lt, far) = (j, omega (arith, lt), far)
 near_more new k false false e (j, lt, far) = (j, omega (arith, lt), far)
+
+-- those that stay as they are don't count
+pub near_skip : (new : ℕ → Option Step) (k n : ℕ) (b : Bool) → k ≤ n → ((j : ℕ) → k ≤ j → j < n → is_near (plus_of (new j)) ≡ true) → ShowsRow b new k → ShowsRow b new n
+near_skip new k n true le near h = λ j lt. elim (cases_lt j k) [ inl before ↦ h j before | inr ge ↦ near j ge lt ]
+near_skip new k n false le near (j, lt, far) = (j, omega (arith, lt, le), far)
 
 pub near_to : (new : ℕ → Option Step) (k n : ℕ) (b : Bool) → k ≡ n → ShowsRow b new k → ShowsRow b new n
 near_to new k n b e h = subst (ShowsRow b new) e h
@@ -265,13 +283,54 @@ module _ (m : Cells) (i : ℕ) where
       let none = closed_cell (line m i) i j (shut (Gain x c) (is_open (line m i)) e) in
       ap (λ s. more_of s (cond (i == x) c (pos 0) -ℤ cond (j == x) c (pos 0))) none ∙ (shift_shut x c j (i == j) refl ∙ sym none)
 
-  row_near : (change : Change) → RowsNear change m i → (j : ℕ) → j < m.n → is_near (constants_of m i j) ≡ true
+  pub row_near : (change : Change) → RowsNear change m i → (j : ℕ) → j < m.n → is_near (constants_of m i j) ≡ true
   row_near (Add x y c) near = near.0
   row_near (Kill x) near = near
   row_near (Shift x c) near = near
 
   pub kept_near : (change : Change) → RowsNear change m i → Keeps change m i → turn_of change m i ≡ None → ShowsRow true (changed change m i) m.n
   kept_near change near keeps e = λ j lj. ap (λ s. is_near (plus_of s)) (turn_kept change keeps e j lj) ∙ row_near change near j lj
+
+  -- a turn leaves as it is what the change leaves
+  pub turn_spares : (change : Change) (t : Turn) (columns : Columns) → turn_of change m i ≡ Some t → Spares (changed change m i) m i columns → Spares (turned t m i) m i (columns_of t i columns)
+  turn_spares change t columns e spares = by t (λ j lj out. turned_is change t j e ∙ spares j lj out)
+    where
+      by : (t : Turn) → Spares (turned t m i) m i columns → Spares (turned t m i) m i (columns_of t i columns)
+      by (Reach y d f) h = h
+      by (Forget x) h = h
+      by (Gain x c) h = narrow (x == i) (nat_lt x columns.to) refl
+        where
+          own_gain : (j : ℕ) (o : Option Step) (p q : Bool) → p ≡ false → q ≡ false → more_of o (cond p c (pos 0) -ℤ cond q c (pos 0)) ≡ o
+          own_gain j None p q e f = refl
+          own_gain j (Some s) p q e f = subst (λ p. more_of (Some s) (cond p c (pos 0) -ℤ cond q c (pos 0)) ≡ Some s) (sym e) (subst (λ q. more_of (Some s) (pos 0 -ℤ cond q c (pos 0)) ≡ Some s) (sym f) (
+              let none : s.plus +ℤ (pos 0 -ℤ pos 0) ≡ s.plus = omega (arith, ints) in ap (λ d. Some (record { plus = d; first = s.first })) none))
+
+          apart : (a b : ℕ) → a ≢ b → (a == b) ≡ false
+          apart a b ne = test (a == b) refl
+            where
+              test : (r : Bool) → (a == b) ≡ r → r ≡ false
+              test true e = absurd (ne (grind (arith, nat_tests)))
+              test false e = refl
+
+          narrow : (p q : Bool) → (x == i) ≡ p → Spares (turned (Gain x c) m i) m i (cond (not p && q) (record { from = x; to = x + 1 }) columns)
+          narrow true q e = h
+          narrow false false e = h
+          narrow false true e = λ j lj out.
+              let ne : x ≢ i = λ same. absurd (grind (arith, nat_tests)) in
+              let beside : j ≢ x = elim out [ inl lt ↦ (λ same. absurd (omega (arith, lt, same))) | inr ge ↦ (λ same. absurd (omega (arith, ge, same))) ] in
+              own_gain j (cell m i j) (i == x) (j == x) (apart i x (λ same. ne (sym same))) (apart j x beside)
+
+  pub turn_to : (t : Turn) (columns : Columns) → AreColumns m.n columns → AreColumns m.n (columns_of t i columns)
+  turn_to (Reach y d f) columns h = h
+  turn_to (Forget x) columns h = h
+  turn_to (Gain x c) columns h = by (x == i) (nat_lt x columns.to) refl
+    where
+      by : (p q : Bool) → nat_lt x columns.to ≡ q → AreColumns m.n (cond (not p && q) (record { from = x; to = x + 1 }) columns)
+      by true q e = h
+      by false false e = h
+      by false true e =
+          let lt : x < columns.to = grind (arith, nat_tests) in
+          let le = h.1 in (omega (arith, lt, le), omega (arith, lt, le))
 
 -- what a turn reads stays as it is while its row is turned
 pub turned_same : (t : Turn) (m now : Cells) (i k : ℕ) → k < m.n → IsTurnPlaced t m.n → IsRowChanged (turned t m i) m now i k → turned t now i k ≡ turned t m i k
@@ -322,6 +381,11 @@ module _ (m now : Cells) (k : ℕ) (lk : k < m.n) where
   room_on (Kill x) room h = tt
   room_on (Shift x c) room h = tt
 
+  pub spares_on : (change : Change) (columns : Columns) → IsPlaced change m.n → IsSteady change m → Spares (changed change m k) m k columns → IsChanged (changed change m) m now k → Spares (changed change now k) now k columns
+  spares_on change columns placed steady spares h = λ j lj out.
+      let below = subst (λ n. j < n) h.size lj in
+      step_same change placed steady h j below ∙ (spares j below out ∙ sym (kept_row (changed change m) h j))
+
   pub keeps_on : (change : Change) → IsPlaced change m.n → IsSteady change m → Keeps change m k → IsChanged (changed change m) m now k → Keeps change now k
   keeps_on (Add x y c) placed steady keeps h = λ e j lj.
       let below = subst (λ n. j < n) h.size lj in
@@ -337,3 +401,27 @@ join_same m now other i k lk h = ap (λ s. longer_step k s (cell other i k)) (h.
 
 pub joined_same : (m now other : Cells) (k : ℕ) → k < m.n → IsChanged (joined_step m other) m now k → (j : ℕ) → joined_step now other k j ≡ joined_step m other k j
 joined_same m now other k lk h j = ap (λ s. longer_step j s (cell other k j)) (kept_row m now k lk (joined_step m other) h j)
+
+-- ---- columns
+
+pub left_more : (test : ℕ → Bool) (k : ℕ) (columns : Columns) (b : Bool) → test k ≡ b → columns.to ≤ k → LeavesOut test k columns → LeavesOut test (k + 1) (cond b (with_column columns k) columns)
+left_more test k columns false e le h = λ j lj out. elim (cases_eq j k) [ inl same ↦ subst (λ j. test j ≡ false) (sym same) e | inr ne ↦ h j (omega arith) out ]
+left_more test k columns true e le h = by (nat_lt columns.from k) refl
+  where
+    by : (b : Bool) → nat_lt columns.from k ≡ b → LeavesOut test (k + 1) (record { from = cond b columns.from k; to = k + 1 })
+    by true f = λ j lj out. elim out [
+      | inl lt ↦ (let from : columns.from < k = grind (arith, nat_tests) in h j (omega (arith, lt, from)) (inl lt))
+      | inr ge ↦ absurd (omega (arith, lj, ge))
+    ]
+    by false f = λ j lj out. elim out [
+      | inl lt ↦ (let from : k ≤ columns.from = grind (arith, nat_tests) in h j lt (inl (omega (arith, lt, from))))
+      | inr ge ↦ absurd (omega (arith, lj, ge))
+    ]
+
+pub columns_more : (n k : ℕ) (columns : Columns) (b : Bool) → k ≤ n → columns.from ≤ n → columns.to ≤ k → ((cond b (with_column columns k) columns).from ≤ n) × ((cond b (with_column columns k) columns).to ≤ k + 1)
+columns_more n k columns false le from to = (from, omega (arith, to))
+columns_more n k columns true le from to = (by (nat_lt columns.from k), omega arith)
+  where
+    by : (b : Bool) → cond b columns.from k ≤ n
+    by true = from
+    by false = le

@@ -11,7 +11,9 @@ use Rattle.subsumption.specs.declared.matrix.Change.TheVariants.{Add, Kill, Shif
 use Rattle.subsumption.specs.Squares.{Cells}
 use Rattle.subsumption.specs.ClosedTables.{AtMost, Pairs, is_at_most, no_pairs, sum_of, smaller_of, added, killed, raised, shared, is_broken, rows_of, are_near}
 use Rattle.subsumption.specs.TableLaws.{IsClosed}
-use Rattle.subsumption.specs.Matrices.{cell, plus_of, first_of, constants_of, own, better_of, more_of, cleared, killed_step, changed, longer_step, joined_step, reach_of, turn_of, AreChanged, IsPlaced, IsSteady, Keeps, Opens, AreNear}
+use Rattle.subsumption.specs.Matrices.{cell, plus_of, first_of, constants_of, own, better_of, more_of, cleared, killed_step, changed, longer_step, joined_step, lowers, lowers_by, reach_of, turn_of, AreChanged, AreColumnsOf, IsPlaced, IsSteady, Keeps, Opens, Spares, AreNear}
+use Rattle.subsumption.specs.declared.matrix.Columns.{Columns}
+use Rattle.std.specs.Prelude.{not}
 use Rattle.subsumption.specs.declared.matrix.Turn.TheVariants.{Reach}
 use Rattle.subsumption.specs.MatrixPaths.{HasPaths, IsCanonical, IsCleared, IsMet, guarded_rows, pairs_after}
 use Rattle.subsumption.proofs.TableConstants.{at_most_from, at_most_up, le_from, lt_of}
@@ -286,6 +288,22 @@ module _ (m : Cells) (x y : ℕ) (c : ℤ) (lx : x < m.n) (ly : y < m.n) (closed
           by true q r = at_most_from (t i y) (s.plus +ℤ c) q
           by false q r = absurd (cc)
 
+  -- where x comes no nearer to a node, none does
+  pub column_kept : (j : ℕ) → j < m.n → lowers x y c m j ≡ false → (i : ℕ) → i < m.n → new i j ≡ cell m i j
+  column_kept j lj e i li = kept i j (λ b.
+      b.lower (at_most_up (t i j) (b.before +ℤ (c +ℤ b.behind)) ((b.before +ℤ c) +ℤ b.behind)
+      (closed.triangle i x j b.before (c +ℤ b.behind) li lx lj (at_some (t i x) b.before b.to) (no_lower (cell m y j) e b.behind b.from)) (omega (arith, ints))))
+    where
+      no_lower : (o : Option Step) → lowers_by o c (t x j) ≡ false → (d : ℤ) → plus_of o ≡ Some d → AtMost (t x j) (c +ℤ d)
+      no_lower None e d f = absurd (cc)
+      no_lower (Some s) e d f =
+          let same : s.plus ≡ d = cc in
+          subst (λ d. AtMost (t x j) (c +ℤ d)) same (by (is_at_most (t x j) (c +ℤ s.plus)) refl e)
+        where
+          by : (b : Bool) → is_at_most (t x j) (c +ℤ s.plus) ≡ b → not b ≡ false → AtMost (t x j) (c +ℤ s.plus)
+          by true q r = at_most_from (t x j) (c +ℤ s.plus) q
+          by false q r = absurd (cc)
+
   module _ (paths : HasPaths m) where
     rank_by : (i j : ℕ) → Better i j ⊎ (Better i j → ⊥) → ℕ
     rank_by i j (inl b) = suc (paths.rank y j + paths.rank i x)
@@ -496,6 +514,11 @@ module _ (m new : Cells) (canonical : IsCanonical m) where
   keeps_by (Add x y c) placed met i li = row_kept m x y c placed.0 placed.1 canonical.closed met i li
   keeps_by (Kill x) placed met i li = tt
   keeps_by (Shift x c) placed met i li = tt
+
+  pub spares_by : (change : Change) (columns : Columns) → IsPlaced change m.n → IsMet change m → AreColumnsOf change m columns → (i : ℕ) → i < m.n → Spares (changed change m i) m i columns
+  spares_by (Add x y c) columns placed met others i li = λ j lj out. column_kept m x y c placed.0 placed.1 canonical.closed met j lj (others j lj out) i li
+  spares_by (Kill x) columns placed met others i li = λ j lj out. absurd (others j lj out)
+  spares_by (Shift x c) columns placed met others i li = λ j lj out. absurd (others j lj out)
 
   -- where each step of what was made leads to its node at once
   own_after : (f : ℕ → ℕ → Option Step) → AreChanged f m new → IsClosed new.n (constants_of new) → ((i j : ℕ) (s : Step) → f i j ≡ Some s → s.first ≡ j) → HasPaths new

@@ -1,11 +1,12 @@
 -- Matrices of steps (*inside*): for each two nodes a constant and the node that its path leads to first, where there is one.
-use Rattle.std.specs.Prelude.{ℕ, ◌^◌, ◌<◌, ◌≤◌, ◌≡◌, ◌≢◌, ◌==◌, ℤ, pos, ◌+ℤ◌, ◌-ℤ◌, Bool, true, false, cond, Option, None, Some, slice_index_or, slice_set, replicate}
+use Rattle.std.specs.Prelude.{ℕ, ◌+◌, ◌^◌, ◌<◌, ◌≤◌, ◌≡◌, ◌≢◌, ◌⊎◌, ◌==◌, ◌&&◌, not, nat_lt, ℤ, pos, ◌+ℤ◌, ◌-ℤ◌, Bool, true, false, cond, Option, None, Some, slice_index_or, slice_set, replicate}
 use Rattle.std.specs.Int.Signed.{le_z}
 use Rattle.subsumption.specs.Graphs.{IsWithin}
 use Rattle.subsumption.specs.Distances.{is_near}
 use Rattle.subsumption.specs.declared.row.Step.{Step}
 use Rattle.subsumption.specs.declared.matrix.Change.{Change}
 use Rattle.subsumption.specs.declared.matrix.Change.TheVariants.{Add, Kill, Shift}
+use Rattle.subsumption.specs.declared.matrix.Columns.{Columns}
 use Rattle.subsumption.specs.declared.matrix.Turn.{Turn}
 use Rattle.subsumption.specs.declared.matrix.Turn.TheVariants.{Reach, Forget, Gain}
 use Rattle.subsumption.specs.Squares.{Cells, Line, is_open, line, no_line}
@@ -137,6 +138,46 @@ abbrev pub turn_of : Change → Cells → ℕ → Option Turn
 turn_of (Add x y c) m i = reach_of (cell m i x) c (constants_of m i y) y (i == x)
 turn_of (Kill x) m i = cond (is_open (line m i)) (Some (Forget x)) None
 turn_of (Shift x c) m i = cond (is_open (line m i)) (Some (Gain x c)) None
+
+-- x comes nearer to j once x is at most y + c
+abbrev pub lowers_by : Option Step → ℤ → Option ℤ → Bool
+lowers_by None c e = false
+lowers_by (Some s) c e = not (is_at_most e (c +ℤ s.plus))
+
+abbrev pub lowers : ℕ → ℕ → ℤ → Cells → ℕ → Bool
+lowers x y c m j = lowers_by (cell m y j) c (constants_of m x j)
+
+-- the columns and j, which stands behind them
+abbrev pub with_column : Columns → ℕ → Columns
+with_column columns j = record { from = cond (nat_lt columns.from j) columns.from j; to = j + 1 }
+
+-- columns of so many nodes
+abbrev pub AreColumns : ℕ → Columns → Type 0
+AreColumns n columns = (columns.from ≤ n) × (columns.to ≤ n)
+
+-- the column isn't one of these
+abbrev pub IsOutside : Columns → ℕ → Type 0
+IsOutside columns j = (j < columns.from) ⊎ (columns.to ≤ j)
+
+-- of the first k columns the test holds in these alone
+abbrev pub LeavesOut : (ℕ → Bool) → ℕ → Columns → Type 0
+LeavesOut test k columns = (j : ℕ) → j < k → IsOutside columns j → test j ≡ false
+
+-- outside of these columns a change leaves all as it is
+abbrev pub AreColumnsOf : Change → Cells → Columns → Type 0
+AreColumnsOf (Add x y c) m columns = LeavesOut (lowers x y c m) m.n columns
+AreColumnsOf (Kill x) m columns = (j : ℕ) → j < m.n → IsOutside columns j → ⊥
+AreColumnsOf (Shift x c) m columns = (j : ℕ) → j < m.n → IsOutside columns j → ⊥
+
+-- outside of these columns the new steps from i are those of before
+abbrev pub Spares : (ℕ → Option Step) → Cells → ℕ → Columns → Type 0
+Spares new m i columns = (j : ℕ) → j < m.n → IsOutside columns j → new j ≡ cell m i j
+
+-- where a gain is that of another node, the columns are those of that one
+abbrev pub columns_of : Turn → ℕ → Columns → Columns
+columns_of (Reach y d f) i columns = columns
+columns_of (Forget x) i columns = columns
+columns_of (Gain x c) i columns = cond (not (x == i) && nat_lt x columns.to) (record { from = x; to = x + 1 }) columns
 
 -- the steps of the first k nodes are the new ones
 pub record IsChanged (new : ℕ → ℕ → Option Step) (start now : Cells) (k : ℕ) : Type 0 where

@@ -7,7 +7,7 @@ ghost use Rattle.subsumption.specs.Squares.{is_open, line, no_line};
 ghost use Rattle.subsumption.specs.ClosedTables.{are_near, is_at_most, rows_of, shared, sum_of};
 ghost use Rattle.subsumption.specs.MatrixPaths.{IsCanonical, IsCleared, IsMet, guarded_rows, pairs_after};
 ghost use Rattle.subsumption.specs.declared.matrix.Change.TheVariants.{Add};
-ghost use Rattle.subsumption.specs.Matrices.{AreChanged, Closes, HasRoom, IsPlaced, IsRowChanged, IsTurnPlaced, Keeps, Opens, Puts, ReadsNear, RowsNear, ShowsRow, TurnsNear, better_of, cell, changed, cleared, constants_of, joined_step, killed_step, longer_step, more_of, own, plus_of, turn_of, turned};
+ghost use Rattle.subsumption.specs.Matrices.{AreChanged, AreColumns, AreColumnsOf, AreNear, Closes, HasRoom, IsPlaced, IsRowChanged, IsRowNear, IsTurnPlaced, Keeps, LeavesOut, Opens, Puts, ReadsNear, RowsNear, ShowsRow, Spares, TurnsNear, better_of, cell, changed, cleared, columns_of, constants_of, joined_step, killed_step, longer_step, lowers, lowers_by, more_of, own, plus_of, turn_of, turned, with_column};
 
 use crate::row::{Row, Step};
 use ckc_text::fault::NoMemory;
@@ -37,6 +37,40 @@ enum Turn {
     Forget(usize),
     /// So much was added to the node.
     Gain(usize, i128),
+}
+
+impl Turn {
+    /// Of these columns those in which the turn changes a step from the node.
+    fn columns(&self, i: usize, columns: Columns) -> Columns
+        requires { AreColumns 4097 columns }
+        ensures { result ≡ columns_of self.now i columns }
+    {
+        match self {
+            Turn::Gain(x, _) if *x != i && *x < columns.to => Columns {
+                from: *x,
+                to: *x + 1,
+            },
+            _ => columns,
+        }
+    }
+}
+
+/// The columns from one on, and up to another.
+#[derive(Clone, Copy)]
+struct Columns {
+    from: usize,
+    to: usize,
+}
+
+impl Columns {
+    /// The same columns and one behind them.
+    fn with(&self, j: usize) -> Columns
+        requires { j < 4097 }
+        ensures { result ≡ with_column self.now j }
+    {
+        let from = if self.from < j { self.from } else { j };
+        Columns { from, to: j + 1 }
+    }
 }
 
 /// For each two of `n` nodes a step, where there is one.
@@ -221,6 +255,56 @@ impl Matrix {
         }
     }
 
+    /// The columns and the next one, where `x` comes nearer to that.
+    fn widened(&self, columns: Columns, x: usize, y: usize, c: i128, j: usize) -> Columns
+        requires few { self.now.n ≤ 4097 }
+        requires x { x < self.now.n }
+        requires y { y < self.now.n }
+        requires j { j < self.now.n }
+        requires c { IsWithin (2 ^ 66) c }
+        requires near { is_near (constants_of self.now y j) ≡ true }
+        ensures { result ≡ cond (lowers x y c self.now j) (with_column columns j) columns }
+    {
+        if is_nearer(self.step(y, j), c, self.step(x, j)) {
+            columns.with(j)
+        } else {
+            columns
+        }
+    }
+
+    /// The columns in which `x` comes nearer to a node once it is at most `y` plus `c`.
+    fn lowered(&self, x: usize, y: usize, c: i128) -> Columns
+        requires x { x < self.now.n }
+        requires y { y < self.now.n }
+        requires c { IsWithin (2 ^ 66) c }
+        requires near { IsRowNear self.now y }
+        ensures columns { AreColumns self.now.n result }
+        ensures others { LeavesOut (lowers x y c self.now) self.now.n result }
+    {
+        let n = self.size();
+        let mut columns = Columns { from: n, to: 0 };
+        for j in 0..n {
+            columns = self.widened(columns, x, y, c, j);
+        }
+        columns
+    }
+
+    /// The columns in which a change changes any step.
+    fn columns(&self, change: &Change) -> Columns
+        requires placed { IsPlaced change.now self.now.n }
+        requires near { AreNear self.now }
+        ensures columns { AreColumns self.now.n result }
+        ensures others { AreColumnsOf change.now self.now result }
+    {
+        match change {
+            Change::Add(x, y, c) => self.lowered(*x, *y, *c),
+            _ => Columns {
+                from: 0,
+                to: self.n,
+            },
+        }
+    }
+
     /// What a turn makes of the step of two nodes.
     fn turned(&self, turn: &Turn, i: usize, j: usize) -> Option<Step>
         requires few { self.now.n ≤ 4097 }
@@ -255,37 +339,42 @@ impl Matrix {
         near(step)
     }
 
-    /// Turns all steps from a node. Whether no constant is too large.
-    fn turn_row(&mut self, turn: &Turn, i: usize) -> bool
+    /// Turns the steps from a node in some columns, where it leaves the others as they are. Whether no constant is too large.
+    fn turn_row(&mut self, turn: &Turn, i: usize, columns: Columns) -> bool
         requires i { i < self.old.n }
+        requires columns { AreColumns self.old.n columns }
+        requires spares { Spares (turned turn.now self.old i) self.old i columns }
+        requires row { IsRowNear self.old i }
         requires ready { is_open (line self.old i) ≡ true }
         requires placed { IsTurnPlaced turn.now self.old.n }
         requires near { (j : ℕ) → j < self.old.n → TurnsNear turn.now self.old i j }
         ensures turned { IsRowChanged (turned turn.now self.old i) self.old self.new i self.old.n }
         ensures near { ShowsRow result (turned turn.now self.old i) self.old.n }
     {
+        let _ = self.size();
         let mut all_near = true;
-        let n = self.size();
-        for j in 0..n {
+        for j in columns.from..columns.to {
             all_near = both(self.turn_at(turn, i, j), all_near);
         }
         all_near
     }
 
     /// Changes all steps from a node. Whether no constant is too large.
-    fn change_row(&mut self, change: &Change, i: usize) -> bool
+    fn change_row(&mut self, change: &Change, i: usize, columns: Columns) -> bool
         requires few { self.old.n ≤ 4097 }
         requires i { i < self.old.n }
         requires placed { IsPlaced change.now self.old.n }
         requires near { RowsNear change.now self.old i }
         requires room { HasRoom change.now self.old i }
         requires keeps { Keeps change.now self.old i }
+        requires columns { AreColumns self.old.n columns }
+        requires spares { Spares (changed change.now self.old i) self.old i columns }
         ensures changed { IsRowChanged (changed change.now self.old i) self.old self.new i self.old.n }
         ensures near { ShowsRow result (changed change.now self.old i) self.old.n }
     {
         match self.turn(change, i) {
             None => true,
-            Some(turn) => self.turn_row(&turn, i),
+            Some(turn) => self.turn_row(&turn, i, turn.columns(i, columns)),
         }
     }
 
@@ -300,8 +389,9 @@ impl Matrix {
     {
         let mut all_near = true;
         let n = self.size();
+        let columns = self.columns(change);
         for i in 0..n {
-            all_near = both(self.change_row(change, i), all_near);
+            all_near = both(self.change_row(change, i, columns), all_near);
         }
         all_near
     }
@@ -487,6 +577,18 @@ fn through(plus: i128, behind: Option<Step>) -> Option<i128>
     match behind {
         None => None,
         Some(behind) => Some(plus + behind.plus),
+    }
+}
+
+/// Whether a path through a fact with the constant `c` is better than a step.
+fn is_nearer(behind: Option<Step>, c: i128, step: Option<Step>) -> bool
+    requires behind { is_near (plus_of behind) ≡ true }
+    requires c { IsWithin (2 ^ 66) c }
+    ensures { result ≡ lowers_by behind c (plus_of step) }
+{
+    match behind {
+        None => false,
+        Some(behind) => !known(step, c + behind.plus),
     }
 }
 

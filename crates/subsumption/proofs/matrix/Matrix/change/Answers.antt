@@ -1,7 +1,7 @@
 use Rattle.std.proofs.Common.{ℕ, ◌+◌, ◌<◌, ◌≤◌, ◌≡◌, Bool, sym, subst, arith}
 use Rattle.subsumption.specs.Matrices.{changed}
-use Rattle.subsumption.proofs.MatrixSteps.{keeps_by, steady_by}
-use Rattle.subsumption.proofs.Matrices.{ShowsNear, changed_all, changed_more, keeps_on, near_all, near_by, near_to, room_on, row_by, rows_more, rows_near_on, step_same}
+use Rattle.subsumption.proofs.MatrixSteps.{keeps_by, spares_by, steady_by}
+use Rattle.subsumption.proofs.Matrices.{ShowsNear, changed_all, changed_more, keeps_on, near_all, near_by, near_to, room_on, row_by, rows_more, rows_near_on, spares_on, step_same}
 use Rattle.subsumption.proofs.matrix.Matrix.change.Goals as goal
 
 pub change_row-requires-clause-near : goal.change_row-requires-clause-near
@@ -19,6 +19,12 @@ change_row-requires-clause-keeps c =
     let lt : c.loop-i.i < c.args.self.now.n = (let size = c.size-n.ensures.value in let test = c.loop-i-test.true in omega (arith, size, test)) in
     keeps_on _ _ _ lt c.args.change.now c.requires.placed (steady_by _ c.args.self.now c.requires.canonical _ c.requires.placed c.requires.met)
     (keeps_by _ c.args.self.now c.requires.canonical _ c.requires.placed c.requires.met _ lt) c.loop-i.invariant.steps
+
+pub change_row-requires-clause-spares : goal.change_row-requires-clause-spares
+change_row-requires-clause-spares c =
+    let lt : c.loop-i.i < c.args.self.now.n = (let size = c.size-n.ensures.value in let test = c.loop-i-test.true in omega (arith, size, test)) in
+    spares_on _ _ _ lt c.args.change.now _ c.requires.placed (steady_by _ c.args.self.now c.requires.canonical _ c.requires.placed c.requires.met)
+    (spares_by _ c.args.self.now c.requires.canonical _ _ c.requires.placed c.requires.met c.columns-columns.ensures.others _ lt) c.loop-i.invariant.steps
 
 pub loop-i-preserved : goal.loop-i-preserved
 loop-i-preserved c =
