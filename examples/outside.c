@@ -1,4 +1,4 @@
 int main(void) {
-  int squares _Checked[4] = {0, 1, 4, 9};
-  return squares[2];
+  char word _Nt_checked[4];
+  return word[0];
 }

@@ -99,9 +99,16 @@ abbrev pub built_initializer : Initializer → Bool
 built_initializer (s.Value value) = built_expression value
 built_initializer (s.Constants constants span) = true
 
--- a local is no array, and may have bounds
+abbrev pub is_checked_array : ArrayKind → Bool
+is_checked_array arrays.Checked = true
+is_checked_array arrays.NullTerminated = false
+
+abbrev pub built_array : ArrayForm → Bool
+built_array a = is_checked_array a.kind
+
+-- a local may be an array, and may have bounds
 abbrev pub built_declarator : Declarator → Bool
-built_declarator d = is_none d.array && (optional built_bounds d.bounds && optional built_initializer d.initializer)
+built_declarator d = optional built_array d.array && (optional built_bounds d.bounds && optional built_initializer d.initializer)
 
 abbrev pub built_declaration : Declaration → Bool
 built_declaration d = built_type d.base && list_all built_declarator d.declarators
@@ -138,13 +145,6 @@ abbrev mutual
   built_statements (s.Then first others) = built_statement first && built_statements others
 
 -- ---- items
-
-abbrev pub is_checked_array : ArrayKind → Bool
-is_checked_array arrays.Checked = true
-is_checked_array arrays.NullTerminated = false
-
-abbrev pub built_array : ArrayForm → Bool
-built_array a = is_checked_array a.kind
 
 -- a file-level variable may be an array, and has no bounds
 abbrev pub built_variable : Declarator → Bool

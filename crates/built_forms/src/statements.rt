@@ -41,15 +41,6 @@ pub fn built_optional_bounds(written: &Option<BoundsText>) -> bool
     }
 }
 
-// Whether a local has only forms that are built: it is no array, and may have bounds.
-fn built_declarator(written: &Declarator) -> bool
-    ensures { result ≡ built.built_declarator (declarator written.now) }
-{
-    written.array.is_none()
-        && built_optional_bounds(&written.bounds)
-        && built_optional_initializer(&written.initializer)
-}
-
 fn built_array(written: &Option<ArrayForm>) -> bool
     ensures { result ≡ built.optional built.built_array written.now }
 {
@@ -60,6 +51,15 @@ fn built_array(written: &Option<ArrayForm>) -> bool
             ArrayKind::NullTerminated => false,
         },
     }
+}
+
+// Whether a local has only forms that are built: no null-terminated array, and it may have bounds.
+fn built_declarator(written: &Declarator) -> bool
+    ensures { result ≡ built.built_declarator (declarator written.now) }
+{
+    built_array(&written.array)
+        && built_optional_bounds(&written.bounds)
+        && built_optional_initializer(&written.initializer)
 }
 
 // Whether a file-level variable has only forms that are built: no null-terminated array, and no bounds.

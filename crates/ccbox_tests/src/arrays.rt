@@ -31,7 +31,7 @@ const ITEMS: &str = "[refused E08 1:1 limit]@int a _Checked[0]; int main(void) {
 [refused E11 1:20 name twice]@int a _Checked[1], a; int main(void) { return 0; }
 [refused E10 1:8 unknown name]@struct s v _Checked[1]; int main(void) { return 0; }
 [refused E09 1:1 not built yet]@char s _Nt_checked[3]; int main(void) { return 0; }
-[refused E09 1:1 not built yet]@int a _Checked[3]; int main(void) { int b _Checked[3]; return 0; }
+[refused E09 1:1 not built yet]@int a _Checked[3]; int main(void) { int b _Nt_checked[3]; return 0; }
 [refused E09 1:1 not built yet]@_Tainted int a _Checked[3]; int main(void) { return 0; }";
 
 // Statements over arrays that are refused, in the third line.

@@ -32,6 +32,8 @@ mod lines;
 #[cfg(test)]
 mod listings;
 #[cfg(test)]
+mod local_arrays;
+#[cfg(test)]
 mod memories;
 #[cfg(test)]
 mod memory;

@@ -690,7 +690,7 @@ const NOT_BUILT: &str =
 [refused E09 1:1 not built yet]@array_ptr<char> f(void) : count("abc"[0]) { return 0; } int main(void) { return 0; }
 [refused E09 1:1 not built yet]@array_ptr<int> f(int n) : count(n) { return nt_calloc<int>(n, sizeof(int)); } int main(void) { return 0; }
 [refused E09 1:1 not built yet]@array_ptr<int> f(int n) : count(n) { _Bundled { n = 1; } return NULL; } int main(void) { return 0; }
-[refused E09 1:1 not built yet]@array_ptr<int> f(int n) : count(n) { int b _Checked[2]; return NULL; } int main(void) { return 0; }
+[refused E09 1:1 not built yet]@array_ptr<int> f(int n) : count(n) { int b _Nt_checked[2]; return NULL; } int main(void) { return 0; }
 [refused E09 1:1 not built yet]@array_ptr<int> f(void) : count(zz) { return 0; } _Tainted int g; int main(void) { return 0; }
 [refused E09 1:1 not built yet]@array_ptr<int> p : count(1); array_ptr<int> f(void) : count(1) { return NULL; } int main(void) { return 0; }"#;
 

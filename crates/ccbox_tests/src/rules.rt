@@ -46,12 +46,12 @@ const FORMS_OF_STATEMENTS: &str = r#"[refused E09 1:1 not built yet]@nt_array_pt
 [refused E09 1:1 not built yet]@_TPtr<int> p;
 [refused E09 1:1 not built yet]@nt_array_ptr<char> s = "a";
 [refused E09 1:1 not built yet]@_Bundled { }
-[refused E09 1:1 not built yet]@int a _Checked[2];
+[refused E09 1:1 not built yet]@int a _Nt_checked[2];
 [refused E09 1:1 not built yet]@ptr<nt_array_ptr<int>> p;
 [refused E09 1:1 not built yet]@int n = strlen("a");
 [refused E09 1:1 not built yet]@ptr<int> p = t_malloc<int>(sizeof(int));
 [refused E09 1:1 not built yet]@ptr<int> p = _Assume_bounds_cast<_TPtr<int>>(0);
-[refused E09 1:1 not built yet]@int a _Checked[2] : count(2);"#;
+[refused E09 1:1 not built yet]@int a _Nt_checked[2] : count(1);"#;
 
 // Names: that no item, member or function has, that are declared twice, and a `main` that isn't there.
 const NAMES: &str =

@@ -9,6 +9,7 @@ use crate::files::files_and_outputs;
 use crate::flows::flows;
 use crate::limits::limits;
 use crate::listings::{listings, printed_listings};
+use crate::local_arrays::local_arrays;
 use crate::memories::memories_and_layouts;
 use crate::memory::memory;
 use crate::options::options;
@@ -40,6 +41,7 @@ fn programs(rt: HostRuntime) -> Result<(), Fail> {
     runs(alloc)?;
     dumps(alloc)?;
     arrays(alloc)?;
+    local_arrays(alloc)?;
     bounded(alloc)?;
     memory(alloc)?;
     limits(alloc)?;

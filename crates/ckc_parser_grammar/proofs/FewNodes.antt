@@ -11,7 +11,7 @@ use Rattle.ckc_tree.specs.Types.{TypeTree, TypeName}
 use Rattle.ckc_tree.specs.Expressions.{Expression, Expressions, Bounds}
 use Rattle.ckc_tree.specs.Statements.{Initializer, Declarator, Declaration, Assignment, ForInitial, Statement, Statements}
 use Rattle.ckc_tree.specs.Items.{Member, ResultForm, Parameters, Body, Item, Tree}
-use Rattle.ckc_tree.specs.Weights.{type_weight, expression_weight, expressions_weight, bounds_weight, optional_bounds_weight, optional_expression_weight, optional_initializer_weight, declarator_weight, declarators_weight, declaration_weight, assignment_weight, assignments_weight, optional_assignment_weight, for_initial_weight, statement_weight, statements_weight, members_weight, result_weight, parameters_weight, optional_body_weight, item_weight, items_weight, tree_weight}
+use Rattle.ckc_tree.specs.Weights.{optional_array_weight, type_weight, expression_weight, expressions_weight, bounds_weight, optional_bounds_weight, optional_expression_weight, optional_initializer_weight, declarator_weight, declarators_weight, declaration_weight, assignment_weight, assignments_weight, optional_assignment_weight, for_initial_weight, statement_weight, statements_weight, members_weight, result_weight, parameters_weight, optional_body_weight, item_weight, items_weight, tree_weight}
 use Rattle.ckc_parser_grammar.specs.TypeGrammar as t
 use Rattle.ckc_parser_grammar.specs.TypeGrammar.{SpellsStars, SpellsType, SpellsTypeName, SpellsAngled}
 use Rattle.ckc_parser_grammar.specs.ExpressionGrammar as e
@@ -102,7 +102,7 @@ optional_bounds_take : {ts rest : List Token} {b : Option Bounds} {o w : Span} �
 optional_bounds_take (s.absent f) = omega arith
 optional_bounds_take (s.present d) = omega (arith, bounds_take d)
 
-array_takes : {ts rest : List Token} {a : Option ArrayForm} {o w : Span} → SpellsOptionalArray o ts a w rest → Takes 0 ts rest
+array_takes : {ts rest : List Token} {a : Option ArrayForm} {o w : Span} → SpellsOptionalArray o ts a w rest → Takes (optional_array_weight a) ts rest
 array_takes (s.absent f) = omega arith
 array_takes (s.present w) = omega arith
 

@@ -1,7 +1,8 @@
--- How many nodes each part of a tree has. A node is a type, an expression, bounds, a list of constants, a declarator, a
--- declaration, an assignment, a statement, a member, a parameter, a body, an item, or the void in place of a result; a
--- part that is left out has none.
+-- How many nodes each part of a tree has. A node is a type, an expression, bounds, a list of constants, what makes a variable
+-- an array, a declarator, a declaration, an assignment, a statement, a member, a parameter, a body, an item, or the void in
+-- place of a result; a part that is left out has none.
 use Rattle.std.specs.Prelude.{ℕ, ◌+◌, suc, List, [], ◌∷◌, Option, Some, None}
+use Rattle.ckc_tree.specs.declared.stmt.ArrayForm.{ArrayForm}
 use Rattle.ckc_tree.specs.Types.{TypeTree, IntType, CharType, StructType, PointerType}
 use Rattle.ckc_tree.specs.Expressions as e
 use Rattle.ckc_tree.specs.Expressions.{Expression, Expressions, Bounds}
@@ -61,8 +62,12 @@ abbrev pub optional_initializer_weight : Option Initializer → ℕ
 optional_initializer_weight None = 0
 optional_initializer_weight (Some initializer) = initializer_weight initializer
 
+abbrev pub optional_array_weight : Option ArrayForm → ℕ
+optional_array_weight None = 0
+optional_array_weight (Some array) = 1
+
 abbrev pub declarator_weight : Declarator → ℕ
-declarator_weight d = suc (optional_bounds_weight d.bounds + optional_initializer_weight d.initializer)
+declarator_weight d = suc (optional_array_weight d.array + optional_bounds_weight d.bounds + optional_initializer_weight d.initializer)
 
 abbrev pub declarators_weight : List Declarator → ℕ
 declarators_weight [] = 0

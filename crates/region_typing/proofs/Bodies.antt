@@ -54,14 +54,14 @@ for_parameters n body few = (limited_so 256 (n + all_declared body) (nat_lt 256 
 
 -- what is known where its body begins
 pub entered : (f : Signature) (ps : List code_prototype.TypedParameter.TypedParameter) (body : Statements) (n : ℕ) (g mid with_locals with_bounds_too new : Scope) → n ≡ variables_in (length ps) body
-    → mid ≡ record g { locals = []; visible = []; result = f.result; result_bounds = None; in_loop = false; outside = 0; flow = at_entry n; breaks = None; continues = None } → with_locals ≡ with_parameters (map parameter ps) mid
+    → mid ≡ record g { locals = []; arrays = []; visible = []; result = f.result; result_bounds = None; in_loop = false; outside = 0; flow = at_entry n; breaks = None; continues = None } → with_locals ≡ with_parameters (map parameter ps) mid
     → with_bounds_too ≡ knowing (with_bounds 0 (map parameter ps) with_locals.flow) with_locals → new ≡ record with_bounds_too { result_bounds = bounds_in f.result_bounds } → new ≡ inside f (map parameter ps) body g
 entered f ps body n g mid with_locals with_bounds_too new count start added bounded is =
     let all : n ≡ variables_in (length (map parameter ps)) body = count ∙ ap (λ (k : ℕ). variables_in k body) (sym (length-map ps parameter)) in
     is
     ∙ ap (λ (h : Scope). record h { result_bounds = bounds_in f.result_bounds }) bounded
     ∙ ap (λ (h : Scope). record (knowing (with_bounds 0 (map parameter ps) h.flow) h) { result_bounds = bounds_in f.result_bounds })
-    (added ∙ ap (with_parameters (map parameter ps)) (start ∙ ap (λ (k : ℕ). record g { locals = []; visible = []; result = f.result; result_bounds = None; in_loop = false; outside = 0; flow = at_entry k; breaks = None; continues = None }) all))
+    (added ∙ ap (with_parameters (map parameter ps)) (start ∙ ap (λ (k : ℕ). record g { locals = []; arrays = []; visible = []; result = f.result; result_bounds = None; in_loop = false; outside = 0; flow = at_entry k; breaks = None; continues = None }) all))
 
 -- ---- a function is left
 
@@ -78,15 +78,15 @@ parameters_added (p ∷ ps) g = let rest = parameters_added ps (with_local p.nam
 
 -- a scope in which no function is walked
 abbrev pub left_scope : Scope → Scope
-left_scope g = record g { locals = []; visible = []; result = None; result_bounds = None; in_loop = false; outside = 0; flow = at_entry 0; breaks = None; continues = None }
+left_scope g = record g { locals = []; arrays = []; visible = []; result = None; result_bounds = None; in_loop = false; outside = 0; flow = at_entry 0; breaks = None; continues = None }
 
 -- what was known before a function is known behind it
 pub left_function : (f : Signature) (ps : List Parameter) (body : Statements) (old entered walked new : code.Scope.Scope) → Outside (scope old) → scope entered ≡ inside f ps body (scope old) → Grows entered walked → scope new ≡ left_scope (scope walked) → scope new ≡ scope old
 left_function f ps body old entered walked new outside inside_is grows known =
-    let start : Scope = record (scope old) { locals = []; visible = []; result = f.result; result_bounds = None; in_loop = false; outside = 0; flow = at_entry (variables_in (length ps) body); breaks = None; continues = None } in
+    let start : Scope = record (scope old) { locals = []; arrays = []; visible = []; result = f.result; result_bounds = None; in_loop = false; outside = 0; flow = at_entry (variables_in (length ps) body); breaks = None; continues = None } in
     let added = parameters_added ps start in
     known
-    ∙ ap left_scope (grows.file ∙ ap (λ (g : Scope). record g { locals = grows.types; visible = grows.names; in_loop = grows.loop; outside = grows.outside; flow = grows.flow; breaks = grows.breaks; continues = grows.continues }) (inside_is ∙ ap (λ (h : Scope). record (knowing (with_bounds 0 ps (with_parameters ps start).flow) h) { result_bounds = bounds_in f.result_bounds }) added.same))
+    ∙ ap left_scope (grows.file ∙ ap (λ (g : Scope). record g { locals = grows.types; arrays = grows.arrays; visible = grows.names; in_loop = grows.loop; outside = grows.outside; flow = grows.flow; breaks = grows.breaks; continues = grows.continues }) (inside_is ∙ ap (λ (h : Scope). record (knowing (with_bounds 0 ps (with_parameters ps start).flow) h) { result_bounds = bounds_in f.result_bounds }) added.same))
     ∙ sym outside
 
 -- the core of a function whose statements break no rule

@@ -12,8 +12,9 @@ use Rattle.region_typing_rules.specs.Verdicts.{Stop, Broken, Verdict, Passes, St
 use Rattle.region_typing_rules.specs.Types.{base_type, without_stars}
 use Rattle.region_typing_rules.specs.Expressions.{Places}
 use Rattle.ckc_names_rules.specs.declared.given.Given.{Given}
+use Rattle.region_typing_rules.specs.Statements.{length_of}
 use Rattle.region_typing_rules.specs.Items as rules
-use Rattle.region_typing_rules.specs.Items.{Walk, WalkedVariable, with_variable, length_of, room_for, room_for_first, initializer, variables, with_objects, global, in_checked_region}
+use Rattle.region_typing_rules.specs.Items.{Walk, WalkedVariable, with_variable, room_for, room_for_first, initializer, variables, with_objects, global, in_checked_region}
 use Rattle.region_typing.specs.declared.globals.WalkedVariable as code
 use Rattle.region_typing.specs.declared.initials.Judged as code_judged
 use Rattle.region_typing.specs.Initials.{Judged, judged, judged_as, judged_cells}

@@ -13,8 +13,8 @@ use Rattle.region_typing_rules.specs.Verdicts.{Verdict, Passes, picked}
 use Rattle.region_typing_rules.specs.Scopes.{Scope, Signature, WrittenBounds, function_named}
 use Rattle.region_typing_rules.specs.Types.{base_type, without_stars}
 use Rattle.region_typing_rules.specs.Expressions.{Places, is_tainted}
-use Rattle.region_typing_rules.specs.Statements.{is_unchecked, statements}
-use Rattle.region_typing_rules.specs.Items.{Parameter, Walk, WalkedVariable, is_struct, member_types, scalar_members, with_struct, member_names, structure, with_variable, length_of, room_for, room_for_first, initializer, variables, object_cells, with_objects, global, listed, parameter_types, result_type, agrees, all_scalar, scalar_result, with_function, inside, function_body, is_defined, function_rules, signature_of, function, is_off, item, bounds_of_result, first_changed_in, without_change}
+use Rattle.region_typing_rules.specs.Statements.{length_of, is_unchecked, statements}
+use Rattle.region_typing_rules.specs.Items.{Parameter, Walk, WalkedVariable, is_struct, member_types, scalar_members, with_struct, member_names, structure, with_variable, room_for, room_for_first, initializer, variables, object_cells, with_objects, global, listed, parameter_types, result_type, agrees, all_scalar, scalar_result, with_function, inside, function_body, is_defined, function_rules, signature_of, function, is_off, item, bounds_of_result, first_changed_in, without_change}
 use Rattle.region_typing_rules.proofs.Verdicts.{Promises, passing_promises, needs_promises, anything_promised}
 use Rattle.region_typing.specs.Items.{Outside}
 

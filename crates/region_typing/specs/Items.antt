@@ -16,8 +16,8 @@ use Rattle.region_typing_rules.specs.Scopes.{Scope, Signature, WrittenBounds, bo
 use Rattle.region_typing_rules.specs.Types.{type_named, without_stars}
 use Rattle.region_typing_rules.specs.Expressions.{Places, is_tainted}
 use Rattle.region_typing_rules.specs.DeclaredBounds.{declared_bounds}
-use Rattle.region_typing_rules.specs.Statements.{statements, is_unchecked}
-use Rattle.region_typing_rules.specs.Items.{Parameter, Defined, Walk, among_parameters, written_as, with_variable, room_for, length_of, initializer, inside, core_function, function_body}
+use Rattle.region_typing_rules.specs.Statements.{length_of, statements, is_unchecked}
+use Rattle.region_typing_rules.specs.Items.{Parameter, Defined, Walk, among_parameters, written_as, with_variable, room_for, initializer, inside, core_function, function_body}
 use Rattle.region_typing_rules.specs.Items.{parameter_types, type_of_result, bounds_of_result, names, first_changed_in, without_change}
 use Rattle.region_typing_rules.specs.KeptParameters.{all_changed}
 use Rattle.region_typing_rules.specs.Items.{with_function, agrees, all_scalar, scalar_result, is_defined, in_checked_region}
@@ -38,6 +38,7 @@ abbrev pub Outside : Scope → Type 0
 Outside g =
     g ≡ record g {
       locals = [];
+      arrays = [];
       visible = [];
       result = None;
       result_bounds = None;

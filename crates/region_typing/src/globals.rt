@@ -8,7 +8,8 @@ ghost use Rattle.ckc_tree.specs.Statements.{initializer as initializer_tree, dec
 ghost use Rattle.ckc_tree.specs.Items.{global as global_tree};
 ghost use Rattle.pointer_modes.specs.Types.{ctype as ctype_of};
 ghost use Rattle.flat_bytes.specs.Blocks.{rounded_up};
-ghost use Rattle.region_typing_rules.specs.Items.{count_of as count_in, is_length as is_length_of, length_of as length_in, written_size as written_size_of, room_for as room_in, room_for_first as first_room_in, global as global_of};
+ghost use Rattle.region_typing_rules.specs.Cells.{is_length as is_length_of};
+ghost use Rattle.region_typing_rules.specs.Items.{count_of as count_in, written_size as written_size_of, room_for as room_in, room_for_first as first_room_in, global as global_of};
 ghost use Rattle.region_typing_scope.specs.Answering.{Answers};
 ghost use Rattle.region_typing_scope.specs.Views.{scope as scope_of};
 ghost use Rattle.region_typing.specs.Initials.{judged as judged_view};
@@ -26,18 +27,17 @@ use ckc_tree::type_form::TypeForm;
 use pointer_modes::ctype::CType;
 use region_typing_expressions::expressions::typed;
 use region_typing_scope::context::Context;
+use region_typing_scope::initial_cells::is_length;
 use region_typing_scope::refusals::{CheckError, meant, needs};
 use region_typing_scope::scope::Scope;
 use region_typing_scope::types::{base_type, copied};
+use region_typing_statements::local_arrays::length_of;
 
 /// How many file-level variables a program may have.
 const MOST_VARIABLES: usize = 4096;
 
 /// How many bytes they may take, with the gaps between them.
 const MOST_BYTES: u32 = 32768;
-
-/// How many elements an array may have.
-const MOST_ELEMENTS: u32 = 8192;
 
 /// The bytes of a pointer.
 const POINTER_BYTES: u32 = 4;
@@ -58,26 +58,6 @@ fn written_size(scope: &Scope, base: &TypeForm, stars: usize) -> Result<u32, Che
             Ok(scope.structs.size_of(&CType::Struct(number)))
         }
         TypeForm::Pointer { .. } => Ok(POINTER_BYTES),
-    }
-}
-
-// How many elements a declarator asks for, where it declares an array.
-fn length_of(d: &Declarator) -> Option<u32>
-    ensures { result ≡ length_in (declarator_tree d.now) }
-{
-    match d.array {
-        None => None,
-        Some(array) => Some(array.length),
-    }
-}
-
-// Whether an array may have so many elements.
-fn is_length(count: Option<u32>) -> bool
-    ensures { result ≡ is_length_of count }
-{
-    match count {
-        None => true,
-        Some(count) => 0 < count && count <= MOST_ELEMENTS,
     }
 }
 

@@ -207,8 +207,8 @@ fn row_counted(
     }
 }
 
-// New memory of so many elements.
-fn allocation(
+/// New memory of so many elements.
+pub fn allocation(
     context: &Context,
     scope: &Scope,
     t: CType,

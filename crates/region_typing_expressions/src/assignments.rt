@@ -72,9 +72,11 @@ fn target_of(context: &Context, t: Box<Typed>, span: Span) -> Result<Box<Target>
 {
     match Box::into_inner(t) {
         Typed::Value { .. } | Typed::Array { .. } => Err(refusal(Code::E12, span)),
+        Typed::Local { is_array: true, .. } => Err(refusal(Code::E12, span)),
         Typed::Local {
             ctype,
             local,
+            is_array: false,
             bounds,
         } => target_at(context, ctype, Lvalue::Local(local), bounds),
         Typed::Cell {

@@ -110,7 +110,15 @@ fn named(
     let scope = point.scope;
     if let Some(local) = scope.local(name) {
         let ctype = copied(context, local.ctype)?;
-        let value = at_local(&scope.structs, point.flow, ctype, local.number, site);
+        let is_array = scope.is_array(local.number);
+        let value = at_local(
+            &scope.structs,
+            point.flow,
+            ctype,
+            local.number,
+            is_array,
+            site,
+        );
         return Ok(context.boxed(value)?);
     }
     if let Some(object) = scope.object(name) {

@@ -1,7 +1,7 @@
 // What an expression or an assignment is by the rules of types, where the names around it are known.
 #![tactic(auto)]
 
-mod allocations;
+pub mod allocations;
 pub mod argument_bounds;
 pub mod assignments;
 pub mod calls;

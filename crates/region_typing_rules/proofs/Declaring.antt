@@ -1,7 +1,7 @@
 -- What is known behind an assignment or a declaration is so, once it is settled.
-use Rattle.std.proofs.Common.{◌≡◌, ℕ, ◌+◌, ◌<◌, ◌≤◌, pos, Bool, true, false, ◌==◌, List, [], ◌∷◌, ◌++◌, length, Option, Some, None, refl, sym, ap, ◌∙◌, subst, arith}
-use Rattle.std.specs.Prelude.{nat_lt, slice_get, slice_set}
-use Rattle.std.proofs.lemmas.Bool.{ltb-true}
+use Rattle.std.proofs.Common.{◌≡◌, ℕ, ◌+◌, ◌<◌, ◌≤◌, pos, Bool, true, false, ◌==◌, List, [], ◌∷◌, ◌++◌, length, Option, Some, None, refl, sym, ap, ◌∙◌, subst, arith, suc}
+use Rattle.std.specs.Prelude.{nat_lt, slice_get, slice_set, nat_le, ◌^◌}
+use Rattle.std.proofs.lemmas.Bool.{ltb-true, leb-true, and_parts, le-leb}
 use Rattle.std.proofs.lemmas.Bool.Decides.{nat_tests}
 use Rattle.std.proofs.lemmas.List.{length-append}
 use Rattle.ckc_text.specs.declared.place.Span.{Span}
@@ -13,6 +13,7 @@ use Rattle.bounds_exprs.specs.declared.term.Bounds.{Bounds}
 use Rattle.pointer_modes.specs.declared.ctype.Mode.{Mode}
 use Rattle.pointer_modes.specs.declared.ctype.Kind.{Kind}
 use Rattle.pointer_modes.specs.declared.ctype.Kind.TheVariants as kinds
+use Rattle.pointer_modes.specs.declared.ctype.Mode.TheVariants as modes
 use Rattle.pointer_modes.specs.Types.{CType, Int, Char, Struct, Pointer, Structure}
 use Rattle.bounds_flow.specs.Flows.{Knowledge, held_at}
 use Rattle.bounds_flow_meaning.specs.Holding.{Fits, IsValid, target_size, types_of}
@@ -26,10 +27,10 @@ use Rattle.ckc_core.specs.States.{Value, Number, Null, Local, State, has_type}
 use Rattle.ckc_core.specs.Steps.{Result, Flow, Next, Broke, Continued, Returned, on_next, set_if, set_local, set_over}
 use Rattle.ckc_core.specs.Meaning.{Knot, Setting, effect, effects, knot, value}
 use Rattle.region_typing_rules.specs.Scopes.{Scope}
-use Rattle.region_typing_rules.specs.Types.{is_scalar, without_stars, base_type}
-use Rattle.region_typing_rules.specs.Expressions.{Places}
+use Rattle.region_typing_rules.specs.Types.{is_scalar, base_type}
+use Rattle.region_typing_rules.specs.Expressions.{Places, site_at, row_of}
 use Rattle.region_typing_rules.specs.Knowing.{assigned_by, settling, knowing}
-use Rattle.region_typing_rules.specs.Statements.{Walked, both, assignment, assigning, zero_value, with_local, initialised, first_value, declared, bounded_local, declarator, declarators, declaration, optional_step, first_part}
+use Rattle.region_typing_rules.specs.Statements.{Walked, both, assignment, assigning, zero_value, with_local, initialised, first_value, declared, bounded_local, declarator, declarators, declaration, optional_step, first_part, row_type, with_array, first_length}
 use Rattle.region_typing_rules.specs.DeclaredBounds.{declared_bounds}
 use Rattle.region_typing_rules.specs.DeclaredFormed.{IsFormedIf}
 use Rattle.region_typing_rules.specs.KnownIsSo.{WhereGiven, AreLimitedIf, declared_at, HoldsAlike, FitsAlike, IsKnown, IsDeclared, IsWalk, HasLocals}
@@ -45,13 +46,19 @@ use Rattle.region_typing_rules.specs.Typed as typed
 use Rattle.region_typing_rules.specs.Typed.{Frame, HasType, IsScalar, IsSimple}
 use Rattle.region_typing_rules.proofs.Known.{IsKnown as IsKnownType, base_known, without_known}
 use Rattle.region_typing_rules.proofs.Knowledge.{IsPointing, KnowsFile, Knows}
-use Rattle.region_typing_rules.proofs.Growth.{Grows, GrowsTo, declarator_grows, file_known, local_closed}
+use Rattle.region_typing_rules.proofs.Growth.{Grows, GrowsTo, declarator_grows, file_known, local_closed, closed_arrays}
 use Rattle.region_typing_rules.proofs.Statements.{IsAny, simple_any, zero_typed, assignment_promises, initialised_promises, both_typed, knows_from}
 use Rattle.region_typing_rules.proofs.Soundness.{IsNext, IsKept, Runs, IsKnot, has_locals, runs_further, runs_both, runs_then, simple_runs, behind_so, given_to_so}
 use Rattle.std.specs.List.{AllByRecursion}
 use Rattle.ckc_core.specs.States.{shapes}
 use Rattle.region_typing_rules.proofs.Marks.{IsAssignment, IsFirst, target_of, assignment_plain, initialised_plain}
-use Rattle.region_typing_rules.proofs.Ways.{Declares, MayCome, declares_here, declares_knowing, declares_local, declares_on, extends_length, fits_further, walk_knowing, walk_local}
+use Rattle.region_typing_rules.proofs.Ways.{Declares, MayCome, declares_here, declares_knowing, declares_local, declares_on, extends_length, fits_further, walk_knowing, walk_local, walk_arrays, declares_arrays}
+use Rattle.region_typing_rules.proofs.LocalArrays.{memory_of, settled_array, declarator_promises}
+use Rattle.region_typing_rules.proofs.Expressions.{memory_typed}
+use Rattle.region_typing_rules.specs.Cells.{is_length}
+use Rattle.region_typing_rules.specs.Verdicts.{Passes, passing}
+use Rattle.pointer_modes.specs.Layout.{size_of}
+use Rattle.bounds_exprs.specs.Terms.{is_within, term_limit}
 
 -- ---- what goes on
 
@@ -300,12 +307,13 @@ module _ (frame : Frame) (types : List CType) (all_scalar : AllByRecursion IsSca
 
   -- ---- locals
 
-  module _ (g : Scope) (w : IsWalk vars g) (name : ℕ) (t : CType) (bounds : Option Bounds) (may : MayCome vars g.structs g.locals t bounds) (scalar : IsScalar t) (few : length (with_local name t bounds g).locals ≤ vars) where
+  module _ (g : Scope) (w : IsWalk vars g) (name : ℕ) (t : CType) (bounds : Option Bounds) (may : MayCome vars g.structs g.locals t bounds) (scalar : IsScalar t) (few : length (with_local name t bounds g).locals ≤ vars)
+      (arrays : List ℕ) where
     abbrev within : Scope
-    within = with_local name t bounds g
+    within = record (with_local name t bounds g) { arrays = arrays }
 
-    inside : IsWalk vars (with_local name t bounds g)
-    inside = walk_local vars name t bounds g may w few
+    inside : IsWalk vars within
+    inside = walk_arrays vars arrays (with_local name t bounds g) (walk_local vars name t bounds g may w few)
 
     abbrev zero : core.Statement
     zero = core.SetLocal (length g.locals) (zero_value t)
@@ -342,6 +350,13 @@ module _ (frame : Frame) (types : List CType) (all_scalar : AllByRecursion IsSca
         let entered = entered_fits g name t bounds u w may (has_of n low within u reaches k.1) k.0.1.1 known in
         ((k.0.0, (entered, set_again_so n knots low u reaches k.0.1.1 (record { kept = k.1; known = entered }))), k.1))
 
+    -- behind the zero it is assigned
+    assigned_runs : (initial : core.Statement) → IsPlain within.locals initial → (reaches : Reaching within) → IsSimple frame types within initial → (n : ℕ) → Knots n → (low : ℕ) (s : State) → IsAt n low g s
+        → Runs frame budget n low types (Onward (HoldsAlike frame.structs (length within.locals) (assigned_by within.locals initial within.flow))) (effect true running (ticking n) (both zero initial) s)
+    assigned_runs initial plain reaches simple n knots low s at =
+        both_runs n low IsEntered (λ u. HoldsAlike frame.structs (length within.locals) (assigned_by within.locals initial within.flow) u) zero initial s (zero_goes reaches n knots low s at)
+        (λ u kept entered. simple_goes within inside initial plain reaches simple n knots low u (record { kept = kept; known = entered.0 }))
+
     -- the assignment that a declaration is, and what is left to do behind the zero
     declared_runs : (o : Option Initializer) (initial : core.Statement) → IsFirst within.locals (length g.locals) o initial → (reaches : Reaching within) → IsSimple frame types within initial → (n : ℕ) → Knots n → (low : ℕ) (s : State) → IsAt n low g s
         → Runs frame budget n low types (Onward (HoldsAlike frame.structs (length within.locals) (assigned_by within.locals (first_value o initial (length g.locals) t) within.flow))) (effect true running (ticking n) (both zero initial) s)
@@ -351,13 +366,13 @@ module _ (frame : Frame) (types : List CType) (all_scalar : AllByRecursion IsSca
       where
         Q : State → Type 0
         Q u = HoldsAlike frame.structs (length within.locals) (assigned_by within.locals zero within.flow) u
-    declared_runs (Some i) initial first reaches simple n knots low s at =
-        both_runs n low IsEntered (λ u. HoldsAlike frame.structs (length within.locals) (assigned_by within.locals initial within.flow) u) zero initial s (zero_goes reaches n knots low s at)
-        (λ u kept entered. simple_goes within inside initial first.plain reaches simple n knots low u (record { kept = kept; known = entered.0 }))
+    declared_runs (Some i) initial first reaches simple n knots low s at = assigned_runs initial first.plain reaches simple n knots low s at
 
-    declared_goes : (o : Option Initializer) (span : Span) (initial : core.Statement) → IsFirst within.locals (length g.locals) o initial → (Reaching within → IsSimple frame types within initial) → Promises (GoesOn g) (declared within o t (length g.locals) span initial)
-    declared_goes o span initial first simple =
-        let value = first_value o initial (length g.locals) t in
+    -- once it is settled, where the declaration counts as the assignment of a value
+    value_goes : (value initial : core.Statement) (span : Span) → (Reaching within → IsSimple frame types within initial)
+        → ((reaches : Reaching within) (n : ℕ) → Knots n → (low : ℕ) (s : State) → IsAt n low g s → Runs frame budget n low types (Onward (HoldsAlike frame.structs (length within.locals) (assigned_by within.locals value within.flow))) (effect true running (ticking n) (both zero initial) s))
+        → Promises (GoesOn g) (passing (settling (assigned_by within.locals value within.flow) span) (λ k. Passes (both zero initial, knowing k within)))
+    value_goes value initial span simple run =
         let mid = assigned_by within.locals value within.flow in
         let amid = assigned_amid vars within.locals within.flow value inside.between (few_vars within inside) in
         passing_promises (IsSettling mid) (GoesOn g) (settling mid span) _ (settling_promises mid span)
@@ -368,17 +383,21 @@ module _ (frame : Frame) (types : List CType) (all_scalar : AllByRecursion IsSca
           breaks = refl;
           continues = refl;
           more = extends_append g.locals (t ∷ []);
-          keeps = declares_on g within (knowing k within) (let e = length-append g.locals (t ∷ []) in omega (arith, e)) (declares_local name t bounds g) (declares_knowing k within beside);
+          keeps = declares_on g within (knowing k within) (let e = length-append g.locals (t ∷ []) in omega (arith, e)) (declares_arrays arrays g (with_local name t bounds g) (declares_local name t bounds g)) (declares_knowing k within beside);
           typed = λ reaches. both_typed frame types all_scalar zero initial (simple_any frame types all_scalar within zero (zero_in within reaches)) (simple_any frame types all_scalar within initial (simple reaches));
           runs = λ reaches n knots low s at.
               runs_further frame budget n low types (Onward (HoldsAlike frame.structs (length within.locals) mid)) (Onward (IsKnown frame.structs (knowing k within))) (effect true running (ticking n) (both zero initial) s)
-              (declared_runs o initial first reaches (simple reaches) n knots low s at)
+              (run reaches n knots low s at)
               (λ flow u q. (q.0, settled_fits (length within.locals) within.flow mid k u amid is q.1));
         })
 
-  known_inside : (g : Scope) (name : ℕ) (t : CType) (bounds : Option Bounds) → IsKnownType g.structs t → KnowsFile frame g → KnowsFile frame (with_local name t bounds g)
-  known_inside g name t bounds known_t file =
-      record { structs = file.structs; closed = local_closed name t bounds g known_t file.closed; few_members = file.few_members; scalar_members = file.scalar_members; variables = file.variables; trusted = file.trusted; tainted = file.tainted }
+    declared_goes : (o : Option Initializer) (span : Span) (initial : core.Statement) → IsFirst within.locals (length g.locals) o initial → (Reaching within → IsSimple frame types within initial) → Promises (GoesOn g) (declared within o t (length g.locals) span initial)
+    declared_goes o span initial first simple =
+        value_goes (first_value o initial (length g.locals) t) initial span simple (λ reaches. declared_runs o initial first reaches (simple reaches))
+
+  known_inside : (g : Scope) (name : ℕ) (t : CType) (bounds : Option Bounds) (arrays : List ℕ) → IsKnownType g.structs t → KnowsFile frame g → KnowsFile frame (record (with_local name t bounds g) { arrays = arrays })
+  known_inside g name t bounds arrays known_t file =
+      record { structs = file.structs; closed = closed_arrays arrays (with_local name t bounds g) (local_closed name t bounds g known_t file.closed); few_members = file.few_members; scalar_members = file.scalar_members; variables = file.variables; trusted = file.trusted; tainted = file.tainted }
 
   -- bounds that are declared may be those of the local that comes next
   declared_may : (g : Scope) (t : CType) (bounds : Option Bounds) → length (g.locals ++ t ∷ []) ≤ vars → IsFormedIf g.structs (g.locals ++ t ∷ []) t bounds → MayCome vars g.structs g.locals t bounds
@@ -403,17 +422,52 @@ module _ (frame : Frame) (types : List CType) (all_scalar : AllByRecursion IsSca
       (both_promise (IsFirst within.locals (length g.locals) d.initializer) (λ (x : core.Statement). Reaching within → IsSimple frame types within x) (initialised at within d.initializer t (length g.locals) span)
       (initialised_plain at within d.initializer t (length g.locals) span (extends_last g.locals t))
       (later_promises (Reaching within) (IsSimple frame types within) (initialised at within d.initializer t (length g.locals) span)
-      (λ reaches. initialised_promises frame types all_scalar at within (knows_here within (walk_local vars d.name.number t bounds g may w room) (known_inside g d.name.number t bounds known_t file) reaches) d.initializer t (length g.locals) span (reaches (length g.locals) t (extends_last g.locals t)))))
+      (λ reaches. initialised_promises frame types all_scalar at within (knows_here within (walk_local vars d.name.number t bounds g may w room) (known_inside g d.name.number t bounds g.arrays known_t file) reaches) d.initializer t (length g.locals) span (reaches (length g.locals) t (extends_last g.locals t)))))
       (λ initial first. needs_promises (GoesOn g) (is_scalar t) E13 span _
-      (λ scalar. declared_goes g w d.name.number t bounds may scalar room d.initializer span initial first.0 first.1))
+      (λ scalar. declared_goes g w d.name.number t bounds may scalar room g.arrays d.initializer span initial first.0 first.1))
+
+  -- a length is a constant that a term may have, and an `int`
+  length_limited : (n : ℕ) → is_length (Some n) ≡ true → is_within term_limit (pos n) ≡ true
+  length_limited n h =
+      let few = leb-true n 8192 (and_parts (nat_lt 0 n) (nat_le n 8192) h).1 in
+      le-leb n term_limit (omega (arith, few))
+
+  length_word : (n : ℕ) → is_length (Some n) ≡ true → nat_lt n (2 ^ 31) ≡ true
+  length_word n h =
+      let few = leb-true n 8192 (and_parts (nat_lt 0 n) (nat_le n 8192) h).1 in
+      le-leb (suc n) (2 ^ 31) (omega (arith, few))
+
+  -- of so many elements
+  array_may : (g : Scope) (t : CType) (count : ℕ) → is_length (Some count) ≡ true → nat_lt 0 (size_of g.structs t) ≡ true → MayCome vars g.structs g.locals (row_type t) (Some (row_of count))
+  array_may g t count counted bytes = record { below = record { lo = tt; hi = tt }; limited = record { low = refl; high = length_limited count counted }; formed = λ b e. subst (IsDeclared g.structs (g.locals ++ row_type t ∷ []) (length g.locals)) (same_bounds _ b e) formed }
+    where
+      same_bounds : (a b : Bounds) → Some a ≡ Some b → a ≡ b
+      same_bounds a b q = cc
+
+      formed : IsDeclared g.structs (g.locals ++ row_type t ∷ []) (length g.locals) (row_of count)
+      formed = record { mode = modes.Checked; element = t; own = extends_last g.locals (row_type t); some = ltb-true 0 (size_of g.structs t) bytes; ints = record { lo = tt; hi = tt }; base = λ q e. absurd (cc) }
+
+  array_goes : (at : Places) (g : Scope) → IsWalk vars g → KnowsFile frame g → (d : Declarator) (t : CType) (count : ℕ) (span : Span) → is_length (Some count) ≡ true → nat_lt 0 (size_of g.structs t) ≡ true → IsKnownType g.structs t → length (g.locals ++ row_type t ∷ []) ≤ vars
+      → Promises (GoesOn g) (settled_array (with_array d.name.number t count g) (length g.locals) (memory_of (with_array d.name.number t count g) t count (site_at at span)) span)
+  array_goes at g w file d t count span counted bytes known_t room =
+      let within = with_array d.name.number t count g in
+      let may = array_may g t count counted bytes in
+      let set = core.SetLocal (length g.locals) (memory_of within t count (site_at at span)) in
+      let inside = walk_arrays vars within.arrays (with_local d.name.number (row_type t) (Some (row_of count)) g) (walk_local vars d.name.number (row_type t) (Some (row_of count)) g may w room) in
+      let knows = known_inside g d.name.number (row_type t) (Some (row_of count)) within.arrays known_t file in
+      let simple : Reaching within → IsSimple frame types within set =
+      λ reaches. typed.set_local (reaches (length g.locals) (row_type t) (extends_last g.locals (row_type t)))
+      (memory_typed frame types within (knows_here within inside knows reaches) t (core.Number (pos count)) (site_at at span) (typed.word (length_word count counted)) bytes) in
+      value_goes g w d.name.number (row_type t) (Some (row_of count)) may refl room within.arrays set set span simple
+      (λ reaches. assigned_runs g w d.name.number (row_type t) (Some (row_of count)) may refl room within.arrays set (row_type t, extends_last g.locals (row_type t)) reaches (simple reaches))
 
   declarator_goes : (at : Places) (g : Scope) → IsWalk vars g → KnowsFile frame g → (base : TypeTree) (type : CType) (span : Span) (d : Declarator) → IsKnownType g.structs type → Promises (GoesOn g) (declarator at g base type span d)
   declarator_goes at g w file base type span d known_type =
-      needs_promises (GoesOn g) (nat_lt (length g.locals) g.flow.vars) E08 span _
-      (λ few. passing_promises (IsKnownType g.structs) (GoesOn g) (without_stars base d.stars type) _ (without_known g file.closed.tagged base d.stars type known_type)
-      (λ t known_t. passing_promises (IsFormedIf g.structs (g.locals ++ t ∷ []) t) (GoesOn g) (declared_bounds (with_local d.name.number t None g) t (length g.locals) d.bounds) (bounded_local at g d t span)
+      declarator_promises (GoesOn g) (IsKnownType g.structs) at g base type span d (λ few. without_known g file.closed.tagged base d.stars type known_type)
+      (λ few t known_t. passing_promises (IsFormedIf g.structs (g.locals ++ t ∷ []) t) (GoesOn g) (declared_bounds (with_local d.name.number t None g) t (length g.locals) d.bounds) (bounded_local at g d t span)
       (declared_formed (with_local d.name.number t None g) t (length g.locals) d.bounds)
-      (λ bounds formed. bounded_goes at g w file d t span bounds (declared_may g t bounds (room t few) formed) known_t (room t few))))
+      (λ bounds formed. bounded_goes at g w file d t span bounds (declared_may g t bounds (room t few) formed) known_t (room t few)))
+      (λ few t known_t count here counted bytes. array_goes at g w file d t count span counted bytes known_t (room (row_type t) few))
     where
       room : (t : CType) → nat_lt (length g.locals) g.flow.vars ≡ true → length (g.locals ++ t ∷ []) ≤ vars
       room t few = let low = ltb-true (length g.locals) g.flow.vars few in let e = length-append g.locals (t ∷ []) in let size = w.between.size in omega (arith, low, e, size)
@@ -445,7 +499,8 @@ module _ (frame : Frame) (types : List CType) (all_scalar : AllByRecursion IsSca
   pub declaration_goes : (at : Places) (g : Scope) → IsWalk vars g → KnowsFile frame g → (d : Declaration) → Promises (GoesOn g) (declaration at g d)
   declaration_goes at g w file d =
       needs_promises (GoesOn g) (nat_lt (length g.locals) g.flow.vars) E08 d.span _
-      (λ few. passing_promises (IsKnownType g.structs) (GoesOn g) (base_type g d.base) _ (base_known g file.closed.tagged d.base) (λ type known. declarators_go at g w file d.base type d.span d.declarators known))
+      (λ few. needs_promises (GoesOn g) (is_length (first_length d.declarators)) E08 d.span _
+      (λ fits. passing_promises (IsKnownType g.structs) (GoesOn g) (base_type g d.base) _ (base_known g file.closed.tagged d.base) (λ type known. declarators_go at g w file d.base type d.span d.declarators known)))
 
   pub first_goes : (at : Places) (g : Scope) → IsWalk vars g → KnowsFile frame g → (initial : ForInitial) → Promises (GoesOn g) (first_part at g initial)
   first_goes at g w file s.Nothing = nothing_goes g w

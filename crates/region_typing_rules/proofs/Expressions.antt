@@ -58,7 +58,7 @@ use Rattle.region_typing_rules.specs.Verdicts.{Verdict, Passes, Stops, passing, 
 use Rattle.region_typing_rules.specs.Scopes.{Scope, Signature, WrittenBounds, bounds_in, Named, Local, Object, Array, Nothing, named, function_named, members_named}
 use Rattle.region_typing_rules.specs.Types.{type_named, is_number, is_pointer, is_row, are_comparable, kind_converts, pointer_converts, converts}
 use Rattle.region_typing_rules.specs.Readings.{left_told, constant, against, sum_bounds, own_bounds, from_base, based_bounds, is_null, is_pointer_type, pointer_local, term}
-use Rattle.region_typing_rules.specs.Expressions.{Places, OfLocal, OfCell, Standing, ForNothing, ForArray, For, Typed, Value, AStruct, Called, Gives, GivesNothing, site_at, bounds_by, bounds_at, noted_if, with_bounds, one_element, sum_node, bounded, number, at_place, in_force, local_typed, name_typed, member_place, member_from, offset_among, member_at, dotted, with_elements, first_element, pointed_by, arrowed, pointed_at, dereferenced, checked_at, pointer_to, address, number_of, scalar_of, unary_typed, is_single_value, lacks_bounds, without_ptr, two_numbers, two_scalars, operator_along, summed, sum_typed, as_pointer, equated_values, equated, have_one_base, are_related, ordered_values, ordered, arithmetic, beside, binary_typed, element_at, indexed, is_met, in_type, asked_as, asked_of, meets, bounds_met, converted, arguments_as, arguments_met, is_import, side_number, callee_of, call_of, first_of, writes, predefined_call, called, with_result, constant_typed, typed, all_typed, call_typed, argument_meets, at_call, meets_all, pointer_for, pointers_for, term_for, terms_for, call_bounds, result_at}
+use Rattle.region_typing_rules.specs.Expressions.{Places, OfLocal, OfCell, Standing, ForNothing, ForArray, For, Typed, Value, AStruct, Called, Gives, GivesNothing, site_at, bounds_by, bounds_at, noted_if, with_bounds, one_element, sum_node, bounded, number, at_place, in_force, local_typed, name_typed, member_place, member_from, offset_among, member_at, dotted, with_elements, first_element, pointed_by, arrowed, pointed_at, dereferenced, checked_at, pointer_to, address, number_of, scalar_of, unary_typed, is_single_value, lacks_bounds, without_ptr, two_numbers, two_scalars, operator_along, summed, sum_typed, as_pointer, equated_values, equated, have_one_base, are_related, ordered_values, ordered, arithmetic, beside, binary_typed, element_at, indexed, is_met, in_type, asked_as, asked_of, meets, bounds_met, converted, arguments_as, arguments_met, is_import, side_number, callee_of, call_of, first_of, writes, predefined_call, called, with_result, constant_typed, typed, all_typed, call_typed, argument_meets, at_call, meets_all, pointer_for, pointers_for, term_for, terms_for, call_bounds, result_at, is_array, local_standing}
 use Rattle.region_typing_rules.specs.Expressions.{first_factor, second_factor, factor_beside, is_size, elements_in, row_counted, allocation, allocation_if, malloc_typed, calloc_typed, casts_to, takes, has_base, base_in, cast_checked, cast_typed, cast_bounds}
 use Rattle.ckc_core.specs.Steps.{is_char}
 use Rattle.bounds_flow_meaning.specs.Sums.{counted}
@@ -467,7 +467,7 @@ module _ (g : Frame) (types : List CType) (s : Scope) where
           };
         }
 
-    row_fits : (k : ℕ) (m : Mode) (t : CType) (site node : Site) → slice_get s.locals k ≡ Some (Pointer m kinds.Array t) → Fits (with_bounds g.structs node (local_typed s.structs s.flow k (Pointer m kinds.Array t) site))
+    row_fits : (k : ℕ) (m : Mode) (t : CType) (site node : Site) → slice_get s.locals k ≡ Some (Pointer m kinds.Array t) → Fits (with_bounds g.structs node (local_typed s.structs s.flow k (Pointer m kinds.Array t) false site))
     row_fits k m t site node h =
         subst (λ o. FitsValue (Pointer m kinds.Array t) false (noted_if o (core.Local k (in_force s.structs kinds.Array t (held_at s.flow.held k).bounds site))) (For (OfLocal k))) (sym (no_row m _))
         (by (held_at s.flow.held k).bounds refl)
@@ -476,16 +476,21 @@ module _ (g : Frame) (types : List CType) (s : Scope) where
         by None e = rw e (subst (λ o. FitsValue (Pointer m kinds.Array t) false (noted_if o (core.Local k None)) (For (OfLocal k))) (no_row m _) (held_fits knows.locals (Pointer m kinds.Array t) k node refl h))
         by (Some b) e = rw e (bounded_fits k m t b site h e)
 
-    local_fits : (k : ℕ) (t : CType) (at : Site) → IsScalar t → slice_get s.locals k ≡ Some t → FitsNoted (local_typed s.structs s.flow k t at)
-    local_fits k Int at scalar h site = held_fits knows.locals Int k site refl h
-    local_fits k Char at scalar h site = held_fits knows.locals Char k site refl h
-    local_fits k (Struct n) at scalar h site = absurd (cc)
-    local_fits k (Pointer m kinds.One t) at scalar h site = held_fits knows.locals (Pointer m kinds.One t) k site refl h
-    local_fits k (Pointer m kinds.Array t) at scalar h site = row_fits k m t at site h
-    local_fits k (Pointer m kinds.Nt t) at scalar h site = held_fits knows.locals (Pointer m kinds.Nt t) k site refl h
+    -- the name of an array stands for no place
+    standing_fits : (k : ℕ) (t : CType) (value : core.Expression) (array : Bool) → FitsValue t false value (For (OfLocal k)) → FitsValue t false value (local_standing array k)
+    standing_fits k t value true h = record { has_type = h.has_type; is_number = h.is_number; stands = tt; scalar = h.scalar; node = h.node }
+    standing_fits k t value false h = h
+
+    local_fits : (k : ℕ) (t : CType) (array : Bool) (at : Site) → IsScalar t → slice_get s.locals k ≡ Some t → FitsNoted (local_typed s.structs s.flow k t array at)
+    local_fits k Int array at scalar h site = standing_fits k Int _ array (held_fits knows.locals Int k site refl h)
+    local_fits k Char array at scalar h site = standing_fits k Char _ array (held_fits knows.locals Char k site refl h)
+    local_fits k (Struct n) array at scalar h site = absurd (cc)
+    local_fits k (Pointer m kinds.One t) array at scalar h site = standing_fits k (Pointer m kinds.One t) _ array (held_fits knows.locals (Pointer m kinds.One t) k site refl h)
+    local_fits k (Pointer m kinds.Array t) array at scalar h site = standing_fits k (Pointer m kinds.Array t) _ array (row_fits k m t at site h)
+    local_fits k (Pointer m kinds.Nt t) array at scalar h site = standing_fits k (Pointer m kinds.Nt t) _ array (held_fits knows.locals (Pointer m kinds.Nt t) k site refl h)
 
     name_fits : (at : Site) (n : Named) → StandsFor g s.structs s.locals n → FitsNoted (name_typed s n at)
-    name_fits at (Local k t) h = local_fits k t at (of_element IsScalar types k t knows.scalar (knows.locals k t h)) h
+    name_fits at (Local k t) h = local_fits k t (is_array s.arrays k) at (of_element IsScalar types k t knows.scalar (knows.locals k t h)) h
     name_fits at (Object k t) h = at_place_fits t (core.Direct k 0) (rules.direct h.found h.row)
     name_fits at (Array k t n) h = λ site.
         let size : size_of s.structs t ≡ size_of g.structs t = size_kept s.structs g.structs t knows.file.structs h.1 in
@@ -1317,16 +1322,21 @@ module _ (g : Frame) (types : List CType) (s : Scope) where
       new_counted None is = tt
       new_counted (Some n) is = record { size = same_bytes; some = made.bytes; below = record { lo = tt; hi = int_below s.locals s.flow.vars n.var knows.few (term_formed s.locals count n is).int } }
 
+    -- new memory of elements that have bytes
+    pub memory_typed : (t : CType) (count : core.Expression) (site : Site) → HasType g types s count Int → nat_lt 0 (size_of s.structs t) ≡ true
+        → HasType g types s (core.Allocate count (cells_with s.structs t (pos 0)) (row_counted s.structs t (term s.locals count) site)) (Pointer modes.Checked kinds.Array t)
+    memory_typed t count site h bytes =
+        let some = ltb-true 0 (size_of s.structs t) bytes in
+        let cells = made t count site some in
+        let word = subst (λ n. is_word_number (pos n) ≡ true) (same_bytes t count site some) (size_fits s.structs t knows.file.few_members) in
+        rules.allocate h (record { bytes = cells.bytes; word = word; size = cells.later_size; cells = cells.cells; initial = cells.initial g.structs; roomy = cells.roomy }) (new_bounds t count site some (term s.locals count) refl)
+
     allocation_promises : (t : CType) (count : core.Expression) (site : Site) (span : Span) → HasType g types s count Int → Promises Fits (allocation s t count site span)
     allocation_promises t count site span h =
         needs_promises Fits (nat_lt 0 (size_of s.structs t)) E13 span _
         (λ bytes.
-        let some = ltb-true 0 (size_of s.structs t) bytes in
-        let cells = made t count site some in
-        let word = subst (λ n. is_word_number (pos n) ≡ true) (same_bytes t count site some) (size_fits s.structs t knows.file.few_members) in
-        plain_fits (Pointer modes.Checked kinds.Array t) (core.Allocate count (cells_with s.structs t (pos 0)) (row_counted s.structs t (term s.locals count) site)) refl
-        (rules.allocate h (record { bytes = cells.bytes; word = word; size = cells.later_size; cells = cells.cells; initial = cells.initial g.structs; roomy = cells.roomy }) (new_bounds t count site some (term s.locals count) refl))
-        (record { own = new_counted t count site some (term s.locals count) refl; based = λ b e. absurd (cc) }))
+        plain_fits (Pointer modes.Checked kinds.Array t) (core.Allocate count (cells_with s.structs t (pos 0)) (row_counted s.structs t (term s.locals count) site)) refl (memory_typed t count site h bytes)
+        (record { own = new_counted t count site (ltb-true 0 (size_of s.structs t) bytes) (term s.locals count) refl; based = λ b e. absurd (cc) }))
 
     malloc_promises : (word : MallocWord) (t : CType) (size : Expression) (a : Typed) (site : Site) (span : Span) → Fits a → Promises Fits (malloc_typed word s t size a site span)
     malloc_promises malloc_words.Malloc t size a site span h =

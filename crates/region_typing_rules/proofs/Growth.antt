@@ -13,19 +13,21 @@ use Rattle.pointer_modes.specs.Types.{CType, Member, Structure, members_of}
 use Rattle.ckc_core.specs.Core as core
 use Rattle.region_typing_rules.specs.Verdicts.{Verdict, Passes, Stops, passing}
 use Rattle.region_typing_rules.specs.Scopes.{Scope, Signature, FileVariable, function_named}
-use Rattle.region_typing_rules.specs.Types.{is_scalar, without_stars, base_type}
-use Rattle.region_typing_rules.specs.Expressions.{Places, is_import, side_number, call_typed}
+use Rattle.region_typing_rules.specs.Types.{is_scalar, base_type}
+use Rattle.region_typing_rules.specs.Expressions.{Places, is_import, side_number, call_typed, site_at, row_of}
 use Rattle.bounds_flow.specs.Flows.{Knowledge, cut_off}
 use Rattle.bounds_exprs.specs.declared.term.Bounds.{Bounds}
 use Rattle.region_typing_rules.specs.DeclaredBounds.{declared_bounds}
 use Rattle.region_typing_rules.specs.Readings.{told}
 use Rattle.region_typing_rules.specs.Knowing.{assigned_by, settling, knowing, when, cut, broken, continued, at_loop}
-use Rattle.region_typing_rules.specs.Statements.{Walked, both, assignment, assigning, initialised, zero_value, with_local, first_value, declared, bounded_local, declarator, declarators, declaration, behind_block, behind_branch, at_alternative, behind_both, behind_loop, before_step, in_loop, is_unchecked, condition, optional_condition, optional_step, first_part, return, statement, statements}
+use Rattle.region_typing_rules.specs.Cells.{is_length}
+use Rattle.region_typing_rules.specs.Statements.{Walked, both, assignment, assigning, initialised, zero_value, with_local, first_value, declared, bounded_local, declarator, declarators, declaration, behind_block, behind_branch, at_alternative, behind_both, behind_loop, before_step, in_loop, is_unchecked, condition, optional_condition, optional_step, first_part, return, statement, statements, with_array, row_type, first_length}
 use Rattle.region_typing_rules.specs.Typed.{Frame, IsScalar}
 use Rattle.region_typing_rules.proofs.Verdicts.{Promises, passing_promises, needs_promises, anything_promised, later_promises, Extends, extends_append}
 use Rattle.region_typing_rules.proofs.Known.{IsKnown, IsClosed, base_known}
 use Rattle.region_typing_rules.proofs.Knowledge.{IsTrusted, IsTainted, IsVariable, KnowsFile}
 use Rattle.region_typing_rules.proofs.FlowSizes.{told_size, assigned_size, settling_size, outside_size, others_size}
+use Rattle.region_typing_rules.proofs.LocalArrays.{memory_of, settled_array, declarator_promises}
 
 -- what stands at file level stays, and so do the result and the loop; locals are added, which are scalars
 pub record Grows (before after : Scope) : Type 0 where
@@ -126,6 +128,13 @@ named_further a b t h named few =
 pub local_grows : (name : ℕ) (t : CType) (b : Option Bounds) (g : Scope) → IsScalar t → length g.locals < g.flow.vars → IsNamedIn g t → Grows g (with_local name t b g)
 local_grows name t b g h low named = record { size = refl; tags = refl; structs = refl; functions = refl; variables = refl; result = refl; asked = refl; loop = refl; locals = extends_append g.locals (t ∷ []); scalars = scalars_append g.locals t h; few = λ n. omega (arith, length-append g.locals (t ∷ [])); closed = λ c. local_closed name t b g (named c.tagged) c }
 
+-- whichever of its locals are arrays
+pub closed_arrays : (arrays : List ℕ) (g : Scope) → IsClosed g → IsClosed (record g { arrays = arrays })
+closed_arrays arrays g c = record { tagged = c.tagged; of_members = c.of_members; of_functions = c.of_functions; of_results = c.of_results; of_variables = c.of_variables; of_locals = c.of_locals }
+
+arrays_grow : (arrays : List ℕ) (g h : Scope) → Grows g h → Grows g (record h { arrays = arrays })
+arrays_grow arrays g h grown = record { tags = grown.tags; structs = grown.structs; functions = grown.functions; variables = grown.variables; result = grown.result; asked = grown.asked; loop = grown.loop; locals = grown.locals; scalars = grown.scalars; size = grown.size; few = grown.few; closed = λ c. closed_arrays arrays h (grown.closed c) }
+
 -- behind a block
 pub block_grows : (g inside : Scope) → Grows g inside → Grows g (behind_block g inside)
 block_grows g inside h =
@@ -208,13 +217,22 @@ bounded_local_grows at g d t span b few named =
     (λ initial _. needs_promises (GrowsTo {A = core.Statement} g) (is_scalar t) E13 span _ (λ scalar.
     declared_grows g inner d.initializer t (length g.locals) span initial (local_grows d.name.number t b g scalar few named)))
 
+array_grows : (at : Places) (g : Scope) (d : Declarator) (t : CType) (count : ℕ) (span : Span) → length g.locals < g.flow.vars → IsNamedIn g t
+    → Promises (GrowsTo {A = core.Statement} g) (settled_array (with_array d.name.number t count g) (length g.locals) (memory_of (with_array d.name.number t count g) t count (site_at at span)) span)
+array_grows at g d t count span few named =
+    let inner = with_array d.name.number t count g in
+    let set = core.SetLocal (length g.locals) (memory_of inner t count (site_at at span)) in
+    further_promised g inner (settled_array inner (length g.locals) (memory_of inner t count (site_at at span)) span)
+    (arrays_grow inner.arrays g (with_local d.name.number (row_type t) (Some (row_of count)) g) (local_grows d.name.number (row_type t) (Some (row_of count)) g refl few named))
+    (settled_grows inner (both (core.SetLocal (length g.locals) core.Null) set) (assigned_by inner.locals set inner.flow) span (assigned_size inner.locals set inner.flow))
+
 pub declarator_grows : (at : Places) (g : Scope) (base : TypeTree) (type : CType) (span : Span) (d : Declarator) → IsNamedIn g type → Promises (GrowsTo {A = core.Statement} g) (declarator at g base type span d)
 declarator_grows at g base type span d named =
-    needs_promises (GrowsTo {A = core.Statement} g) (nat_lt (length g.locals) g.flow.vars) E08 span _
-    (λ few. passing_promises (IsNamedIn g) (GrowsTo {A = core.Statement} g) (without_stars base d.stars type) _ (needs_promises (IsNamedIn g) (d.stars == 0) E15 (type_span base) (Passes type) (λ none. named))
-    (λ t named_t. passing_promises (λ (b : Option Bounds). Unit {0}) (GrowsTo {A = core.Statement} g) (declared_bounds (with_local d.name.number t None g) t (length g.locals) d.bounds) _
+    declarator_promises (GrowsTo {A = core.Statement} g) (IsNamedIn g) at g base type span d (λ few. needs_promises (IsNamedIn g) (d.stars == 0) E15 (type_span base) (Passes type) (λ none. named))
+    (λ few t named_t. passing_promises (λ (b : Option Bounds). Unit {0}) (GrowsTo {A = core.Statement} g) (declared_bounds (with_local d.name.number t None g) t (length g.locals) d.bounds) _
     (anything_promised (declared_bounds (with_local d.name.number t None g) t (length g.locals) d.bounds))
-    (λ b _. bounded_local_grows at g d t span b (ltb-true (length g.locals) g.flow.vars few) named_t)))
+    (λ b _. bounded_local_grows at g d t span b (ltb-true (length g.locals) g.flow.vars few) named_t))
+    (λ few t named_t count here counted bytes. array_grows at g d t count span (ltb-true (length g.locals) g.flow.vars few) named_t)
 
 pub declarators_grow : (at : Places) (g : Scope) (base : TypeTree) (type : CType) (span : Span) (ds : List Declarator) → IsNamedIn g type → Promises (GrowsTo {A = core.Statement} g) (declarators at g base type span ds)
 declarators_grow at g base type span [] named = stays g
@@ -228,7 +246,8 @@ base_named g base = later_promises (length g.tags ≤ length g.structs) (IsKnown
 pub declaration_grows : (at : Places) (g : Scope) (d : Declaration) → Promises (GrowsTo {A = core.Statement} g) (declaration at g d)
 declaration_grows at g d =
     needs_promises (GrowsTo {A = core.Statement} g) (nat_lt (length g.locals) g.flow.vars) E08 d.span _
-    (λ few. passing_promises (IsNamedIn g) (GrowsTo {A = core.Statement} g) (base_type g d.base) _ (base_named g d.base) (λ type named. declarators_grow at g d.base type d.span d.declarators named))
+    (λ few. needs_promises (GrowsTo {A = core.Statement} g) (is_length (first_length d.declarators)) E08 d.span _
+    (λ fits. passing_promises (IsNamedIn g) (GrowsTo {A = core.Statement} g) (base_type g d.base) _ (base_named g d.base) (λ type named. declarators_grow at g d.base type d.span d.declarators named)))
 
 pub first_grows : (at : Places) (g : Scope) (initial : ForInitial) → Promises (GrowsTo {A = core.Statement} g) (first_part at g initial)
 first_grows at g s.Nothing = stays g

@@ -197,6 +197,7 @@ module _ (height entry : ℕ) where
   abbrev at_start : Signature → List Parameter → trees.Statements → Scope → Scope
   at_start f ps body s = record s {
     locals = [];
+    arrays = [];
     visible = [];
     result = f.result;
     result_bounds = None;

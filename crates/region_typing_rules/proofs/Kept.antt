@@ -13,9 +13,9 @@ use Rattle.ckc_core.specs.Programs.{Initial}
 use Rattle.region_typing_rules.specs.Verdicts.{Verdict, Passes, Stops, passing, needs, breaks, picked}
 use Rattle.region_typing_rules.specs.Scopes.{Scope, Signature, WrittenBounds, function_named}
 use Rattle.region_typing_rules.specs.Expressions.{Places, is_tainted}
-use Rattle.region_typing_rules.specs.Statements.{is_unchecked}
+use Rattle.region_typing_rules.specs.Statements.{is_unchecked, length_of}
 use Rattle.region_typing_rules.specs.Types.{base_type, without_stars}
-use Rattle.region_typing_rules.specs.Items.{Defined, Parameter, Walk, Walked, WalkedVariable, in_checked_region, is_struct, member_types, member_names, with_struct, scalar_members, structure, initializer, object_cells, variables, with_variable, length_of, room_for, room_for_first, with_objects, global, listed, parameter_types, bounds_of_result, first_changed_in, result_type, with_function, function_body, agrees, all_scalar, scalar_result, is_defined, function_rules, signature_of, function}
+use Rattle.region_typing_rules.specs.Items.{Defined, Parameter, Walk, Walked, WalkedVariable, in_checked_region, is_struct, member_types, member_names, with_struct, scalar_members, structure, initializer, object_cells, variables, with_variable, room_for, room_for_first, with_objects, global, listed, parameter_types, bounds_of_result, first_changed_in, result_type, with_function, function_body, agrees, all_scalar, scalar_result, is_defined, function_rules, signature_of, function}
 use Rattle.region_typing_rules.proofs.Verdicts.{Promises, passing_promises, needs_promises}
 
 -- whatever is passed on

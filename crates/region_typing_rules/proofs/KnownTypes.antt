@@ -26,7 +26,7 @@ use Rattle.ckc_names_rules.specs.declared.given.Given.{Given}
 use Rattle.region_typing_rules.specs.Verdicts.{Verdict, Passes, Stops, passing, meant, picked}
 use Rattle.region_typing_rules.specs.Scopes.{Scope, Signature, WrittenBounds, FileVariable, Visible, Named, Local, Object, Array, Nothing, local_if, found_if, local_named, object_of, object_named, or_else, null_named, named, function_named, members_named}
 use Rattle.region_typing_rules.specs.Types.{type_named, is_number, is_pointer, are_comparable}
-use Rattle.region_typing_rules.specs.Expressions.{Places, OfLocal, OfCell, ForNothing, ForArray, For, Typed, Value, AStruct, Called, Gives, GivesNothing, site_at, bounded, number, at_place, local_typed, name_typed, member_from, member_at, dotted, with_elements, first_element, pointed_by, arrowed, pointed_at, dereferenced, address, number_of, scalar_of, unary_typed, is_single_value, lacks_bounds, two_numbers, two_scalars, operator_along, summed, sum_typed, equated, are_related, ordered, binary_typed, beside, element_at, indexed, arguments_as, is_import, call_of, declared_callee, writes, predefined_call, called, with_result, typed, all_typed, cast_typed, cast_bounds}
+use Rattle.region_typing_rules.specs.Expressions.{Places, OfLocal, OfCell, ForNothing, ForArray, For, Typed, Value, AStruct, Called, Gives, GivesNothing, site_at, bounded, number, at_place, local_typed, name_typed, member_from, member_at, dotted, with_elements, first_element, pointed_by, arrowed, pointed_at, dereferenced, address, number_of, scalar_of, unary_typed, is_single_value, lacks_bounds, two_numbers, two_scalars, operator_along, summed, sum_typed, equated, are_related, ordered, binary_typed, beside, element_at, indexed, arguments_as, is_import, call_of, declared_callee, writes, predefined_call, called, with_result, typed, all_typed, cast_typed, cast_bounds, is_array}
 use Rattle.region_typing_rules.proofs.Verdicts.{Promises, passing_promises, needs_promises, anything_promised, all_met_promise}
 use Rattle.region_typing_rules.proofs.Known.{IsKnown, IsKnownResult, IsClosed, type_known}
 use Rattle.region_typing_rules.proofs.Knowledge.{crossing_promises}
@@ -100,14 +100,14 @@ module _ (structs : List Structure) where
   at_place_known (Struct number) p h = h
   at_place_known (Pointer m k t) p h = h
 
-  local_typed_known : (s : Scope) (local : ℕ) (t : CType) (site : Site) → IsKnown structs t → Known (local_typed s.structs s.flow local t site)
-  local_typed_known s local Int site h = h
-  local_typed_known s local Char site h = h
-  local_typed_known s local (Struct number) site h = h
-  local_typed_known s local (Pointer m k t) site h = h
+  local_typed_known : (s : Scope) (local : ℕ) (t : CType) (array : Bool) (site : Site) → IsKnown structs t → Known (local_typed s.structs s.flow local t array site)
+  local_typed_known s local Int array site h = h
+  local_typed_known s local Char array site h = h
+  local_typed_known s local (Struct number) array site h = h
+  local_typed_known s local (Pointer m k t) array site h = h
 
   name_known : (s : Scope) (site : Site) (n : Named) → IsKnownNamed structs n → Known (name_typed s n site)
-  name_known s site (Local local type) h = local_typed_known s local type site h
+  name_known s site (Local local type) h = local_typed_known s local type (is_array s.arrays local) site h
   name_known s site (Object object type) h = at_place_known type (core.Direct object 0) h
   name_known s site (Array object type length) h = h
   name_known s site Nothing h = tt

@@ -19,6 +19,7 @@ pub mod Calls
 pub mod RightOperands
 pub mod Expressions
 pub mod FlowSizes
+pub mod LocalArrays
 pub mod Growth
 pub mod Assigning
 pub mod Statements

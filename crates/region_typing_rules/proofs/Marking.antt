@@ -14,18 +14,20 @@ use Rattle.pointer_modes.specs.Types.{CType}
 use Rattle.ckc_core.specs.Core as core
 use Rattle.region_typing_rules.specs.Scopes.{Scope, Visible}
 use Rattle.region_typing_rules.specs.Types.{is_scalar, without_stars, base_type}
-use Rattle.region_typing_rules.specs.Expressions.{Places, Typed, Called, Gives, GivesNothing, call_typed, typed}
-use Rattle.region_typing_rules.specs.Knowing.{when, local_number, target_marked, marked_at, assignment_marked, bundle_marked, step_marked, hiding, hidden_by, hidden_first, first_marked, marked, all_marked, at_loop}
+use Rattle.region_typing_rules.specs.Expressions.{Places, Typed, Called, Gives, GivesNothing, call_typed, typed, site_at, row_of}
+use Rattle.region_typing_rules.specs.Knowing.{when, local_number, target_marked, marked_at, assignment_marked, bundle_marked, step_marked, hiding, hidden_by, hidden_first, first_marked, marked, all_marked, at_loop, assigned_by, knowing}
 use Rattle.bounds_exprs.specs.declared.term.Bounds.{Bounds}
 use Rattle.region_typing_rules.specs.DeclaredBounds.{declared_bounds}
-use Rattle.region_typing_rules.specs.Statements.{Walked, both, assigning, zero_value, with_local, initialised, bounded_local, declarator, declarators, declaration, at_alternative, before_step, in_loop, is_unchecked, condition, optional_condition, optional_step, first_part, alone, return, result_meets, returned, returned_nothing, statement, statements}
-use Rattle.region_typing_rules.proofs.Verdicts.{Promises, passing_promises, needs_promises, extends_last}
+use Rattle.region_typing_rules.specs.Cells.{is_length}
+use Rattle.region_typing_rules.specs.Statements.{Walked, both, assigning, zero_value, with_local, initialised, bounded_local, declarator, declarators, declaration, at_alternative, before_step, in_loop, is_unchecked, condition, optional_condition, optional_step, first_part, alone, return, result_meets, returned, returned_nothing, statement, statements, with_array, row_type, first_length}
+use Rattle.region_typing_rules.proofs.Verdicts.{Promises, passing_promises, needs_promises, extends_last, anything_promised}
 use Rattle.region_typing_rules.proofs.Kept.{passing_any}
-use Rattle.region_typing_rules.proofs.Assigning.{assigning_promises, declared_promises}
+use Rattle.region_typing_rules.proofs.Assigning.{assigning_promises, declared_promises, settled_promises}
 use Rattle.region_typing_rules.proofs.Moving.{AssignsOnly, AllAssignOnly}
 use Rattle.region_typing_rules.proofs.Assigns.{IsPlain}
 use Rattle.region_typing_rules.proofs.Sources.{IsNameOf, IsFreshCall, call_typed_fresh}
 use Rattle.region_typing_rules.proofs.Marks.{IsAssignment, IsFirst, target_of, converted_any, assignment_plain, initialised_plain}
+use Rattle.region_typing_rules.proofs.LocalArrays.{memory_of, declarator_promises}
 
 -- ---- marks are only added
 
@@ -288,6 +290,18 @@ longer g name t b = let e = length-append g.locals (t ∷ []) in omega (arith, e
 abbrev IsDeclaring : (beyond : ℕ) → List Visible → Declarator → Walked → Type 0
 IsDeclaring beyond ws d w = IsMarked beyond (record { name = d.name.number; local = beyond } ∷ ws) (λ marks. marks) w
 
+-- a local more, which is zero or null and is assigned then
+local_marked : (name : ℕ) (t : CType) (b : Option Bounds) (g : Scope) (f : Knowledge) (arrays : List ℕ) (initial : core.Statement) (beyond : ℕ) (ws : List Visible) → AreHidden beyond g.visible ws → beyond ≤ length g.locals
+    → ((may : ℕ → Bool) → may (length g.locals) ≡ true → AssignsOnly may initial)
+    → IsMarked beyond (record { name = name; local = beyond } ∷ ws) (λ marks. marks) (both (core.SetLocal (length g.locals) (zero_value t)) initial, knowing f (record (with_local name t b g) { arrays = arrays }))
+local_marked name t b g f arrays initial beyond ws hidden low only = record {
+  only = λ may before many covers.
+      let here : may (length g.locals) ≡ true = covers (length g.locals) (beyond_true before (length g.locals) (omega (arith, low, many))) in
+      both_only may (core.SetLocal (length g.locals) (zero_value t)) initial here (only may here);
+  hidden = (refl, inr low, hidden);
+  low = (let e = longer g name t b in omega (arith, low, e));
+}
+
 bounded_local_marked : (at : Places) (g : Scope) (d : Declarator) (t : CType) (span : Span) (b : Option Bounds) (beyond : ℕ) (ws : List Visible) → AreHidden beyond g.visible ws → beyond ≤ length g.locals
     → Promises (IsDeclaring beyond ws d) (bounded_local at g d t span b)
 bounded_local_marked at g d t span b beyond ws hidden low =
@@ -296,20 +310,18 @@ bounded_local_marked at g d t span b beyond ws hidden low =
     (initialised_plain at inner d.initializer t (length g.locals) span (extends_last g.locals t))
     (λ initial h. needs_promises (IsDeclaring beyond ws d) (is_scalar t) E13 span _
     (λ scalar. declared_promises (IsDeclaring beyond ws d) inner d.initializer t (length g.locals) span initial
-    (λ f. record {
-      only = λ may before many covers.
-          let here : may (length g.locals) ≡ true = covers (length g.locals) (beyond_true before (length g.locals) (omega (arith, low, many))) in
-          both_only may (core.SetLocal (length g.locals) (zero_value t)) initial here (h.only may here);
-      hidden = (refl, inr low, hidden);
-      low = (let e = longer g d.name.number t b in omega (arith, low, e));
-    })))
+    (λ f. local_marked d.name.number t b g f g.arrays initial beyond ws hidden low h.only)))
 
 declarator_marked : (at : Places) (g : Scope) (base : TypeTree) (type : CType) (span : Span) (d : Declarator) (beyond : ℕ) (ws : List Visible) → AreHidden beyond g.visible ws → beyond ≤ length g.locals
     → Promises (IsDeclaring beyond ws d) (declarator at g base type span d)
 declarator_marked at g base type span d beyond ws hidden low =
-    needs_promises (IsDeclaring beyond ws d) (nat_lt (length g.locals) g.flow.vars) E08 span _
-    (λ few. passing_any (IsDeclaring beyond ws d) (without_stars base d.stars type) _
-    (λ t. passing_any (IsDeclaring beyond ws d) (declared_bounds (with_local d.name.number t None g) t (length g.locals) d.bounds) _ (λ b. bounded_local_marked at g d t span b beyond ws hidden low)))
+    declarator_promises (IsDeclaring beyond ws d) (λ (t : CType). Unit {0}) at g base type span d (λ few. anything_promised (without_stars base d.stars type))
+    (λ few t _. passing_any (IsDeclaring beyond ws d) (declared_bounds (with_local d.name.number t None g) t (length g.locals) d.bounds) _ (λ b. bounded_local_marked at g d t span b beyond ws hidden low))
+    (λ few t _ count here counted bytes.
+    let inner = with_array d.name.number t count g in
+    let set = core.SetLocal (length g.locals) (memory_of inner t count (site_at at span)) in
+    settled_promises (IsDeclaring beyond ws d) (both (core.SetLocal (length g.locals) core.Null) set) inner (assigned_by inner.locals set inner.flow) span
+    (λ f. local_marked d.name.number (row_type t) (Some (row_of count)) g f inner.arrays set beyond ws hidden low (λ may here. here)))
 
 declarators_marked : (at : Places) (g : Scope) (base : TypeTree) (type : CType) (span : Span) (ds : List Declarator) (beyond : ℕ) (ws : List Visible) → AreHidden beyond g.visible ws → beyond ≤ length g.locals
     → Promises (IsMarked beyond (hiding beyond ds ws) (λ marks. marks)) (declarators at g base type span ds)
@@ -324,7 +336,8 @@ declaration_marked : (at : Places) (g : Scope) (d : Declaration) (beyond : ℕ) 
     → Promises (IsMarked beyond (hiding beyond d.declarators ws) (λ marks. marks)) (declaration at g d)
 declaration_marked at g d beyond ws hidden low =
     needs_promises (IsMarked beyond (hiding beyond d.declarators ws) (λ marks. marks)) (nat_lt (length g.locals) g.flow.vars) E08 d.span _
-    (λ few. passing_any (IsMarked beyond (hiding beyond d.declarators ws) (λ marks. marks)) (base_type g d.base) _ (λ type. declarators_marked at g d.base type d.span d.declarators beyond ws hidden low))
+    (λ few. needs_promises (IsMarked beyond (hiding beyond d.declarators ws) (λ marks. marks)) (is_length (first_length d.declarators)) E08 d.span _
+    (λ fits. passing_any (IsMarked beyond (hiding beyond d.declarators ws) (λ marks. marks)) (base_type g d.base) _ (λ type. declarators_marked at g d.base type d.span d.declarators beyond ws hidden low)))
 
 pub first_marked_so : (at : Places) (g : Scope) (initial : ForInitial) (beyond : ℕ) (ws : List Visible) → AreHidden beyond g.visible ws → beyond ≤ length g.locals
     → Promises (IsMarked beyond (hidden_first beyond initial ws) (first_marked ws initial)) (first_part at g initial)

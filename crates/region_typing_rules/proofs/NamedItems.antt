@@ -34,10 +34,10 @@ use Rattle.region_typing_rules.specs.Scopes.{Scope, Signature, FileVariable, fou
 use Rattle.region_typing_rules.specs.Types.{without_stars, base_type}
 use Rattle.region_typing_rules.specs.Expressions.{Places, is_tainted, typed}
 use Rattle.bounds_flow.specs.Flows.{at_entry}
-use Rattle.region_typing_rules.specs.Statements.{is_unchecked, statements}
+use Rattle.region_typing_rules.specs.Statements.{is_unchecked, statements, length_of}
 use Rattle.ckc_tree.specs.declared.stmt.SignedConstant.{SignedConstant}
 use Rattle.region_typing_rules.specs.Knowing.{knowing}
-use Rattle.region_typing_rules.specs.Items.{Walk, Parameter, is_struct, member_types, scalar_members, with_struct, member_names, structure, signed_constant, Walked, Missing, Written, Constants, unsigned_number, small_constants, initializer, are_zeros, is_zero, number_or_break, cells_or_break, object_cells, with_variable, length_of, count_of, is_length, written_size, few_bytes, room_for, WalkedVariable, variables, room_for_first, with_objects, global, listed, parameter_types, among_parameters, type_of_result, bounds_of_result, first_changed_in, result_type, agrees, all_scalar, scalar_result, with_function, variables_in, with_bounds, before_bounds, inside, function_body, is_defined, function_rules, signature_of, function, is_off, item, items, start, walked}
+use Rattle.region_typing_rules.specs.Items.{Walk, Parameter, is_struct, member_types, scalar_members, with_struct, member_names, structure, signed_constant, Walked, Missing, Written, Constants, unsigned_number, small_constants, initializer, are_zeros, is_zero, number_or_break, cells_or_break, object_cells, with_variable, count_of, written_size, few_bytes, room_for, WalkedVariable, variables, room_for_first, with_objects, global, listed, parameter_types, among_parameters, type_of_result, bounds_of_result, first_changed_in, result_type, agrees, all_scalar, scalar_result, with_function, variables_in, with_bounds, before_bounds, inside, function_body, is_defined, function_rules, signature_of, function, is_off, item, items, start, walked}
 use Rattle.region_typing_rules.specs.Cores.{checked}
 use Rattle.region_typing_rules.specs.DeclaredBounds.{declared_bounds}
 use Rattle.region_typing_rules.proofs.NamedBounds.{bounds_named}
@@ -48,6 +48,7 @@ use Rattle.region_typing_rules.proofs.NamedScopes.{number_equal, KnowsTags, mean
 use Rattle.region_typing_rules.proofs.NamedExpressions.{typed_named}
 use Rattle.region_typing_rules.proofs.NamedStatements.{Behind, statements_named}
 use Rattle.region_typing_rules.proofs.NamedLists.{or_cases, any_more, any_last, Adds, adds_same, lists_all, listed_adds, listed_keeps, HaveTags, is_listed, is_parameter, members_named, Named as AreParameters, parameters_named, inside_agrees}
+use Rattle.region_typing_rules.specs.Cells.{is_length}
 
 -- ---- what is known at file level
 
@@ -395,6 +396,7 @@ function_named_so of at all n m w d before built h =
     let adds = (parameters_add (λ x. is_parameter ps (of x) ≡ true) d.parameters (λ x e. each x (inl e)) (opened parts.declared) parts.entered parts.parameters).0 in
     let start : Statements → Scope = λ body. record after {
       locals = [];
+      arrays = [];
       visible = [];
       result = f.result;
       result_bounds = None;

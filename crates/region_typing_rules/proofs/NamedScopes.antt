@@ -130,6 +130,13 @@ from_flow g after k f b c h = record { given = h.given; tags = h.tags; functions
 pub later_local : (name : ℕ) (t : CType) (b : Option Bounds) (g : Scope) → Later g (with_local name t b g)
 later_local name t b g = record { given = refl; tags = refl; functions = refl; variables = refl; locals = extends_append g.locals (t ∷ []) }
 
+-- whichever of its locals are arrays
+pub arrays_agree : (of : Numbers) → (n : Scopes) (g : Scope) (arrays : List ℕ) → Agrees of n g → Agrees of n (record g { arrays = arrays })
+arrays_agree of n g arrays h = record { value = h.value; function = h.function; tag = h.tag; given = h.given }
+
+pub later_arrays : (g after : Scope) (arrays : List ℕ) → Later g after → Later g (record after { arrays = arrays })
+later_arrays g after arrays h = record { given = h.given; tags = h.tags; functions = h.functions; variables = h.variables; locals = h.locals }
+
 type_some : (o : Option CType) (k : ℕ) → is_some (local_if o k) ≡ true → (t : CType) × (o ≡ Some t)
 type_some None k h = absurd (cc)
 type_some (Some t) k h = (t, refl)

@@ -228,9 +228,12 @@ pub met_named : {A : Type 0} (f : Knowledge) (t : Typed) (to : CType) (span : Sp
 met_named f (Value type zero value place) to span next h = needs_named Any (zero || meets f value (asked_of type to)) E17 span next h
 met_named f (AStruct number place) to span next h = h
 
+pub converted_so : {A : Type 0} (Q : A → Type 0) (t : Typed) (to : CType) (span : Span) (next : core.Expression → Verdict A) → ((v : core.Expression) → IsNamed Q (next v)) → IsNamed Q (converted t to span next)
+converted_so Q (Value type zero value place) to span next h = needs_named Q (converts type zero to) E13 span _ (h (in_type to (zero && is_number type) value))
+converted_so Q (AStruct number place) to span next h = tt
+
 pub converted_named : {A : Type 0} (t : Typed) (to : CType) (span : Span) (next : core.Expression → Verdict A) → ((v : core.Expression) → AllNamed (next v)) → AllNamed (converted t to span next)
-converted_named (Value type zero value place) to span next h = needs_named Any (converts type zero to) E13 span _ (h (in_type to (zero && is_number type) value))
-converted_named (AStruct number place) to span next h = tt
+converted_named t to span next h = converted_so Any t to span next h
 
 -- ---- calls
 
@@ -270,7 +273,7 @@ result_named (GivesNothing call) span = tt
 
 -- ---- allocation and casts
 
-allocation_named : (s : Scope) (t : CType) (count : core.Expression) (site : Site) (span : Span) → AllNamed (allocation s t count site span)
+pub allocation_named : (s : Scope) (t : CType) (count : core.Expression) (site : Site) (span : Span) → AllNamed (allocation s t count site span)
 allocation_named s t count site span = needs_named Any (nat_lt 0 (size_of s.structs t)) E13 span _ tt
 
 allocation_if_named : (s : Scope) (t : CType) (o : Option core.Expression) (site : Site) (span : Span) → AllNamed (allocation_if s t o site span)

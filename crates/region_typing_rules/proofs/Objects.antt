@@ -20,7 +20,7 @@ use Rattle.region_typing_rules.specs.Scopes.{Scope, struct_named, FileVariable}
 use Rattle.region_typing_rules.specs.Types.{base_type, without_stars, type_named}
 use Rattle.region_typing_rules.specs.Expressions.{Places, Typed, typed}
 use Rattle.ckc_tree.specs.declared.stmt.SignedConstant.{SignedConstant}
-use Rattle.region_typing_rules.specs.Items.{Walk, in_checked_region, is_struct, member_types, scalar_members, with_struct, member_names, signed_constant, structure, Walked, initializer, object_cells, with_variable, WalkedVariable, written_size, few_bytes, room_for, room_for_first, variables, with_objects, global, length_of, count_of, is_length, small_constants, unsigned_number}
+use Rattle.region_typing_rules.specs.Items.{Walk, in_checked_region, is_struct, member_types, scalar_members, with_struct, member_names, signed_constant, structure, Walked, initializer, object_cells, with_variable, WalkedVariable, written_size, few_bytes, room_for, room_for_first, variables, with_objects, global, count_of, small_constants, unsigned_number}
 use Rattle.region_typing_rules.specs.Typed.{IsScalar}
 use Rattle.region_typing_rules.specs.Lowerable.{cells_size, objects_size, IsRoomy}
 use Rattle.region_typing_rules.proofs.Verdicts.{Promises, passing_promises, needs_promises, anything_promised, both_promise, all_promised, extends_append}
@@ -28,6 +28,8 @@ use Rattle.region_typing_rules.proofs.Known.{IsKnown, known_later, all_so, of_me
 use Rattle.region_typing_rules.proofs.Layouts.{AreSmall, ConstantFits, IsStart, IsWalked, constant_promises}
 use Rattle.region_typing_rules.proofs.Walks.{FileGrows, file_stays, file_further, AreSettled, IsWell, settled_later, bodies_later, all_append, IsSettled}
 use Rattle.region_typing_rules.proofs.Copies.{Copies, copies_start, copies_roomy, copies_size, copies_rows, object_promises}
+use Rattle.region_typing_rules.specs.Statements.{length_of}
+use Rattle.region_typing_rules.specs.Cells.{is_length}
 
 -- the region of an item is checked
 pub region_promises : (P : Walk → Type 0) (s : Scope) (span : Span) (w : Walk) → P w → Promises P (in_checked_region s span w)

@@ -30,7 +30,7 @@ use Rattle.ckc_names_rules.specs.declared.given.Given.{Given}
 use Rattle.region_typing_rules.specs.Verdicts.{Verdict, Passes, passing, meant}
 use Rattle.region_typing_rules.specs.Scopes.{Scope, Signature, WrittenBounds, FileVariable, Visible, Named, Local, Object, Array, Nothing, local_if, found_if, local_named, object_of, object_named, or_else, null_named, named, function_named, members_named}
 use Rattle.region_typing_rules.specs.Types.{type_named, is_number, is_pointer, are_comparable}
-use Rattle.region_typing_rules.specs.Expressions.{Places, OfLocal, OfCell, Standing, ForNothing, ForArray, For, Typed, Value, AStruct, Called, Gives, GivesNothing, site_at, with_bounds, bounded, number, at_place, local_typed, name_typed}
+use Rattle.region_typing_rules.specs.Expressions.{Places, OfLocal, OfCell, Standing, ForNothing, ForArray, For, Typed, Value, AStruct, Called, Gives, GivesNothing, site_at, with_bounds, bounded, number, at_place, local_typed, name_typed, is_array, local_standing}
 use Rattle.region_typing_rules.specs.Expressions.{struct_place, member_place, member_from, offset_among, member_at, dotted, with_elements, first_element, pointed_by, arrowed, pointed_at, dereferenced, address, number_of, scalar_of, unary_typed, two_numbers, two_scalars, operator_along, summed, sum_typed}
 use Rattle.region_typing_rules.specs.Expressions.{equated, are_related, ordered_values, ordered, arithmetic, binary_typed, beside, element_at, indexed, arguments_as, is_import, call_of, declared_callee, first_of, writes, constant_typed, predefined_call, called, with_result, typed, all_typed, call_typed, cast_typed, cast_bounds}
 use Rattle.region_typing_rules.specs.Knowing.{local_number}
@@ -372,14 +372,18 @@ fresh_source s x (AStruct number place) h = tt
 fresh_sources : (s : Scope) (x : Expression) (v : Verdict Typed) → Promises IsFresh v → Promises (IsSource s x) v
 fresh_sources s x v h = promised_so IsFresh (IsSource s x) v h (fresh_source s x)
 
-local_source : (s : Scope) (x : Expression) (k : ℕ) (t : CType) (site : Site) → slice_get s.locals k ≡ Some t → IsNameOf s.visible x k → IsSource s x (local_typed s.structs s.flow k t site)
-local_source s x k Int site h n = (h, n)
-local_source s x k Char site h n = (h, n)
-local_source s x k (Struct number) site h n = tt
-local_source s x k (Pointer m d t) site h n = (h, n)
+standing_target : (s : Scope) (x : Expression) (k : ℕ) (t : CType) (array : Bool) → slice_get s.locals k ≡ Some t → IsNameOf s.visible x k → IsTarget s x t (local_standing array k)
+standing_target s x k t true h n = tt
+standing_target s x k t false h n = (h, n)
+
+local_source : (s : Scope) (x : Expression) (k : ℕ) (t : CType) (array : Bool) (site : Site) → slice_get s.locals k ≡ Some t → IsNameOf s.visible x k → IsSource s x (local_typed s.structs s.flow k t array site)
+local_source s x k Int array site h n = standing_target s x k Int array h n
+local_source s x k Char array site h n = standing_target s x k Char array h n
+local_source s x k (Struct number) array site h n = tt
+local_source s x k (Pointer m d t) array site h n = standing_target s x k (Pointer m d t) array h n
 
 name_source : (s : Scope) (name : Identifier) (site : Site) (x : Named) → IsLocalAt s name.number x → IsSource s (e.Name name) (name_typed s x site)
-name_source s name site (Local k t) h = local_source s (e.Name name) k t site h.0 h.1
+name_source s name site (Local k t) h = local_source s (e.Name name) k t (is_array s.arrays k) site h.0 h.1
 name_source s name site (Object k t) h = fresh_source s (e.Name name) (at_place t (core.Direct k 0)) (at_place_fresh t (core.Direct k 0))
 name_source s name site (Array k t n) h = tt
 name_source s name site Nothing h = tt

@@ -24,13 +24,15 @@ use Rattle.region_typing_rules.specs.Verdicts.{Verdict, Passes}
 use Rattle.region_typing_rules.specs.Scopes.{Scope}
 use Rattle.region_typing_rules.specs.Types.{is_scalar, without_stars, base_type}
 use Rattle.region_typing_rules.specs.Expressions.{Places, Typed, Value, AStruct, Called, Gives, GivesNothing, Lvalue, OfLocal, OfCell, ForNothing, ForArray, For, site_at, sum_node, operator_along, typed, call_typed}
-use Rattle.region_typing_rules.specs.Statements.{Walked, store, update, assigned, set_to, moved, updated_as, updated, stored, step_of, one, assignment, assigning, zero_value, with_local, initialised, bounded_local, declarator, declarators, declaration, at_alternative, before_step, in_loop, is_unchecked, condition, optional_condition, optional_step, first_part, alone, result_meets, returned, returned_nothing, return, statement, statements}
+use Rattle.region_typing_rules.specs.Cells.{is_length}
+use Rattle.region_typing_rules.specs.Statements.{Walked, store, update, assigned, set_to, moved, updated_as, updated, stored, step_of, one, assignment, assigning, zero_value, with_local, initialised, bounded_local, declarator, declarators, declaration, at_alternative, before_step, in_loop, is_unchecked, condition, optional_condition, optional_step, first_part, alone, result_meets, returned, returned_nothing, return, statement, statements, with_array, both, first_length}
 use Rattle.region_typing_rules.specs.DeclaredBounds.{declared_bounds}
-use Rattle.region_typing_rules.specs.Knowing.{when, at_loop}
-use Rattle.region_typing_rules.proofs.Assigning.{assigning_promises, declared_promises}
+use Rattle.region_typing_rules.specs.Knowing.{when, at_loop, assigned_by}
+use Rattle.region_typing_rules.proofs.Assigning.{assigning_promises, declared_promises, settled_promises}
 use Rattle.region_typing_rules.proofs.Verdicts.{Promises, passing_promises, needs_promises, anything_promised, promised_so, both_promise, apart_promises, met_promises}
 use Rattle.region_typing_rules.proofs.Growth.{Grows, GrowsTo, IsNamedIn, named_further, base_named, alternative_grows, step_grows, declarator_grows, first_grows, statement_grows}
 use Rattle.region_typing_rules.proofs.Stacks.{beside_first, beside_second, around_higher, Low, LowPlace, LowCall, IsLow, HasFew, some_reach, number_of_low, scalar_of_low, two_low, converted_low, typed_low, call_typed_low}
+use Rattle.region_typing_rules.proofs.LocalArrays.{memory_of, declarator_promises}
 
 abbrev pub IsLowStatement : ℕ → core.Statement → Type 0
 IsLowStatement n x = statement_stack x ≤ n
@@ -154,10 +156,13 @@ module _ (at : Places) where
 
   declarator_low : (s : Scope) → HaveFew s → (base : TypeTree) (type : CType) (span : Span) (d : Declarator) (n : ℕ) → 17 * (declarator_reach d).height + 1 ≤ n → Promises (BecomesLow n) (declarator at s base type span d)
   declarator_low s few base type span d n h =
-      needs_promises (BecomesLow n) (nat_lt (length s.locals) s.flow.vars) E08 span _
-      (λ low. passing_promises (λ (t : CType). Unit {0}) (BecomesLow n) (without_stars base d.stars type) _ (anything_promised (without_stars base d.stars type))
-      (λ t _. passing_promises (λ (b : Option Bounds). Unit {0}) (BecomesLow n) (declared_bounds (with_local d.name.number t None s) t (length s.locals) d.bounds) _
-      (anything_promised (declared_bounds (with_local d.name.number t None s) t (length s.locals) d.bounds)) (λ b _. bounded_local_low s few d t span b n h)))
+      declarator_promises (BecomesLow n) (λ (t : CType). Unit {0}) at s base type span d (λ low. anything_promised (without_stars base d.stars type))
+      (λ low t _. passing_promises (λ (b : Option Bounds). Unit {0}) (BecomesLow n) (declared_bounds (with_local d.name.number t None s) t (length s.locals) d.bounds) _
+      (anything_promised (declared_bounds (with_local d.name.number t None s) t (length s.locals) d.bounds)) (λ b _. bounded_local_low s few d t span b n h))
+      (λ low t _ count here counted bytes.
+      let inner = with_array d.name.number t count s in
+      let set = core.SetLocal (length s.locals) (memory_of inner t count (site_at at span)) in
+      settled_promises (BecomesLow n) (both (core.SetLocal (length s.locals) core.Null) set) inner (assigned_by inner.locals set inner.flow) span (λ k. omega arith))
 
   declarators_low : (s : Scope) → HaveFew s → (base : TypeTree) (type : CType) (span : Span) (ds : List Declarator) (n : ℕ) → IsNamedIn s type → 17 * (declarators_reach ds).height + 1 ≤ n → Promises (BecomesLow n) (declarators at s base type span ds)
   declarators_low s few base type span [] n named h = omega arith
@@ -172,7 +177,8 @@ module _ (at : Places) where
   declaration_low s few d n h =
       let two = beside_second (type_reach d.base) (declarators_reach d.declarators) in
       needs_promises (BecomesLow n) (nat_lt (length s.locals) s.flow.vars) E08 d.span _
-      (λ room. passing_promises (IsNamedIn s) (BecomesLow n) (base_type s d.base) _ (base_named s d.base) (λ type named. declarators_low s few d.base type d.span d.declarators n named (omega arith)))
+      (λ room. needs_promises (BecomesLow n) (is_length (first_length d.declarators)) E08 d.span _
+      (λ fits. passing_promises (IsNamedIn s) (BecomesLow n) (base_type s d.base) _ (base_named s d.base) (λ type named. declarators_low s few d.base type d.span d.declarators n named (omega arith))))
 
   first_low : (s : Scope) → HaveFew s → (initial : ForInitial) (n : ℕ) → 17 * (for_initial_reach initial).height ≤ n → Promises (BecomesLow n) (first_part at s initial)
   first_low s few trees.Nothing n h = omega arith

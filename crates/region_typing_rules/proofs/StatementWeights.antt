@@ -1,6 +1,6 @@
 -- The statements of a core have few nodes, by how many the tree has that they come from.
-use Rattle.std.proofs.Common.{◌≡◌, ℕ, ◌+◌, ◌*◌, ◌<◌, ◌≤◌, true, List, [], ◌∷◌, length, Option, Some, None, arith}
-use Rattle.std.specs.Prelude.{nat_lt, not, ◌||◌}
+use Rattle.std.proofs.Common.{◌≡◌, ℕ, ◌+◌, ◌*◌, ◌<◌, ◌≤◌, true, List, [], ◌∷◌, length, Option, Some, None, refl, arith}
+use Rattle.std.specs.Prelude.{nat_lt, not, ◌||◌, option_map}
 use Rattle.ckc_text.specs.declared.place.Span.{Span}
 use Rattle.ckc_text.specs.declared.code.Code.TheVariants.{E08, E13, E15, E17, E30}
 use Rattle.ckc_tree.specs.declared.stmt.StoreOperator.{StoreOperator}
@@ -23,12 +23,15 @@ use Rattle.region_typing_rules.specs.Verdicts.{Verdict, Passes}
 use Rattle.region_typing_rules.specs.Scopes.{Scope}
 use Rattle.region_typing_rules.specs.Types.{is_scalar, without_stars, base_type}
 use Rattle.region_typing_rules.specs.Expressions.{Places, Typed, Value, AStruct, Called, Gives, GivesNothing, Lvalue, OfLocal, OfCell, ForNothing, ForArray, For, site_at, sum_node, operator_along, typed, call_typed}
-use Rattle.region_typing_rules.specs.Statements.{Walked, store, update, assigned, set_to, moved, updated_as, updated, stored, step_of, one, assignment, zero_value, with_local, initialised, bounded_local, declarator, declarators, declaration, at_alternative, before_step, in_loop, is_unchecked, condition, optional_condition, optional_step, first_part, alone, result_meets, returned, returned_nothing, return, statement, statements}
+use Rattle.region_typing_rules.specs.Cells.{is_length}
+use Rattle.region_typing_rules.specs.Statements.{Walked, store, update, assigned, set_to, moved, updated_as, updated, stored, step_of, one, assignment, zero_value, with_local, initialised, bounded_local, declarator, declarators, declaration, at_alternative, before_step, in_loop, is_unchecked, condition, optional_condition, optional_step, first_part, alone, result_meets, returned, returned_nothing, return, statement, statements, with_array, both, length_of, first_length}
 use Rattle.region_typing_rules.specs.DeclaredBounds.{declared_bounds}
-use Rattle.region_typing_rules.specs.Knowing.{when, at_loop}
-use Rattle.region_typing_rules.proofs.Assigning.{assigning_promises, declared_promises}
+use Rattle.region_typing_rules.specs.Knowing.{when, at_loop, assigned_by}
+use Rattle.region_typing_rules.proofs.Assigning.{assigning_promises, declared_promises, settled_promises}
 use Rattle.region_typing_rules.proofs.Verdicts.{Promises, passing_promises, needs_promises, anything_promised, promised_so, apart_promises, met_promises}
 use Rattle.region_typing_rules.proofs.Weights.{Light, LightPlace, LightCall, IsLight, node_there, number_of_light, scalar_of_light, two_light, converted_light, typed_light, call_typed_light}
+use Rattle.region_typing_rules.proofs.LocalArrays.{declarator_promises, memory_of, settled_array}
+use Rattle.ckc_tree.specs.declared.stmt.ArrayForm.{ArrayForm}
 
 abbrev IsLightStatement : ℕ → core.Statement → Type 0
 IsLightStatement n x = statement_weight x ≤ n
@@ -139,6 +142,10 @@ module _ (at : Places) where
       (λ x light. converted_light (IsLightStatement (n + 1)) n x t span _ (omega (arith, node_there value)) light (λ v light'. met_promises (IsLightStatement (n + 1)) s.flow x t span _ (omega arith)))
   initialised_light s (Some (trees.Constants constants list)) t k span = tt
 
+  array_one : (o : Option ArrayForm) (count : ℕ) → option_map (λ (a : ArrayForm). a.length) o ≡ Some count → tree.optional_array_weight o ≡ 1
+  array_one None count h = absurd (cc)
+  array_one (Some array) count h = refl
+
   -- with one node to spare
   abbrev IsSpare : Declarator → Walked → Type 0
   IsSpare d w = statement_weight w.0 < 5 * tree.declarator_weight d
@@ -151,12 +158,21 @@ module _ (at : Places) where
       (λ initial light. needs_promises (IsSpare d) (is_scalar t) E13 span _
       (λ scalar. declared_promises (IsSpare d) inner d.initializer t (length s.locals) span initial (λ k. omega (arith, zero_light t))))
 
+  -- what makes it an array is a node too
+  array_light : (s : Scope) (d : Declarator) (t : CType) (count : ℕ) (span : Span) → length_of d ≡ Some count
+      → Promises (IsSpare d) (settled_array (with_array d.name.number t count s) (length s.locals) (memory_of (with_array d.name.number t count s) t count (site_at at span)) span)
+  array_light s d t count span here =
+      let one = array_one d.array count here in
+      let inner = with_array d.name.number t count s in
+      let set = core.SetLocal (length s.locals) (memory_of inner t count (site_at at span)) in
+      settled_promises (IsSpare d) (both (core.SetLocal (length s.locals) core.Null) set) inner (assigned_by inner.locals set inner.flow) span (λ k. omega arith)
+
   declarator_light : (s : Scope) (base : TypeTree) (type : CType) (span : Span) (d : Declarator) → Promises (IsSpare d) (declarator at s base type span d)
   declarator_light s base type span d =
-      needs_promises (IsSpare d) (nat_lt (length s.locals) s.flow.vars) E08 span _
-      (λ low. passing_promises (λ (t : CType). Unit {0}) (IsSpare d) (without_stars base d.stars type) _ (anything_promised (without_stars base d.stars type))
-      (λ t _. passing_promises (λ (b : Option Bounds). Unit {0}) (IsSpare d) (declared_bounds (with_local d.name.number t None s) t (length s.locals) d.bounds) _
-      (anything_promised (declared_bounds (with_local d.name.number t None s) t (length s.locals) d.bounds)) (λ b _. bounded_local_light s d t span b)))
+      declarator_promises (IsSpare d) (λ (t : CType). Unit {0}) at s base type span d (λ low. anything_promised (without_stars base d.stars type))
+      (λ low t _. passing_promises (λ (b : Option Bounds). Unit {0}) (IsSpare d) (declared_bounds (with_local d.name.number t None s) t (length s.locals) d.bounds) _
+      (anything_promised (declared_bounds (with_local d.name.number t None s) t (length s.locals) d.bounds)) (λ b _. bounded_local_light s d t span b))
+      (λ low t _ count here counted bytes. array_light s d t count span here)
 
   declarators_light : (s : Scope) (base : TypeTree) (type : CType) (span : Span) (ds : List Declarator) → Promises (BecomesLight (5 * tree.declarators_weight ds + 1)) (declarators at s base type span ds)
   declarators_light s base type span [] = omega arith
@@ -169,8 +185,9 @@ module _ (at : Places) where
   declaration_light s d =
       let all = 5 * tree.declaration_weight d in
       needs_promises (BecomesLight all) (nat_lt (length s.locals) s.flow.vars) E08 d.span _
-      (λ room. passing_promises (λ (t : CType). Unit {0}) (BecomesLight all) (base_type s d.base) _ (anything_promised (base_type s d.base))
-      (λ type _. promised_so (BecomesLight (5 * tree.declarators_weight d.declarators + 1)) (BecomesLight all) (declarators at s d.base type d.span d.declarators) (declarators_light s d.base type d.span d.declarators) (λ w light. omega arith)))
+      (λ room. needs_promises (BecomesLight all) (is_length (first_length d.declarators)) E08 d.span _
+      (λ fits. passing_promises (λ (t : CType). Unit {0}) (BecomesLight all) (base_type s d.base) _ (anything_promised (base_type s d.base))
+      (λ type _. promised_so (BecomesLight (5 * tree.declarators_weight d.declarators + 1)) (BecomesLight all) (declarators at s d.base type d.span d.declarators) (declarators_light s d.base type d.span d.declarators) (λ w light. omega arith))))
 
   first_light : (s : Scope) (initial : ForInitial) → Promises (BecomesLight (5 * tree.for_initial_weight initial + 1)) (first_part at s initial)
   first_light s trees.Nothing = omega arith

@@ -296,6 +296,13 @@ walk_local vars name t declared g may w few =
     local_ways None b = tt
     local_ways (Some h) b = (b.0, entered_outside (length g.locals) g.outside declared g.flow h w.outside b.1)
 
+-- whichever of its locals are arrays
+pub walk_arrays : (vars : ℕ) (arrays : List ℕ) (g : Scope) → IsWalk vars g → IsWalk vars (record g { arrays = arrays })
+walk_arrays vars arrays g w = record { between = w.between; few = w.few; beyond = w.beyond; declared = w.declared; result = w.result; outside = w.outside; breaks = w.breaks; continues = w.continues }
+
+pub declares_arrays : (arrays : List ℕ) (g h : Scope) → Declares g h → Declares g (record h { arrays = arrays })
+declares_arrays arrays g h d = record { same = d.same; loop = d.loop; structs = d.structs }
+
 pub declares_local : (name : ℕ) (t : CType) (declared : Option Bounds) (g : Scope) → Declares g (with_local name t declared g)
 declares_local name t declared g = record { same = λ p low. entered_below (length g.locals) declared g.flow p low; loop = refl; structs = refl }
 

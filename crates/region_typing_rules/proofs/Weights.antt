@@ -35,7 +35,7 @@ use Rattle.ckc_names_rules.specs.declared.given.Given.{Given}
 use Rattle.region_typing_rules.specs.Verdicts.{Verdict, Passes, passing}
 use Rattle.region_typing_rules.specs.Scopes.{Scope, Signature, WrittenBounds, Named, Local, Object, Array, Nothing, named, function_named, members_named}
 use Rattle.region_typing_rules.specs.Types.{type_named, is_number, is_pointer, are_comparable, converts}
-use Rattle.region_typing_rules.specs.Expressions.{Places, OfLocal, OfCell, Standing, ForNothing, ForArray, For, Typed, Value, AStruct, Called, Gives, GivesNothing, site_at, bounds_at, noted, noted_if, with_bounds, sum_node, bounded, plain, number, at_place, local_typed, name_typed, member_place, member_from, offset_among, member_at, dotted, first_element, pointed_by, arrowed, pointed_at, dereferenced, pointer_to, address, number_of, scalar_of, unary_typed, two_numbers, two_scalars, operator_along, summed, sum_typed, as_pointer, equated_values, equated, are_related, ordered_values, ordered, arithmetic, binary_typed, beside, element_at, indexed, in_type, converted, arguments_as, is_import, call_of, declared_callee, first_of, writes, predefined_call, called, with_result, typed, all_typed, call_typed, malloc_typed, calloc_typed, cast_typed, cast_bounds}
+use Rattle.region_typing_rules.specs.Expressions.{Places, OfLocal, OfCell, Standing, ForNothing, ForArray, For, Typed, Value, AStruct, Called, Gives, GivesNothing, site_at, bounds_at, noted, noted_if, with_bounds, sum_node, bounded, plain, number, at_place, local_typed, name_typed, member_place, member_from, offset_among, member_at, dotted, first_element, pointed_by, arrowed, pointed_at, dereferenced, pointer_to, address, number_of, scalar_of, unary_typed, two_numbers, two_scalars, operator_along, summed, sum_typed, as_pointer, equated_values, equated, are_related, ordered_values, ordered, arithmetic, binary_typed, beside, element_at, indexed, in_type, converted, arguments_as, is_import, call_of, declared_callee, first_of, writes, predefined_call, called, with_result, typed, all_typed, call_typed, malloc_typed, calloc_typed, cast_typed, cast_bounds, is_array, local_standing}
 use Rattle.region_typing_rules.proofs.Knowledge.{crossing_promises}
 use Rattle.region_typing_rules.proofs.Kept.{passing_any}
 use Rattle.region_typing_rules.proofs.Memory.{IsCount, OfBytes, OfOne, OfLeft, OfRight, malloc_promises, calloc_promises, cast_promises}
@@ -112,14 +112,18 @@ at_place_light n Char p h = (omega arith, omega arith)
 at_place_light n (Struct number) p h = omega arith
 at_place_light n (Pointer m k t) p h = (omega arith, omega arith)
 
-local_light : (n : ℕ) (structs : List Structure) (f : Knowledge) (k : ℕ) (t : CType) (site : Site) → 1 < n → Light n (local_typed structs f k t site)
-local_light n structs f k Int site h = (h, tt)
-local_light n structs f k Char site h = (h, tt)
-local_light n structs f k (Struct number) site h = tt
-local_light n structs f k (Pointer m d t) site h = (h, tt)
+standing_light : (n k : ℕ) (array : Bool) → LightPlace n (local_standing array k)
+standing_light n k true = tt
+standing_light n k false = tt
+
+local_light : (n : ℕ) (structs : List Structure) (f : Knowledge) (k : ℕ) (t : CType) (array : Bool) (site : Site) → 1 < n → Light n (local_typed structs f k t array site)
+local_light n structs f k Int array site h = (h, standing_light n k array)
+local_light n structs f k Char array site h = (h, standing_light n k array)
+local_light n structs f k (Struct number) array site h = tt
+local_light n structs f k (Pointer m d t) array site h = (h, standing_light n k array)
 
 name_light : (n : ℕ) (s : Scope) (x : Named) (site : Site) → 2 < n → Light n (name_typed s x site)
-name_light n s (Local k t) site h = local_light n s.structs s.flow k t site (omega arith)
+name_light n s (Local k t) site h = local_light n s.structs s.flow k t (is_array s.arrays k) site (omega arith)
 name_light n s (Object k t) site h = at_place_light n t (core.Direct k 0) (omega arith)
 name_light n s (Array k t length) site h = (omega arith, tt)
 name_light n s Nothing site h = (omega arith, tt)

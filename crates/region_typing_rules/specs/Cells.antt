@@ -1,5 +1,5 @@
 -- The cells of a value of a type in a block: the type of each, and the bytes from it to the next one.
-use Rattle.std.specs.Prelude.{ℕ, ◌-◌, List, [], ◌∷◌, map}
+use Rattle.std.specs.Prelude.{ℕ, ◌-◌, nat_lt, nat_le, ◌&&◌, Bool, true, List, [], ◌∷◌, map, Option, Some, None}
 use Rattle.std.proofs.Common.{ℤ}
 use Rattle.pointer_modes.specs.Types.{CType, Int, Char, Struct, Pointer, Structure, members_of}
 use Rattle.pointer_modes.specs.Layout.{Cell, cells_of, size_of}
@@ -29,3 +29,8 @@ numbered_cells number (t ∷ ts) (stride ∷ strides) = record { type = t; strid
 -- the cells of a variable, each with this number
 abbrev pub cells_with : List Structure → CType → ℤ → List Initial
 cells_with structs t number = numbered_cells number (cell_types structs t) (strides_of structs t)
+
+-- array-has-length: 1 to 8,192 (E08)
+abbrev pub is_length : Option ℕ → Bool
+is_length None = true
+is_length (Some length) = nat_lt 0 length && nat_le length 8192

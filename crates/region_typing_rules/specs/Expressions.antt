@@ -186,12 +186,22 @@ in_force structs kinds.Array target None site = None
 in_force structs kinds.One target bounds site = None
 in_force structs kinds.Nt target bounds site = None
 
-abbrev pub local_typed : List Structure → Knowledge → ℕ → CType → Site → Typed
-local_typed structs f local Int site = Value Int false (core.Local local None) (For (OfLocal local))
-local_typed structs f local Char site = Value Char false (core.Local local None) (For (OfLocal local))
-local_typed structs f local (Pointer mode kind target) site =
-    Value (Pointer mode kind target) false (core.Local local (in_force structs kind target (held_at f.held local).bounds site)) (For (OfLocal local))
-local_typed structs f local (Struct number) site = AStruct number (OfLocal local)
+-- whether a local is an array
+abbrev pub is_array : List ℕ → ℕ → Bool
+is_array [] local = false
+is_array (array ∷ arrays) local = picked (local == array) true (is_array arrays local)
+
+-- what a local stands for: the name of an array stands for no place
+abbrev pub local_standing : Bool → ℕ → Standing
+local_standing true local = ForArray
+local_standing false local = For (OfLocal local)
+
+abbrev pub local_typed : List Structure → Knowledge → ℕ → CType → Bool → Site → Typed
+local_typed structs f local Int array site = Value Int false (core.Local local None) (local_standing array local)
+local_typed structs f local Char array site = Value Char false (core.Local local None) (local_standing array local)
+local_typed structs f local (Pointer mode kind target) array site =
+    Value (Pointer mode kind target) false (core.Local local (in_force structs kind target (held_at f.held local).bounds site)) (local_standing array local)
+local_typed structs f local (Struct number) array site = AStruct number (OfLocal local)
 
 -- the name of an array is a pointer to its first element, with all of them
 abbrev pub array_typed : List Structure → ℕ → CType → ℕ → Site → Typed
@@ -200,7 +210,7 @@ array_typed structs object type length site =
     (core.AddressOf (core.Direct object 0) (Some (record { bounds = row_of length; size = size_of structs type; site = site }))) ForArray
 
 abbrev pub name_typed : Scope → Named → Site → Typed
-name_typed s (Local local type) site = local_typed s.structs s.flow local type site
+name_typed s (Local local type) site = local_typed s.structs s.flow local type (is_array s.arrays local) site
 name_typed s (Object object type) site = at_place type (core.Direct object 0)
 name_typed s (Array object type length) site = array_typed s.structs object type length site
 name_typed s Nothing site = Value Int true (core.Number (pos 0)) ForNothing

@@ -18,7 +18,6 @@ use Rattle.ckc_tree.specs.Expressions as e
 use Rattle.ckc_tree.specs.Expressions.{Expression, bounds_span}
 use Rattle.ckc_tree.specs.Statements as s
 use Rattle.ckc_tree.specs.Statements.{Initializer, Declarator, Statements}
-use Rattle.ckc_tree.specs.declared.stmt.ArrayForm.{ArrayForm}
 use Rattle.ckc_tree.specs.declared.stmt.Constant.{Constant}
 use Rattle.ckc_tree.specs.declared.stmt.Constant.TheVariants as constants
 use Rattle.ckc_tree.specs.declared.stmt.SignedConstant.{SignedConstant}
@@ -39,12 +38,12 @@ use Rattle.ckc_core.specs.Steps.{low_byte}
 use Rattle.region_typing_rules.specs.Verdicts.{Verdict, Passes, Stops, passing, needs, breaks, meant, picked}
 use Rattle.region_typing_rules.specs.Scopes.{Scope, Signature, Visible, WrittenBounds, bounds_in, struct_named, function_named}
 use Rattle.region_typing_rules.specs.Types.{base_type, without_stars, type_named, is_scalar}
-use Rattle.region_typing_rules.specs.Cells.{cells_with}
+use Rattle.region_typing_rules.specs.Cells.{is_length, cells_with}
 use Rattle.region_typing_rules.specs.Expressions.{Places, Typed, Value, AStruct, is_tainted, typed}
 use Rattle.region_typing_rules.specs.DeclaredBounds.{declared_bounds}
 use Rattle.region_typing_rules.specs.KeptParameters.{all_changed}
 use Rattle.region_typing_rules.specs.Knowing.{all_declared, knowing}
-use Rattle.region_typing_rules.specs.Statements.{statements, with_local, is_unchecked, is_checked}
+use Rattle.region_typing_rules.specs.Statements.{length_of, statements, with_local, is_unchecked, is_checked}
 
 -- what is known behind an item: what stands at file level, the cells of the file-level variables with the bytes that their
 -- blocks take, and the functions that have bodies, in the order of these
@@ -217,19 +216,10 @@ object_cells given structs type (Some length) (Constants cs) span = listed_cells
 abbrev pub with_variable : ℕ → CType → Option ℕ → Scope → Scope
 with_variable name type length g = record g { variables = g.variables ++ record { name = name; type = type; length = length } ∷ [] }
 
--- how many elements a declarator asks for, where it declares an array
-abbrev pub length_of : Declarator → Option ℕ
-length_of d = option_map (λ (a : ArrayForm). a.length) d.array
-
 -- of how many values of its type a variable consists
 abbrev pub count_of : Option ℕ → ℕ
 count_of None = 1
 count_of (Some length) = length
-
--- array-has-length: 1 to 8,192 (E08)
-abbrev pub is_length : Option ℕ → Bool
-is_length None = true
-is_length (Some length) = nat_lt 0 length && nat_le length 8192
 
 -- the bytes of a variable of a type as it is written: a pointer takes a word, whether its rules are kept or not
 abbrev pub written_size : Scope → TypeTree → (stars : ℕ) → Verdict ℕ
@@ -419,6 +409,7 @@ abbrev pub before_bounds : Signature → List Parameter → Statements → Scope
 before_bounds f parameters body g =
     with_parameters parameters (record g {
       locals = [];
+      arrays = [];
       visible = [];
       result = f.result;
       result_bounds = None;
@@ -533,6 +524,7 @@ nothing_known given = record {
   functions = [];
   variables = [];
   locals = [];
+  arrays = [];
   visible = [];
   result = None;
   result_bounds = None;

@@ -1,14 +1,17 @@
--- How many elements new memory has, and which bounds a cast may have, where n is an `int` local and p is a pointer to `int`s: their names have the numbers 0
--- and 1, and so have they.
+-- How many elements new memory has, which bounds a cast may have, and what a local array is, where n is an `int` local and p is a pointer to `int`s: their
+-- names have the numbers 0 and 1, and so have they.
 use Rattle.std.specs.Prelude.{◌≡◌, ℕ, true, false, [], ◌∷◌, Option, Some, None, pos}
 use Rattle.ckc_text.specs.declared.place.Span.{Span}
-use Rattle.ckc_text.specs.declared.code.Code.TheVariants.{E13, E15, E18}
+use Rattle.ckc_text.specs.declared.code.Code.TheVariants.{E08, E12, E13, E15, E16, E18}
 use Rattle.ckc_tree.specs.declared.expr.BinaryOperator.TheVariants as binary
 use Rattle.ckc_tree.specs.declared.expr.CastWord.TheVariants as cast_words
 use Rattle.ckc_tree.specs.Types as types
 use Rattle.ckc_tree.specs.Types.{TypeName}
 use Rattle.ckc_tree.specs.Expressions as e
 use Rattle.ckc_tree.specs.Expressions.{Expression}
+use Rattle.ckc_tree.specs.declared.stmt.ArrayKind.TheVariants as array_kinds
+use Rattle.ckc_tree.specs.Statements as s
+use Rattle.ckc_tree.specs.Statements.{Declarator, Initializer}
 use Rattle.ckc_names_rules.specs.declared.given.Given.{Given}
 use Rattle.pointer_modes.specs.declared.ctype.Mode.TheVariants as modes
 use Rattle.pointer_modes.specs.declared.ctype.Kind.TheVariants as kinds
@@ -21,10 +24,11 @@ use Rattle.act_words.specs.declared.operator.ArithmeticOperator.TheVariants as a
 use Rattle.ckc_core.specs.declared.program.PointerBounds.{PointerBounds}
 use Rattle.ckc_core.specs.declared.program.Site.{Site}
 use Rattle.ckc_core.specs.Core as core
-use Rattle.region_typing_rules.specs.Verdicts.{breaks}
-use Rattle.region_typing_rules.specs.Scopes.{Scope}
+use Rattle.region_typing_rules.specs.Verdicts.{Verdict, Passes, passing, breaks}
+use Rattle.region_typing_rules.specs.Scopes.{Scope, Local}
 use Rattle.region_typing_rules.specs.Readings.{based_bounds}
-use Rattle.region_typing_rules.specs.Expressions.{Typed, Value, For, OfLocal, plain, elements_in, has_base, cast_typed}
+use Rattle.region_typing_rules.specs.Expressions.{Typed, Value, ForArray, For, OfLocal, plain, elements_in, has_base, cast_typed, is_array, name_typed}
+use Rattle.region_typing_rules.specs.Statements.{both, assigned, declarator}
 use Rattle.region_typing_rules.specs.Items.{nothing_known}
 
 abbrev here : Span
@@ -133,3 +137,40 @@ casts =
     × (cast_typed cast_words.Dynamic scope row (of_local unknown) (Some (Some (two_from None))) site here ≡ breaks E18 here)
     × (cast_typed cast_words.Dynamic scope row (of_local p) (Some (Some (two_from (Some 0)))) site here ≡ breaks E18 here)
     × (cast_typed cast_words.Assume scope row (of_local p) (Some (Some (two_from None))) site here ≡ breaks E15 here)
+
+-- ---- local arrays
+
+-- where the local with the number 1 is an array, and another local may follow
+abbrev with_one_array : Scope
+with_one_array = record scope { arrays = 1 ∷ []; flow = at_entry 3 }
+
+-- `a[n]`, with bounds and an initial value, or without
+abbrev array : ℕ → Option e.Bounds → Option Initializer → Declarator
+array length bounds initial = record {
+  stars = 0;
+  name = record { name = []; number = 2; span = here };
+  array = Some (record { kind = array_kinds.Checked; length = length; span = here });
+  bounds = bounds;
+  initializer = initial;
+  span = here;
+}
+
+abbrev becomes : Declarator → Verdict core.Statement
+becomes d = passing (declarator (λ byte. record { line = 1; col = 1 }) with_one_array (types.IntType here) Int here d) (λ w. Passes w.0)
+
+-- null, and then new memory of so many elements
+abbrev three_made : core.Statement
+three_made =
+    let memory = core.Allocate (number 3) (record { type = Int; stride = 4; number = pos 0 } ∷ []) (at_node three) in
+    both (core.SetLocal 2 core.Null) (core.SetLocal 2 memory)
+
+-- an array has a length that isn't too large, and neither bounds nor a value of its own. Its name stands for no place
+abbrev pub arrays : Type 0
+arrays =
+    (becomes (array 3 None None) ≡ Passes three_made) × (becomes (array 0 None None) ≡ breaks E08 here) × (becomes (array 8193 None None) ≡ breaks E08 here)
+    × (becomes (array 3 (Some (e.Count (e.Number 3 here) here)) None) ≡ breaks E16 here)
+    × (becomes (array 3 None (Some (s.Value (e.Number 0 here)))) ≡ breaks E13 here)
+    × (name_typed with_one_array (Local 1 row) site ≡ Value row false unknown ForArray)
+    × (name_typed scope (Local 1 row) site ≡ Value row false unknown (For (OfLocal 1)))
+    × (is_array (2 ∷ 1 ∷ []) 1 ≡ true) × (is_array (2 ∷ 1 ∷ []) 0 ≡ false)
+    × (assigned (Value row false unknown ForArray) here (λ type place. Passes core.Nothing) ≡ breaks E12 here)

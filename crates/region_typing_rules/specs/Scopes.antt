@@ -48,8 +48,9 @@ pub record Scope : Type 0 where
   -- functions in the order in which their names are first declared
   pub functions : List Signature
   pub variables : List FileVariable
-  -- the types of all locals of the function so far, and those that are visible, the innermost first
+  -- the types of all locals of the function so far, those of them that are arrays, and those that are visible, the innermost first
   pub locals : List CType
+  pub arrays : List ℕ
   pub visible : List Visible
   -- what the function returns and the bounds that this is asked for, whether a loop is around and how many locals there are outside of it, and
   -- whether the region is unchecked

@@ -1,5 +1,5 @@
 -- The rules of statements, in the order in which they are asked of a node behind its children.
-use Rattle.std.specs.Prelude.{◌&&◌, ℕ, Bool, true, false, not, ◌||◌, nat_lt, List, [], ◌∷◌, ◌++◌, length, Option, Some, None, pos}
+use Rattle.std.specs.Prelude.{◌&&◌, ℕ, Bool, true, false, not, ◌||◌, nat_lt, List, [], ◌∷◌, ◌++◌, length, Option, Some, None, option_map, pos}
 use Rattle.ckc_text.specs.declared.place.Span.{Span}
 use Rattle.ckc_text.specs.declared.code.Code.TheVariants.{E08, E12, E13, E15, E18, E30, E17}
 use Rattle.ckc_tree.specs.declared.stmt.Mark.{Mark}
@@ -9,10 +9,14 @@ use Rattle.ckc_tree.specs.declared.stmt.StoreOperator.TheVariants as stores
 use Rattle.ckc_tree.specs.declared.stmt.StepOperator.{StepOperator}
 use Rattle.ckc_tree.specs.declared.stmt.StepOperator.TheVariants as steps
 use Rattle.ckc_tree.specs.Types.{TypeTree}
+use Rattle.ckc_tree.specs.declared.stmt.ArrayForm.{ArrayForm}
+use Rattle.ckc_tree.specs.Expressions as e
 use Rattle.ckc_tree.specs.Expressions.{Expression, expression_span}
 use Rattle.ckc_tree.specs.Statements as s
 use Rattle.ckc_tree.specs.Statements.{Initializer, Declarator, Declaration, Assignment, assignment_span, ForInitial, Statement, Statements}
 use Rattle.bounds_flow.specs.Flows.{Knowledge, entered, met}
+use Rattle.pointer_modes.specs.declared.ctype.Mode.TheVariants as modes
+use Rattle.pointer_modes.specs.declared.ctype.Kind.TheVariants as kinds
 use Rattle.pointer_modes.specs.Types.{CType, Int, Char, Struct, Pointer}
 use Rattle.ckc_core.specs.declared.program.Site.{Site}
 use Rattle.act_words.specs.declared.operator.Operator.{Operator}
@@ -27,7 +31,8 @@ use Rattle.region_typing_rules.specs.Types.{is_scalar, without_stars, base_type}
 use Rattle.region_typing_rules.specs.Expressions.{Places, Typed, Value, AStruct, ForNothing, ForArray, For, Called, Gives, GivesNothing, asked_of, meets}
 use Rattle.region_typing_rules.specs.Expressions.{Lvalue, OfLocal, OfCell, site_at}
 use Rattle.region_typing_rules.specs.Expressions.{typed, call_typed, scalar_of, converted, bounds_met, number_of, two_numbers}
-use Rattle.region_typing_rules.specs.Expressions.{without_ptr, operator_along, sum_node}
+use Rattle.region_typing_rules.specs.Expressions.{without_ptr, operator_along, sum_node, row_of, allocation}
+use Rattle.region_typing_rules.specs.Cells.{is_length}
 use Rattle.region_typing_rules.specs.DeclaredBounds.{declared_bounds}
 use Rattle.region_typing_rules.specs.Readings.{told}
 use Rattle.region_typing_rules.specs.Knowing.{assigned_by, settling, outside_of, knowing, when, cut, broken, continued, with_others, at_loop}
@@ -152,20 +157,77 @@ bounded_local at g d t span bounds =
     needs (is_scalar t) E13 span (declared (with_local d.name.number t bounds g) d.initializer t (length g.locals) span initial))
 
 -- the names in its bounds are looked up where the local is visible
+abbrev pub plain_local : Places → Scope → TypeTree → CType → Span → Declarator → Verdict Walked
+plain_local at g base type span d =
+    passing (without_stars base d.stars type) (λ t.
+    passing (declared_bounds (with_local d.name.number t None g) t (length g.locals) d.bounds) (bounded_local at g d t span))
+
+-- ---- local arrays
+
+-- how many elements a declarator asks for, where it declares an array
+abbrev pub length_of : Declarator → Option ℕ
+length_of d = option_map (λ (a : ArrayForm). a.length) d.array
+
+-- a pointer to the first of so many elements, which nothing else is assigned to
+abbrev pub row_type : CType → CType
+row_type t = Pointer modes.Checked kinds.Array t
+
+-- a local array more, which is visible from now on
+abbrev pub with_array : ℕ → CType → ℕ → Scope → Scope
+with_array name t count g = record (with_local name (row_type t) (Some (row_of count)) g) { arrays = length g.locals ∷ g.arrays }
+
+-- bounds-on-pointer: an array has no others than those of its elements (E16, at the bounds)
+abbrev pub array_bounds : Scope → Option e.Bounds → Verdict (Option Bounds)
+array_bounds g bounds = declared_bounds g Int (length g.locals) bounds
+
+-- no-value-for-array: E13, behind what is written
+abbrev pub without_initial : Places → Scope → Option Initializer → Span → Verdict (Unit {0})
+without_initial at g None span = Passes tt
+without_initial at g (Some (s.Value value)) span = passing (typed at g value) (λ t. breaks E13 span)
+without_initial at g (Some (s.Constants constants list)) span = breaks E13 span
+
+-- each entry of its declaration makes new memory for an array, which is null before, and where there is no room
+abbrev pub made_array : Scope → ℕ → Typed → CType → Span → Verdict Walked
+made_array g local memory t span =
+    converted memory t span (λ v.
+    passing (settling (assigned_by g.locals (core.SetLocal local v) g.flow) span)
+    (λ f. Passes (both (core.SetLocal local (zero_value t)) (core.SetLocal local v), knowing f g)))
+
+abbrev pub array_in : Places → Scope → ℕ → Declarator → CType → ℕ → Span → Verdict Walked
+array_in at g local d t count span =
+    passing (array_bounds g d.bounds) (λ bounds.
+    passing (without_initial at g d.initializer span) (λ initial.
+    passing (allocation g t (core.Number (pos count)) (site_at at span) span) (λ memory. made_array g local memory (row_type t) span)))
+
+-- array-has-length: E08, at the declaration
+abbrev pub array_local : Places → Scope → TypeTree → CType → Span → Declarator → ℕ → Verdict Walked
+array_local at g base type span d count =
+    needs (is_length (Some count)) E08 span
+    (passing (without_stars base d.stars type) (λ t. array_in at (with_array d.name.number t count g) (length g.locals) d t count span))
+
+abbrev pub local_of : Places → Scope → TypeTree → CType → Span → Declarator → Option ℕ → Verdict Walked
+local_of at g base type span d None = plain_local at g base type span d
+local_of at g base type span d (Some count) = array_local at g base type span d count
+
 abbrev pub declarator : Places → Scope → TypeTree → CType → Span → Declarator → Verdict Walked
-declarator at g base type span d =
-    few_locals g span
-    (passing (without_stars base d.stars type) (λ t.
-    passing (declared_bounds (with_local d.name.number t None g) t (length g.locals) d.bounds) (bounded_local at g d t span)))
+declarator at g base type span d = few_locals g span (local_of at g base type span d (length_of d))
 
 abbrev pub declarators : Places → Scope → TypeTree → CType → Span → List Declarator → Verdict Walked
 declarators at g base type span [] = Passes (core.Nothing, g)
 declarators at g base type span (d ∷ ds) =
     passing (declarator at g base type span d) (λ first. passing (declarators at first.1 base type span ds) (λ rest. Passes (both first.0 rest.0, rest.1)))
 
--- whether there is room for the first local is asked before the type that all share is walked
+-- how many elements the first of some declarators asks for
+abbrev pub first_length : List Declarator → Option ℕ
+first_length [] = None
+first_length (d ∷ ds) = length_of d
+
+-- the limits of the first local are asked before the type that all share is walked
 abbrev pub declaration : Places → Scope → Declaration → Verdict Walked
-declaration at g d = few_locals g d.span (passing (base_type g d.base) (λ type. declarators at g d.base type d.span d.declarators))
+declaration at g d =
+    few_locals g d.span
+    (needs (is_length (first_length d.declarators)) E08 d.span
+    (passing (base_type g d.base) (λ type. declarators at g d.base type d.span d.declarators)))
 
 -- ---- statements
 

@@ -71,12 +71,13 @@ pub fn kept()
     ensures hidden { kept.hidden }
 {}
 
-/// How many elements new memory has, and what a pointer is cast to.
+/// How many elements new memory has, what a pointer is cast to, and what a local array becomes.
 pub fn memory()
     ensures factors { memory.factors }
     ensures bytes { memory.bytes }
     ensures bases { memory.bases }
     ensures casts { memory.casts }
+    ensures arrays { memory.arrays }
 {}
 
 /// Bounds that are declared for a local or a parameter are formed: they are of a pointer to elements that have bytes, their ends speak of `int` locals, their

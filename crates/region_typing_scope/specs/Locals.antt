@@ -12,6 +12,7 @@ pub record Grows (old new : code.Scope.Scope) : Type 0 where
   pub more : List visible_code.Visible.Visible
   pub seen : new.visible.items ≡ old.visible.items ++ more
   pub types : List CType
+  pub arrays : List ℕ
   pub names : List Visible
   pub loop : Bool
   pub outside : ℕ
@@ -19,6 +20,6 @@ pub record Grows (old new : code.Scope.Scope) : Type 0 where
   pub breaks : Option Knowledge
   pub continues : Option Knowledge
   pub file : scope new
-      ≡ record (scope old) { locals = types; visible = names; in_loop = loop; outside = outside; flow = flow; breaks = breaks; continues = continues }
+      ≡ record (scope old) { locals = types; arrays = arrays; visible = names; in_loop = loop; outside = outside; flow = flow; breaks = breaks; continues = continues }
   pub count : length (scope old).locals ≤ length types
   pub size : flow.vars ≡ old.flow.vars

@@ -20,6 +20,7 @@ scope s = record {
   functions = map signature s.functions.items;
   variables = map variable s.variables.items;
   locals = map ctype s.locals.items;
+  arrays = reverse s.arrays.items;
   visible = reverse (map visible s.visible.items);
   result = option_map ctype s.result;
   result_bounds = s.result_bounds;

@@ -176,12 +176,14 @@ fn noted_at(context: &Context, structs: &Structs, t: Typed, site: Site) -> Resul
         Typed::Local {
             ctype,
             local,
+            is_array,
             bounds,
         } => {
             let bounds = noted_as(bounds_at(structs, &ctype, site), bounds);
             Ok(Typed::Local {
                 ctype,
                 local,
+                is_array,
                 bounds,
             })
         }

@@ -51,6 +51,7 @@ impl Scope {
             functions: Vec::new(alloc),
             variables: Vec::new(alloc),
             locals: Vec::new(alloc),
+            arrays: Vec::new(alloc),
             visible: Vec::new(alloc),
             result: None,
             result_bounds: None,
@@ -143,10 +144,11 @@ impl Scope {
         variables: u32,
     ) -> Result<(), NoMemory>
         requires { variables ≤ 256 }
-        ensures { OnOk result (scope_of self.new ≡ record (scope_of self.old) { locals = []; visible = []; result = option_map ctype_of returned; result_bounds = None; in_loop = false; outside = 0; flow = at_entry variables; breaks = None; continues = None }) }
+        ensures { OnOk result (scope_of self.new ≡ record (scope_of self.old) { locals = []; arrays = []; visible = []; result = option_map ctype_of returned; result_bounds = None; in_loop = false; outside = 0; flow = at_entry variables; breaks = None; continues = None }) }
     {
         let flow = Flow::new(context.alloc(), variables)?;
         self.locals = Vec::new(context.alloc());
+        self.arrays = Vec::new(context.alloc());
         self.visible = Vec::new(context.alloc());
         self.result = returned;
         self.result_bounds = None;
@@ -168,7 +170,7 @@ impl Scope {
 
     /// Leaves a function, and gives the types of its locals.
     pub fn exit(&mut self, context: &Context) -> Result<Vec<CType>, NoMemory>
-        ensures known { OnOk result (scope_of self.new ≡ record (scope_of self.old) { locals = []; visible = []; result = None; result_bounds = None; in_loop = false; outside = 0; flow = at_entry 0; breaks = None; continues = None }) }
+        ensures known { OnOk result (scope_of self.new ≡ record (scope_of self.old) { locals = []; arrays = []; visible = []; result = None; result_bounds = None; in_loop = false; outside = 0; flow = at_entry 0; breaks = None; continues = None }) }
         ensures locals { IfOk result (λ locals. map ctype_of locals.items ≡ (scope_of self.old).locals) }
     {
         self.outside = 0;

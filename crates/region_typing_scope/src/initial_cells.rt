@@ -1,11 +1,11 @@
-// The cells of values before something is stored in them.
+// The cells of values before something is stored in them, and how many elements an array may have.
 
 ghost use Rattle.std.specs.Prelude.{◌≡◌, ◌<◌, ◌≤◌, ◌++◌, true, length, map, IfOk, OnOk};
 ghost use Rattle.pointer_modes.specs.Types.{ctype as ctype_of, member as member_of};
 ghost use Rattle.pointer_modes.specs.Layout.{cells_of as cells_in};
 ghost use Rattle.ckc_core.specs.Core.{initial as initial_of};
 ghost use Rattle.region_typing_rules.specs.Types.{is_scalar};
-ghost use Rattle.region_typing_rules.specs.Cells.{cells_with as cells_as};
+ghost use Rattle.region_typing_rules.specs.Cells.{is_length as is_length_of, cells_with as cells_as};
 ghost use Rattle.region_typing_scope.specs.CellParts.{IsStructOf, stride_at};
 
 use crate::context::Context;
@@ -14,6 +14,19 @@ use ckc_core::program::Initial;
 use ckc_text::fault::NoMemory;
 use pointer_modes::ctype::{CType, Member};
 use pointer_modes::structs::Structs;
+
+/// How many elements an array may have.
+const MOST_ELEMENTS: u32 = 8192;
+
+/// Whether an array may have so many elements.
+pub fn is_length(count: Option<u32>) -> bool
+    ensures { result ≡ is_length_of count }
+{
+    match count {
+        None => true,
+        Some(count) => 0 < count && count <= MOST_ELEMENTS,
+    }
+}
 
 // The bytes from a cell of a type to the next one, or to the end.
 fn stride(structs: &Structs, t: &CType, cells: u32, i: u32) -> u32

@@ -6,10 +6,11 @@ ghost use Rattle.pointer_modes.specs.Types.{CType as TypeTree, ctype as ctype_of
 ghost use Rattle.region_typing_rules.specs.Scopes.{Scope as ScopeTree};
 ghost use Rattle.bounds_flow.specs.Flows.{entered};
 ghost use Rattle.region_typing_rules.specs.Knowing.{knowing, outside_of};
-ghost use Rattle.region_typing_rules.specs.Statements.{with_local};
+ghost use Rattle.region_typing_rules.specs.Statements.{with_local, row_type, with_array};
 ghost use Rattle.region_typing_scope.specs.Declaring.{last_declared};
 ghost use Rattle.region_typing_scope.specs.Views.{scope as scope_of, visible as visible_of};
 
+use crate::bounds::row_of;
 use crate::scope::{BlockStart, Scope};
 use crate::visible::Visible;
 use bounds_exprs::term::Bounds;
@@ -53,6 +54,20 @@ impl Scope {
     {
         let last = self.locals.len() as u32 - 1;
         self.flow.enter(last, bounds)
+    }
+
+    /// A local array of so many elements more, which is visible from now on: a pointer to the first of them.
+    pub fn add_array(&mut self, name: usize, row: CType, elements: u32) -> Result<(), NoMemory>
+        requires room { length self.old.locals.items < self.old.flow.vars }
+        ensures known { OnOk result ((t : TypeTree) → ctype_of row ≡ row_type t → scope_of self.new ≡ with_array name t elements (scope_of self.old)) }
+        ensures seen { OnOk result ((v : _) × (self.new.visible.items ≡ self.old.visible.items ++ v ∷ [])) }
+        ensures size { OnOk result (self.new.flow.vars ≡ self.old.flow.vars) }
+    {
+        let local = self.locals.len() as u32;
+        self.add_local(name, row)?;
+        self.declare(Some(row_of(elements)))?;
+        self.arrays.push(local)?;
+        Ok(())
     }
 
     /// A local has these bounds at its declaration, or none.

@@ -6,11 +6,11 @@ ghost use Rattle.pointer_modes.specs.Types.{ctype as ctype_of};
 ghost use Rattle.region_typing_rules.specs.Scopes.{Local, object_of, struct_named, members_named as names_of_members, local_named, object_named, function_named};
 ghost use Rattle.region_typing_scope.specs.Views.{scope as scope_of, signature};
 ghost use Rattle.region_typing_scope.specs.Tables.{side_before as side_before_of};
-ghost use Rattle.region_typing_rules.specs.Expressions.{side_number as side_number_of};
+ghost use Rattle.region_typing_rules.specs.Expressions.{side_number as side_number_of, is_array as is_array_of};
 
 use crate::scope::Scope;
 use crate::signature::Signature;
-use crate::visible::innermost;
+use crate::visible::{innermost, is_array};
 use pointer_modes::ctype::CType;
 
 /// A local that a name stands for: its number, and its type.
@@ -75,6 +75,13 @@ impl Scope {
         let number = innermost(self.visible.as_slice(), name)?;
         let ctype = self.locals.get(number as usize)?;
         Some(Known { number, ctype })
+    }
+
+    /// Whether a local is an array.
+    pub fn is_array(&self, local: u32) -> bool
+        ensures { result ≡ is_array_of (scope_of self.now).arrays local }
+    {
+        is_array(self.arrays.as_slice(), local)
     }
 
     /// The file-level variable of a name.

@@ -36,6 +36,7 @@ pub fn value_of(context: &Context, t: Box<Typed>, span: Span) -> Result<Operand,
             ctype,
             local,
             bounds,
+            ..
         } => read(context, ctype, Expr::Local { local, bounds }),
         Typed::Cell {
             ctype,

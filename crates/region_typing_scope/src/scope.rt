@@ -54,6 +54,8 @@ pub struct Scope {
     pub functions: Vec<Signature>,
     pub variables: Vec<Variable>,
     pub locals: Vec<CType>,
+    /// The locals of the function that are arrays.
+    pub arrays: Vec<u32>,
     pub visible: Vec<Visible>,
     pub result: Option<CType>,
     /// The bounds that what is returned is asked for.

@@ -48,10 +48,11 @@ pub enum Typed {
         zero: bool,
         value: Box<Expr>,
     },
-    /// What a local holds, with the bounds at its node.
+    /// What a local holds, with the bounds at its node. A local array holds the place of its first element.
     Local {
         ctype: CType,
         local: u32,
+        is_array: bool,
         bounds: Option<PointerBounds>,
     },
     /// What a cell holds, with the bounds at its node.
@@ -60,7 +61,7 @@ pub enum Typed {
         place: CellPlace,
         bounds: Option<PointerBounds>,
     },
-    /// The name of an array: a pointer to its first element, with all of them.
+    /// The name of a file-level array: a pointer to its first element, with all of them.
     Array {
         ctype: CType,
         object: u32,
@@ -140,8 +141,15 @@ pub fn first_cell(base: Base) -> CellPlace
 }
 
 /// What a local holds, with the bounds in force of a pointer to an array at its node.
-pub fn at_local(structs: &Structs, flow: &Flow, ctype: CType, local: u32, site: Site) -> Typed
-    ensures { typed result ≡ local_typed structs.now flow.now local (ctype_of ctype) site }
+pub fn at_local(
+    structs: &Structs,
+    flow: &Flow,
+    ctype: CType,
+    local: u32,
+    is_array: bool,
+    site: Site,
+) -> Typed
+    ensures { typed result ≡ local_typed structs.now flow.now local (ctype_of ctype) is_array site }
 {
     match ctype {
         CType::Struct(number) => Typed::Struct {
@@ -153,12 +161,14 @@ pub fn at_local(structs: &Structs, flow: &Flow, ctype: CType, local: u32, site: 
             Typed::Local {
                 ctype: CType::Pointer(mode, kind, target),
                 local,
+                is_array,
                 bounds,
             }
         }
         ctype => Typed::Local {
             ctype,
             local,
+            is_array,
             bounds: None,
         },
     }

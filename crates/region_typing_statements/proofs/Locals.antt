@@ -1,5 +1,5 @@
 -- Declared locals.
-use Rattle.std.proofs.Common.{◌≡◌, ℕ, ◌<◌, map, drop, get_or, true, nat_lt, List, length, Option, None, Some, Result, Box, Global, refl, ap, sym, ◌∙◌}
+use Rattle.std.proofs.Common.{◌≡◌, ℕ, ◌<◌, map, drop, get_or, nat_lt, List, [], ◌∷◌, ◌++◌, length, Option, None, Some, Result, Box, Global, pos, ap, sym, subst, ◌∙◌}
 use Rattle.std.proofs.lemmas.List.{length-map}
 use Rattle.ckc_text.specs.declared.place.Span.{Span}
 use Rattle.region_typing_scope.specs.declared.refusals.CheckError.{CheckError}
@@ -9,26 +9,24 @@ use Rattle.ckc_tree.specs.Expressions as written
 use Rattle.ckc_tree.specs.declared.stmt.Declarator as code_declarator
 use Rattle.ckc_tree.specs.Statements.{Initializer, Declarator, declarator as declarator_tree}
 use Rattle.pointer_modes.specs.Types.{CType, ctype}
+use Rattle.ckc_core.specs.declared.program.Site.{Site}
 use Rattle.ckc_core.specs.declared.program.Stmt.{Stmt}
 use Rattle.ckc_core.specs.Core as core
-use Rattle.region_typing_scope.specs.OnHeap.{statement}
+use Rattle.region_typing_scope.specs.OnHeap.{statement, typed}
 use Rattle.region_typing_rules.specs.Verdicts.{Verdict, Passes, passing}
 use Rattle.region_typing_rules.specs.Scopes.{Scope}
-use Rattle.region_typing_rules.specs.Types.{without_stars}
-use Rattle.region_typing_rules.specs.Expressions.{Places}
+use Rattle.region_typing_rules.specs.Expressions.{Places, allocation}
 use Rattle.region_typing_rules.specs.DeclaredBounds.{declared_bounds}
-use Rattle.region_typing_rules.specs.Statements.{both, zero_value, with_local, first_value, bounded_local, declarator, declarators}
+use Rattle.region_typing_rules.specs.Statements.{both, zero_value, with_local, first_value, bounded_local, row_type, with_array, made_array, array_in, declarator, declarators}
 use Rattle.region_typing_scope.specs.declared.scope as code
+use Rattle.region_typing_scope.specs.declared.typed.Typed.{Typed}
+use Rattle.region_typing_scope.specs.declared.visible as visible_code
 use Rattle.region_typing_scope.specs.Views.{scope}
 use Rattle.region_typing_scope.specs.Answering.{Answers}
 use Rattle.region_typing_scope.specs.Locals.{Grows}
-use Rattle.region_typing_statements.specs.Walks.{Walks, chosen, from_zero, declared_local}
+use Rattle.region_typing_statements.specs.Walks.{Walks, chosen, from_zero}
 use Rattle.region_typing_scope.proofs.Steps.{parts_at}
-use Rattle.region_typing_statements.proofs.Walking.{from_more}
-
--- a declared local behind its number and its type
-pub declarator_parts : (at : Places) (g : Scope) (base : TypeTree) (t : CType) (span : Span) (d : Declarator) → nat_lt (length g.locals) g.flow.vars ≡ true → declarator at g base t span d ≡ passing (without_stars base d.stars t) (λ u. declared_local at g d u span)
-declarator_parts at g base t span d few = rw few refl
+use Rattle.region_typing_statements.proofs.Walking.{from_more, array_more}
 
 answered_as : {A C : Type 0} (view : C → A) (v w : Verdict A) (r : Result C CheckError) → v ≡ w → Answers view w r → Answers view v r
 answered_as view v w r is answer = rw is answer
@@ -54,6 +52,26 @@ local_declared at d t bounds local span old mid new r here number more walk =
     let by_number = λ (n : ℕ). from_zero at (with_local d.name.number t bounds (scope old)) d.initializer t n span in
     let by_scope = λ (g : Scope). from_zero at g d.initializer t local span in
     from_more statement (bounded_local at (scope old) d t span bounds) (by_scope (scope mid)) old mid new r (ap by_number (sym last) ∙ ap by_scope (sym here)) more walk
+
+-- a local array, whose elements are made where it is visible
+pub array_added : (at : Places) (d : Declarator) (t : CType) (count local : ℕ) (span : Span) (old mid new : code.Scope.Scope) (r : Result (Box Stmt Global) CheckError) → scope mid ≡ with_array d.name.number t count (scope old) → local ≡ length old.locals.items
+    → ((v : visible_code.Visible.Visible) × (mid.visible.items ≡ old.visible.items ++ v ∷ [])) → Walks statement (array_in at (scope mid) local d t count span) mid r new
+    → Walks statement (array_in at (with_array d.name.number t count (scope old)) (length (scope old).locals) d t count span) old r new
+array_added at d t count local span old mid new r here number seen walk =
+    let last : local ≡ length (scope old).locals = number ∙ sym (length-map old.locals.items ctype) in
+    let by_number = λ (n : ℕ). array_in at (with_array d.name.number t count (scope old)) n d t count span in
+    let by_scope = λ (g : Scope). array_in at g local d t count span in
+    from_more statement (by_number (length (scope old).locals)) (by_scope (scope mid)) old mid new r (ap by_number (sym last) ∙ ap by_scope (sym here)) (array_more d.name.number t count old mid here seen) walk
+
+-- memory for so many elements, as the code writes their number
+pub memory_counted : (g : Scope) (t : CType) (count : ℕ) (e : core.Expression) (site : Site) (span : Span) (r : Result (Box Typed Global) CheckError) → e ≡ core.Number (pos count)
+    → Answers typed (allocation g t e site span) r → Answers typed (allocation g t (core.Number (pos count)) site span) r
+memory_counted g t count e site span r is answer = subst (λ x. Answers typed (allocation g t x site span) r) is answer
+
+-- what becomes an array of them, as a pointer to the first
+pub made_row : (local : ℕ) (memory : Box Typed Global) (u t : CType) (span : Span) (old new : code.Scope.Scope) (r : Result (Box Stmt Global) CheckError) → u ≡ row_type t
+    → Walks statement (made_array (scope old) local (typed memory) u span) old r new → Walks statement (made_array (scope old) local (typed memory) (row_type t) span) old r new
+made_row local memory u t span old new r is walk = subst (λ v. Walks statement (made_array (scope old) local (typed memory) v span) old r new) is walk
 
 -- few locals, as the code counts them
 pub few_counted : (g : code.Scope.Scope) → nat_lt (length g.locals.items) g.flow.vars ≡ nat_lt (length (scope g).locals) (scope g).flow.vars

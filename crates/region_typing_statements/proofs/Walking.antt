@@ -11,7 +11,7 @@ use Rattle.region_typing_rules.specs.Verdicts.{Stop, Broken, Nameless, Verdict, 
 use Rattle.region_typing_rules.specs.Scopes.{Scope}
 use Rattle.bounds_flow.specs.Flows.{Knowledge}
 use Rattle.region_typing_rules.specs.Knowing.{outside_of}
-use Rattle.region_typing_rules.specs.Statements.{behind_block, with_local}
+use Rattle.region_typing_rules.specs.Statements.{behind_block, with_local, row_type, with_array}
 use Rattle.region_typing_scope.specs.declared.scope as code
 use Rattle.region_typing_scope.specs.declared.visible as visible_code
 use Rattle.region_typing_scope.specs.Views.{scope, visible}
@@ -22,20 +22,21 @@ use Rattle.region_typing_statements.specs.Walks.{Walks, walks_so}
 -- ---- locals that become visible
 
 pub none_more : (a : code.Scope.Scope) → Grows a a
-none_more a = record { more = []; seen = sym (append-nil a.visible.items); types = (scope a).locals; names = (scope a).visible; loop = a.in_loop; outside = a.outside; flow = a.flow; breaks = a.breaks; continues = a.continues; file = refl; count = omega arith; size = refl }
+none_more a = record { more = []; seen = sym (append-nil a.visible.items); types = (scope a).locals; arrays = (scope a).arrays; names = (scope a).visible; loop = a.in_loop; outside = a.outside; flow = a.flow; breaks = a.breaks; continues = a.continues; file = refl; count = omega arith; size = refl }
 
 pub grown : {a b c : code.Scope.Scope} → Grows a b → Grows b c → Grows a c
 grown {a} {b} {c} first rest = record {
   more = first.more ++ rest.more;
   seen = rest.seen ∙ ap (λ xs. xs ++ rest.more) first.seen ∙ append_assoc a.visible.items first.more rest.more;
   types = rest.types;
+  arrays = rest.arrays;
   names = rest.names;
   loop = rest.loop;
   outside = rest.outside;
   flow = rest.flow;
   breaks = rest.breaks;
   continues = rest.continues;
-  file = rest.file ∙ ap (λ (g : Scope). record g { locals = rest.types; visible = rest.names; in_loop = rest.loop; outside = rest.outside; flow = rest.flow; breaks = rest.breaks; continues = rest.continues }) first.file;
+  file = rest.file ∙ ap (λ (g : Scope). record g { locals = rest.types; arrays = rest.arrays; visible = rest.names; in_loop = rest.loop; outside = rest.outside; flow = rest.flow; breaks = rest.breaks; continues = rest.continues }) first.file;
   count = (let middle = rest.count in let held = ap (λ (g : Scope). length g.locals) first.file in omega (arith, first.count, middle, held));
   size = rest.size ∙ ap (λ (g : Scope). g.flow.vars) first.file ∙ first.size;
 }
@@ -50,6 +51,7 @@ other_turns outside f bs cs a b known seen size = record {
   more = [];
   seen = seen ∙ sym (append-nil a.visible.items);
   types = (scope a).locals;
+  arrays = (scope a).arrays;
   names = (scope a).visible;
   loop = a.in_loop;
   outside = outside;
@@ -85,11 +87,15 @@ still_there a b start begins more =
 
 -- a scope in which a local became visible
 pub one_more : (name : ℕ) (t : CType) (bounds : Option Bounds) (a b : code.Scope.Scope) → scope b ≡ with_local name t bounds (scope a) → ((v : visible_code.Visible.Visible) × (b.visible.items ≡ a.visible.items ++ v ∷ [])) → Grows a b
-one_more name t bounds a b known seen = record { more = seen.0 ∷ []; seen = seen.1; types = (scope a).locals ++ t ∷ []; names = _; loop = _; outside = _; flow = _; breaks = _; continues = _; file = known; count = omega (arith, length-append (scope a).locals (t ∷ [])); size = refl }
+one_more name t bounds a b known seen = record { more = seen.0 ∷ []; seen = seen.1; types = (scope a).locals ++ t ∷ []; arrays = _; names = _; loop = _; outside = _; flow = _; breaks = _; continues = _; file = known; count = omega (arith, length-append (scope a).locals (t ∷ [])); size = refl }
+
+-- a scope in which a local array became visible
+pub array_more : (name : ℕ) (t : CType) (count : ℕ) (a b : code.Scope.Scope) → scope b ≡ with_array name t count (scope a) → ((v : visible_code.Visible.Visible) × (b.visible.items ≡ a.visible.items ++ v ∷ [])) → Grows a b
+array_more name t count a b known seen = record { more = seen.0 ∷ []; seen = seen.1; types = (scope a).locals ++ row_type t ∷ []; arrays = _; names = _; loop = _; outside = _; flow = _; breaks = _; continues = _; file = known; count = omega (arith, length-append (scope a).locals (row_type t ∷ [])); size = refl }
 
 -- a scope whose loop is another
 pub other_loop : (loop : Bool) (a b : code.Scope.Scope) → scope b ≡ record (scope a) { in_loop = loop } → b.visible.items ≡ a.visible.items → Grows a b
-other_loop loop a b known seen = record { more = []; seen = seen ∙ sym (append-nil a.visible.items); types = (scope a).locals; names = (scope a).visible; loop = loop; outside = a.outside; flow = a.flow; breaks = a.breaks; continues = a.continues; file = known; count = omega arith; size = refl }
+other_loop loop a b known seen = record { more = []; seen = seen ∙ sym (append-nil a.visible.items); types = (scope a).locals; arrays = (scope a).arrays; names = (scope a).visible; loop = loop; outside = a.outside; flow = a.flow; breaks = a.breaks; continues = a.continues; file = known; count = omega arith; size = refl }
 
 -- those that were visible before
 seen_before : {a b : code.Scope.Scope} → Grows a b → take (length a.visible.items) b.visible.items ≡ a.visible.items
@@ -114,6 +120,7 @@ left start outside inside new begins more known seen size =
         more = [];
         seen = seen ∙ here ∙ sym (append-nil outside.visible.items);
         types = more.types;
+        arrays = more.arrays;
         names = (scope outside).visible;
         loop = outside.in_loop;
         outside = more.outside;

@@ -5,7 +5,7 @@ ghost use Rattle.ckc_text.specs.Places.{place_at};
 ghost use Rattle.ckc_tree.specs.Types.{type_tree};
 ghost use Rattle.ckc_tree.specs.Statements.{declarator as declarator_tree, declaration as declaration_tree};
 ghost use Rattle.pointer_modes.specs.Types.{ctype as ctype_of};
-ghost use Rattle.region_typing_rules.specs.Statements.{few_locals as few_locals_in, declarator as declarator_of, declarators as declarators_of, declaration as declaration_of};
+ghost use Rattle.region_typing_rules.specs.Statements.{few_locals as few_locals_in, plain_local as plain_local_of, declarator as declarator_of, declarators as declarators_of, declaration as declaration_of};
 ghost use Rattle.region_typing_rules.specs.Verdicts.{Passes};
 ghost use Rattle.region_typing_scope.specs.Answering.{Answers};
 ghost use Rattle.region_typing_scope.specs.Views.{scope as scope_of};
@@ -14,6 +14,7 @@ ghost use Rattle.region_typing_statements.specs.Walks.{Walks, declared_local};
 
 use crate::core_forms::both;
 use crate::initial_values::from_zero;
+use crate::local_arrays::{array_local, first_length};
 use ckc_core::program::Stmt;
 use ckc_text::code::Code;
 use ckc_text::place::Span;
@@ -22,6 +23,7 @@ use ckc_tree::type_form::TypeForm;
 use pointer_modes::ctype::CType;
 use region_typing_bounds::declared::declared_bounds;
 use region_typing_scope::context::Context;
+use region_typing_scope::initial_cells::is_length;
 use region_typing_scope::refusals::{CheckError, needs};
 use region_typing_scope::scope::Scope;
 use region_typing_scope::types::{base_type, copied, without_stars};
@@ -35,7 +37,7 @@ fn few_locals(scope: &Scope, span: Span) -> Result<(), CheckError>
     Ok(())
 }
 
-// A local more, with the bounds that are declared for it, which is given what it is at first.
+// A local more that is no array, with the bounds that are declared for it, which is given what it is at first.
 fn declared(
     context: &Context,
     scope: &mut Scope,
@@ -54,6 +56,23 @@ fn declared(
     from_zero(context, scope, &d.initializer, t, local, span)
 }
 
+// One local of a declaration that is no array.
+fn plain_local(
+    context: &Context,
+    scope: &mut Scope,
+    base: &TypeForm,
+    t: &CType,
+    span: Span,
+    d: &Declarator,
+) -> Result<Box<Stmt>, CheckError>
+    requires { length scope.old.locals.items < scope.old.flow.vars }
+    ensures { Walks statement (plain_local_of (place_at context.now) (scope_of scope.old) (type_tree base.now) (ctype_of t.now) span (declarator_tree d.now)) scope.old result scope.new }
+{
+    let given = copied(context, t)?;
+    let t = without_stars(base, d.stars, given)?;
+    declared(context, scope, d, &t, span)
+}
+
 // One local of a declaration.
 fn declarator(
     context: &Context,
@@ -66,9 +85,10 @@ fn declarator(
     ensures { Walks statement (declarator_of (place_at context.now) (scope_of scope.old) (type_tree base.now) (ctype_of t.now) span (declarator_tree d.now)) scope.old result scope.new }
 {
     few_locals(scope, span)?;
-    let given = copied(context, t)?;
-    let t = without_stars(base, d.stars, given)?;
-    declared(context, scope, d, &t, span)
+    match d.array {
+        None => plain_local(context, scope, base, t, span, d),
+        Some(array) => array_local(context, scope, base, t, span, d, array.length),
+    }
 }
 
 // The locals of a declaration.
@@ -101,6 +121,8 @@ pub fn declaration(
     ensures { Walks statement (declaration_of (place_at context.now) (scope_of scope.old) (declaration_tree d.now)) scope.old result scope.new }
 {
     few_locals(scope, d.span)?;
+    let elements = first_length(d.declarators.as_slice());
+    needs(is_length(elements), Code::E08, d.span)?;
     let t = base_type(context, scope, &d.base)?;
     declarators(
         context,

@@ -7,6 +7,7 @@ mod core_forms;
 mod declarations;
 mod heads;
 mod initial_values;
+pub mod local_arrays;
 pub mod marks;
 mod simple_statements;
 pub mod statements;

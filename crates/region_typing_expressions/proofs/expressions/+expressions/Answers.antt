@@ -5,7 +5,7 @@ use Rattle.ckc_tree.specs.declared.identifier.Identifier.{Identifier}
 use Rattle.ckc_tree.specs.declared.expr.Expr.{Expr}
 use Rattle.ckc_tree.specs.declared.expr.Expr.TheVariants as exprs
 use Rattle.ckc_tree.specs.declared.expr.UnaryOperator.{UnaryOperator}
-use Rattle.ckc_tree.specs.Expressions.{Index, Dot, Unary, expression}
+use Rattle.ckc_tree.specs.Expressions.{Index, Dot, Arrow, Unary, expression}
 use Rattle.region_typing_scope.specs.Points.{point}
 use Rattle.region_typing_expressions.specs.Calls.{argument}
 use Rattle.region_typing_expressions.specs.Slices.{expression_list}
@@ -17,11 +17,17 @@ use Rattle.region_typing_expressions.proofs.expressions.+expressions.Goals as go
 dot_tree : (x inner : Expr) (base : Box Expr Global) (member : Identifier) (span : Span) → x ≡ exprs.Dot base member span → inner ≡ base.value → expression x ≡ Dot (expression inner) member span
 dot_tree x inner base member span is same = ap expression is ∙ ap (λ e. Dot (expression e) member span) (sym same)
 
+arrow_tree : (x inner : Expr) (base : Box Expr Global) (member : Identifier) (span : Span) → x ≡ exprs.Arrow base member span → inner ≡ base.value → expression x ≡ Arrow (expression inner) member span
+arrow_tree x inner base member span is same = ap expression is ∙ ap (λ e. Arrow (expression e) member span) (sym same)
+
 unary_tree : (x inner : Expr) (operator : UnaryOperator) (operand : Box Expr Global) (span : Span) → x ≡ exprs.Unary operator operand span → inner ≡ operand.value → expression x ≡ Unary operator (expression inner) span
 unary_tree x inner operator operand span is same = ap expression is ∙ ap (λ e. Unary operator (expression e) span) (sym same)
 
 pub typed_at-returns-in-Dot : goal.typed_at-returns-in-Dot
 typed_at-returns-in-Dot t c = rw (dot_tree c.args.e.now c.deref-in-Dot.result.now c.in-Dot.base c.in-Dot.member c.in-Dot.span c.in-Dot.is c.deref-in-Dot.ensures) c.member_of.ensures
+
+pub typed_at-returns-in-Arrow : goal.typed_at-returns-in-Arrow
+typed_at-returns-in-Arrow t c = rw (arrow_tree c.args.e.now c.deref-in-Arrow.result.now c.in-Arrow.base c.in-Arrow.member c.in-Arrow.span c.in-Arrow.is c.deref-in-Arrow.ensures) c.member_through.ensures
 
 index_tree : (x a b : Expr) (base index : Box Expr Global) (span : Span) → x ≡ exprs.Index base index span → a ≡ base.value → b ≡ index.value → expression x ≡ Index (expression a) (expression b) span
 index_tree x a b base index span is first second =

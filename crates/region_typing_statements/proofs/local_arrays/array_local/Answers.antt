@@ -1,0 +1,16 @@
+use Rattle.region_typing_statements.proofs.Testing.{walk_fails, walks_behind}
+use Rattle.region_typing_statements.proofs.Walking.{goes_on, refused}
+use Rattle.region_typing_statements.proofs.local_arrays.array_local.Goals as goal
+
+pub returns-in_err-needs : goal.returns-in_err-needs
+returns-in_err-needs c = walk_fails _ _ _ _ _ c.from_residual.result c.is_length.ensures c.from_residual.ensures.1 c.in_err-needs.ensures
+
+pub returns-in_err-t : goal.returns-in_err-t
+returns-in_err-t c =
+    let broken = rw c.in_ok-given.ensures at c.in_err-t.ensures in
+    walks_behind _ _ _ _ _ c.is_length.ensures c.in_ok-needs.ensures (refused _ c.from_residual-in_err-t.result c.from_residual-in_err-t.ensures.1 broken)
+
+pub returns : goal.returns
+returns c =
+    let passes = rw c.in_ok-given.ensures at c.in_ok-t.ensures in
+    walks_behind _ _ _ _ _ c.is_length.ensures c.in_ok-needs.ensures (goes_on _ passes c.add_array.ensures)
