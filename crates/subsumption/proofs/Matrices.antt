@@ -15,7 +15,7 @@ use Rattle.subsumption.specs.declared.matrix.Change.TheVariants.{Add, Kill, Shif
 use Rattle.subsumption.specs.declared.matrix.Turn.{Turn}
 use Rattle.subsumption.specs.declared.matrix.Turn.TheVariants.{Reach, Forget, Gain}
 use Rattle.subsumption.specs.ClosedTables.{are_near, is_at_most, rows_of, sum_of}
-use Rattle.subsumption.specs.Matrices.{AreColumns, LeavesOut, Spares, columns_of, with_column, AreChanged, AreNear, HasRoom, IsChanged, IsPlaced, IsRowChanged, IsSteady, IsTurnPlaced, Keeps, Opens, Puts, RowsNear, ShowsRow, TurnsNear, alone, better_of, cell, changed, cleared, constants_of, first_of, joined_step, killed_step, line_cell, longer_step, more_of, own, plus_of, reach_of, step_of, turn_of, turned}
+use Rattle.subsumption.specs.Matrices.{forget_of, forgotten, AreColumns, LeavesOut, Spares, columns_of, with_column, AreChanged, AreNear, HasRoom, IsChanged, IsPlaced, IsRowChanged, IsSteady, IsTurnPlaced, Keeps, Opens, Puts, RowsNear, ShowsRow, TurnsNear, alone, better_of, cell, changed, cleared, constants_of, first_of, joined_step, killed_step, line_cell, longer_step, more_of, own, plus_of, reach_of, step_of, turn_of, turned}
 use Rattle.subsumption.proofs.TableSteps.{rows_near, near_rows}
 use Rattle.subsumption.proofs.MatrixNumbers.{near_within}
 
@@ -193,9 +193,18 @@ module _ (m : Cells) (i : ℕ) where
   turned_by u t j true e = (let same : u ≡ t = cc in ap (λ t. turned t m i j) (sym same))
   turned_by u t j false e = absurd (cc)
 
+  -- a path is forgotten only where there is one
+  forgets : (x : ℕ) (t : Turn) (o : Option Step) → forget_of (is_open (line m i)) o x ≡ Some t → cond (is_open (line m i)) (Some (Forget x)) None ≡ Some t
+  forgets x t None e = absurd (cc)
+  forgets x t (Some s) e = e
+
   pub turned_is : (change : Change) (t : Turn) (j : ℕ) → turn_of change m i ≡ Some t → turned t m i j ≡ changed change m i j
   turned_is (Add x y c) t j e = reached x y c j (cell m i x) t e
-  turned_is (Kill x) t j e = turned_by (Forget x) t j (is_open (line m i)) e
+  turned_is (Kill x) t j e = by (cell m i x) e
+    where
+      by : (o : Option Step) → forget_of (is_open (line m i)) o x ≡ Some t → turned t m i j ≡ forgotten x o (cell m i j) i j
+      by None r = absurd (cc)
+      by (Some s) r = turned_by (Forget x) t j (is_open (line m i)) r
   turned_is (Shift x c) t j e = turned_by (Gain x c) t j (is_open (line m i)) e
 
   turned_open : (u t : Turn) (b : Bool) → cond b (Some u) None ≡ Some t → b ≡ true
@@ -210,7 +219,7 @@ module _ (m : Cells) (i : ℕ) where
       by true shut ne = refl
       by false shut ne = absurd (let none : cell m i x ≡ None = closed_cell (line m i) i x shut ∙ absent i x (i == x) refl ne in
           let f : None ≡ Some t = ap (λ o. reach_of o c (constants_of m i y) y (i == x)) (sym none) ∙ e in cc)
-  turn_open (Kill x) t room e = turned_open (Forget x) t (is_open (line m i)) e
+  turn_open (Kill x) t room e = turned_open (Forget x) t (is_open (line m i)) (forgets x t (cell m i x) e)
   turn_open (Shift x c) t room e = turned_open (Gain x c) t (is_open (line m i)) e
 
   -- what a turn adds up is small
@@ -236,7 +245,7 @@ module _ (m : Cells) (i : ℕ) where
 
   pub turn_placed : (change : Change) (t : Turn) → IsPlaced change m.n → RowsNear change m i → turn_of change m i ≡ Some t → IsTurnPlaced t m.n
   turn_placed (Add x y c) t placed near e = reach_placed x y c (cell m i x) t placed.1 placed.2 (near.0 x placed.0) e
-  turn_placed (Kill x) t placed near e = forget_placed x t (is_open (line m i)) e
+  turn_placed (Kill x) t placed near e = forget_placed x t (is_open (line m i)) (forgets x t (cell m i x) e)
   turn_placed (Shift x c) t placed near e = gain_placed x c t (is_open (line m i)) placed.1 e
 
   reach_near : (x y : ℕ) (c : ℤ) (j : ℕ) (o : Option Step) (t : Turn) → is_near (constants_of m y j) ≡ true → reach_of o c (constants_of m i y) y (i == x) ≡ Some t → TurnsNear t m i j
@@ -253,7 +262,7 @@ module _ (m : Cells) (i : ℕ) where
 
   pub turn_near : (change : Change) (t : Turn) → RowsNear change m i → turn_of change m i ≡ Some t → (j : ℕ) → j < m.n → TurnsNear t m i j
   turn_near (Add x y c) t near e j lj = reach_near x y c j (cell m i x) t (near.1 j lj) e
-  turn_near (Kill x) t near e j lj = near_from (Forget x) t j (is_open (line m i)) tt e
+  turn_near (Kill x) t near e j lj = near_from (Forget x) t j (is_open (line m i)) tt (forgets x t (cell m i x) e)
   turn_near (Shift x c) t near e j lj = near_from (Gain x c) t j (is_open (line m i)) (near j lj) e
 
   -- a row that isn't turned stays as it is
@@ -276,9 +285,13 @@ module _ (m : Cells) (i : ℕ) where
 
   pub turn_kept : (change : Change) → Keeps change m i → turn_of change m i ≡ None → (j : ℕ) → j < m.n → changed change m i j ≡ cell m i j
   turn_kept (Add x y c) keeps e j lj = keeps e j lj
-  turn_kept (Kill x) keeps e j lj =
-      let none = closed_cell (line m i) i j (shut (Forget x) (is_open (line m i)) e) in
-      ap (λ s. own j (killed_step x s i j)) none ∙ (kill_shut x j (i == j) (i == x) (j == x) ∙ sym none)
+  turn_kept (Kill x) keeps e j lj = by (cell m i x) e
+    where
+      by : (o : Option Step) → forget_of (is_open (line m i)) o x ≡ None → forgotten x o (cell m i j) i j ≡ cell m i j
+      by None r = refl
+      by (Some t) r =
+          let none = closed_cell (line m i) i j (shut (Forget x) (is_open (line m i)) r) in
+          ap (λ s. own j (killed_step x s i j)) none ∙ (kill_shut x j (i == j) (i == x) (j == x) ∙ sym none)
   turn_kept (Shift x c) keeps e j lj =
       let none = closed_cell (line m i) i j (shut (Gain x c) (is_open (line m i)) e) in
       ap (λ s. more_of s (cond (i == x) c (pos 0) -ℤ cond (j == x) c (pos 0))) none ∙ (shift_shut x c j (i == j) refl ∙ sym none)
@@ -362,7 +375,7 @@ module _ (m now : Cells) (k : ℕ) (lk : k < m.n) where
       let r = steady_row (changed (Add x y c) m) y placed.1 steady h j lj in
       let F : Option Step → Option Step → Option Step → Option Step = λ s a b. better_of s (sum_of (sum_of (plus_of a) (Some c)) (plus_of b)) (cond (k == x) y (first_of a)) in
       ap (λ s. F s (cell now k x) (cell now y j)) (kept_row (changed (Add x y c) m) h j) ∙ (ap (λ a. F (cell m k j) a (cell now y j)) (kept_row (changed (Add x y c) m) h x) ∙ ap (F (cell m k j) (cell m k x)) r)
-  step_same (Kill x) placed steady h j lj = ap (λ s. own j (killed_step x s k j)) (kept_row (changed (Kill x) m) h j)
+  step_same (Kill x) placed steady h j lj = ap (λ l. forgotten x (line_cell l k x) (line_cell l k j) k j) (h.left k (omega arith))
   step_same (Shift x c) placed steady h j lj = ap (λ s. more_of s (cond (k == x) c (pos 0) -ℤ cond (j == x) c (pos 0))) (kept_row (changed (Shift x c) m) h j)
 
   still_row : (new : ℕ → ℕ → Option Step) → IsChanged new m now k → AreNear m → (j : ℕ) → j < now.n → is_near (constants_of now k j) ≡ true

@@ -11,11 +11,11 @@ use Rattle.subsumption.specs.declared.matrix.Change.TheVariants.{Add, Kill, Shif
 use Rattle.subsumption.specs.Squares.{Cells}
 use Rattle.subsumption.specs.ClosedTables.{AtMost, Pairs, is_at_most, no_pairs, sum_of, smaller_of, added, killed, raised, shared, is_broken, rows_of, are_near}
 use Rattle.subsumption.specs.TableLaws.{IsClosed}
-use Rattle.subsumption.specs.Matrices.{cell, plus_of, first_of, constants_of, own, better_of, more_of, cleared, killed_step, changed, longer_step, joined_step, lowers, lowers_by, reach_of, turn_of, AreChanged, AreColumnsOf, IsPlaced, IsSteady, Keeps, Opens, Spares, AreNear}
+use Rattle.subsumption.specs.Matrices.{cell, plus_of, first_of, constants_of, own, better_of, more_of, cleared, killed_step, changed, longer_step, joined_step, forgotten, lowers, lowers_by, reach_of, turn_of, AreChanged, AreColumnsOf, IsPlaced, IsSteady, Keeps, Opens, Spares, AreNear}
 use Rattle.subsumption.specs.declared.matrix.Columns.{Columns}
 use Rattle.std.specs.Prelude.{not}
 use Rattle.subsumption.specs.declared.matrix.Turn.TheVariants.{Reach}
-use Rattle.subsumption.specs.MatrixPaths.{HasPaths, IsCanonical, IsCleared, IsMet, guarded_rows, pairs_after}
+use Rattle.subsumption.specs.MatrixPaths.{Continues, HasPaths, IsCanonical, IsCleared, IsMet, guarded_rows, pairs_after}
 use Rattle.subsumption.proofs.TableConstants.{at_most_from, at_most_up, le_from, lt_of}
 use Rattle.subsumption.proofs.TableChanges.{to_same, from_same, not_broken, closed_same, none_closed, added_closed, killed_closed, raised_closed, shared_closed}
 use Rattle.subsumption.proofs.TableNumbers.{at_least}
@@ -62,8 +62,16 @@ cleared_plus j false = refl
 pub add_constant : (m : Cells) (x y : ℕ) (c : ℤ) (i j : ℕ) → plus_of (changed (Add x y c) m i j) ≡ added x y c (constants_of m) i j
 add_constant m x y c i j = better_plus (cell m i j) (sum_of (sum_of (constants_of m i x) (Some c)) (constants_of m y j)) (cond (i == x) y (first_of (cell m i x)))
 
-pub kill_constant : (m : Cells) (x i j : ℕ) → plus_of (changed (Kill x) m i j) ≡ killed x (constants_of m) i j
-kill_constant m x i j = own_plus j (killed_step x (cell m i j) i j) ∙ killed_plus (cell m i j) (i == j) (i == x) (j == x)
+kill_constant : (m : Cells) (x i j : ℕ) → constants_of m x x ≡ Some (pos 0) → (o : Option Step) → cell m i x ≡ o → plus_of (forgotten x o (cell m i j) i j) ≡ killed x (constants_of m) i j
+kill_constant m x i j diagonal (Some t) e = own_plus j (killed_step x (cell m i j) i j) ∙ killed_plus (cell m i j) (i == j) (i == x) (j == x)
+kill_constant m x i j diagonal None e = by (i == j) (i == x) (j == x) refl refl
+  where
+    by : (p q r : Bool) → (i == x) ≡ q → (j == x) ≡ r → constants_of m i j ≡ cond p (constants_of m i j) (cond q None (cond r None (constants_of m i j)))
+    by true q r f g = refl
+    by false true r f g = absurd (let same : i ≡ x = grind (arith, nat_tests) in
+        let none : constants_of m x x ≡ None = subst (λ i. constants_of m i x ≡ None) same (ap plus_of e) in cc)
+    by false false true f g = (let same : j ≡ x = grind (arith, nat_tests) in subst (λ j. constants_of m i j ≡ None) (sym same) (ap plus_of e))
+    by false false false f g = refl
 
 pub shift_constant : (m : Cells) (x : ℕ) (c : ℤ) (i j : ℕ) → plus_of (changed (Shift x c) m i j) ≡ raised x c (constants_of m) i j
 shift_constant m x c i j = more_plus (cell m i j) (cond (i == x) c (pos 0) -ℤ cond (j == x) c (pos 0))
@@ -156,6 +164,95 @@ shift_paths m new x c h paths = record {
         sooner = on.sooner;
       };
 }
+
+-- ---- paths without a node
+
+module _ (m new : Cells) (x : ℕ) (lx : x < m.n) (closed : IsClosed m.n (constants_of m)) (paths : HasPaths m) (h : AreChanged (changed (Kill x) m) m new) (diagonal : (j : ℕ) → j < new.n → constants_of new j j ≡ Some (pos 0)) where
+  -- in the rows that are kept as before, and one elsewhere
+  killed_rank : Option Step → Bool → ℕ → ℕ → ℕ
+  killed_rank o true i j = 0
+  killed_rank None false i j = suc (paths.rank i j)
+  killed_rank (Some t) false i j = 1
+
+  rank_after : ℕ → ℕ → ℕ
+  rank_after i j = killed_rank (cell m i x) (i == j) i j
+
+  rank_none : (i j : ℕ) (o : Option Step) (b : Bool) → (i == j) ≡ b → i ≡ j → killed_rank o b i j ≡ 0
+  unfolding killed_rank
+  rank_none i j o true e same = refl
+  rank_none i j o false e same = absurd (grind (arith, nat_tests))
+
+  rank_more : (i j : ℕ) (o : Option Step) (b : Bool) → (i == j) ≡ b → i ≢ j → o ≡ None → killed_rank o b i j ≡ suc (paths.rank i j)
+  unfolding killed_rank
+  rank_more i j o true e ne f = absurd (ne (grind (arith, nat_tests)))
+  rank_more i j None false e ne f = refl
+  rank_more i j (Some t) false e ne f = absurd (cc)
+
+  rank_one : (i j : ℕ) (o : Option Step) (t : Step) (b : Bool) → (i == j) ≡ b → i ≢ j → o ≡ Some t → killed_rank o b i j ≡ 1
+  unfolding killed_rank
+  rank_one i j o t true e ne f = absurd (ne (grind (arith, nat_tests)))
+  rank_one i j None t false e ne f = absurd (cc)
+  rank_one i j (Some u) t false e ne f = refl
+
+  -- a row that leads nowhere to x is kept
+  kept_after : (i j : ℕ) → i < m.n → j < m.n → cell m i x ≡ None → cell new i j ≡ cell m i j
+  kept_after i j li lj none = h.done i j li lj ∙ ap (λ o. forgotten x o (cell m i j) i j) none
+
+  below : (i : ℕ) → i < new.n → i < m.n
+  below i li = subst (λ n. i < n) h.size li
+
+  goes_on_kept : (i j : ℕ) (s : Step) → i < new.n → j < new.n → i ≢ j → cell new i j ≡ Some s → cell m i x ≡ None → Continues new rank_after i j s
+  unfolding rank_after
+  goes_on_kept i j s li lj ne e none =
+      let on = paths.continues i j s (below i li) (below j lj) ne (sym (kept_after i j (below i li) (below j lj) none) ∙ e) in
+      let p = s.first in
+      let first_none : cell m p x ≡ None = by (cell m p x) refl on.head (ap plus_of on.fact) on.room in
+      let sooner = on.sooner in
+      let here = rank_more i j (cell m i x) (i == j) refl ne none in
+      record {
+        room = subst (λ n. p < n) (sym h.size) on.room;
+        apart = on.apart;
+        head = on.head;
+        rest = on.rest;
+        fact = kept_after i p (below i li) on.room none ∙ on.fact;
+        behind = ap plus_of (kept_after p j on.room (below j lj) first_none) ∙ on.behind;
+        sum = on.sum;
+        sooner = elim (cases_eq p j) [
+          | inl same ↦ (let there = rank_none p j (cell m p x) (p == j) refl same in omega (arith, here, there))
+          | inr apart ↦ (let there = rank_more p j (cell m p x) (p == j) refl apart first_none in omega (arith, here, there, sooner))
+        ];
+      }
+    where
+      by : (o : Option Step) → cell m s.first x ≡ o → (head : ℤ) → constants_of m i s.first ≡ Some head → s.first < m.n → o ≡ None
+      by None f head to room = refl
+      by (Some t) f head to room = absurd (from_same None (constants_of m i x) (head +ℤ t.plus) (ap plus_of none)
+          (closed.triangle i s.first x head t.plus (below i li) room lx
+          (to_same (Some head) (constants_of m i s.first) head to (omega (arith, ints)))
+          (to_same (Some t.plus) (constants_of m s.first x) t.plus (ap plus_of f) (omega (arith, ints)))))
+
+  goes_on_own : (i j : ℕ) (s t : Step) → i < new.n → j < new.n → i ≢ j → cell new i j ≡ Some s → cell m i x ≡ Some t → Continues new rank_after i j s
+  unfolding rank_after
+  goes_on_own i j s t li lj ne e some =
+      let step : own j (killed_step x (cell m i j) i j) ≡ Some s = sym (h.done i j (below i li) (below j lj) ∙ ap (λ o. forgotten x o (cell m i j) i j) some) ∙ e in
+      let here = own_first j (killed_step x (cell m i j) i j) s step in
+      let same : s ≡ record { plus = s.plus; first = j } = ap (stepped s.plus) here in
+      record {
+        room = omega (arith, here, lj);
+        apart = λ q. ne (sym q ∙ here);
+        head = s.plus;
+        rest = pos 0;
+        fact = subst (λ f. cell new i f ≡ Some (record { plus = s.plus; first = f })) (sym here) (e ∙ ap Some same);
+        behind = subst (λ f. constants_of new f j ≡ Some (pos 0)) (sym here) (diagonal j lj);
+        sum = omega (arith, ints);
+        sooner = (let a = rank_none s.first j (cell m s.first x) (s.first == j) refl here in let b = rank_one i j (cell m i x) t (i == j) refl ne some in omega (arith, a, b));
+      }
+
+  kill_paths : HasPaths new
+  kill_paths = record { rank = rank_after; continues = λ i j s li lj ne e. by i j s li lj ne e (cell m i x) refl }
+    where
+      by : (i j : ℕ) (s : Step) → i < new.n → j < new.n → i ≢ j → cell new i j ≡ Some s → (o : Option Step) → cell m i x ≡ o → Continues new rank_after i j s
+      by i j s li lj ne e None f = goes_on_kept i j s li lj ne e f
+      by i j s li lj ne e (Some t) f = goes_on_own i j s t li lj ne e f
 
 -- ---- paths through a new fact
 
@@ -495,10 +592,10 @@ cleared_canonical m h =
     }
 
 module _ (m new : Cells) (canonical : IsCanonical m) where
-  constants_after : (change : Change) (i j : ℕ) → plus_of (changed change m i j) ≡ pairs_after change (constants_of m) i j
-  constants_after (Add x y c) i j = add_constant m x y c i j
-  constants_after (Kill x) i j = kill_constant m x i j
-  constants_after (Shift x c) i j = shift_constant m x c i j
+  constants_after : (change : Change) → IsPlaced change m.n → (i j : ℕ) → plus_of (changed change m i j) ≡ pairs_after change (constants_of m) i j
+  constants_after (Add x y c) placed i j = add_constant m x y c i j
+  constants_after (Kill x) placed i j = kill_constant m x i j (canonical.closed.diagonal x placed) (cell m i x) refl
+  constants_after (Shift x c) placed i j = shift_constant m x c i j
 
   closed_after : (change : Change) → IsPlaced change m.n → IsMet change m → IsClosed m.n (pairs_after change (constants_of m))
   closed_after (Add x y c) placed met = added_closed m.n x y c (constants_of m) placed.0 placed.1 canonical.closed met
@@ -526,7 +623,7 @@ module _ (m new : Cells) (canonical : IsCanonical m) where
 
   paths_after : (change : Change) → IsPlaced change m.n → IsMet change m → AreChanged (changed change m) m new → IsClosed new.n (constants_of new) → HasPaths new
   paths_after (Add x y c) placed met h closed = add_paths m x y c placed.0 placed.1 canonical.closed met canonical.paths new h
-  paths_after (Kill x) placed met h closed = own_after (changed (Kill x) m) h closed (λ i j s e. own_first j (killed_step x (cell m i j) i j) s e)
+  paths_after (Kill x) placed met h closed = kill_paths m new x placed canonical.closed canonical.paths h closed.diagonal
   paths_after (Shift x c) placed met h closed = shift_paths m new x c h canonical.paths
 
   module _ (f : ℕ → ℕ → Option Step) (t : Pairs) (h : AreChanged f m new) (made : (i j : ℕ) → plus_of (f i j) ≡ t i j) where
@@ -559,14 +656,14 @@ module _ (m new : Cells) (canonical : IsCanonical m) where
   module _ (change : Change) (placed : IsPlaced change m.n) (met : IsMet change m) (h : AreChanged (changed change m) m new) where
     pub changed_canonical : are_near (rows_of m.n (constants_of new)) ≡ true → IsCanonical new
     changed_canonical near =
-        let closed = closed_made (changed change m) (pairs_after change (constants_of m)) h (constants_after change) (closed_after change placed met) in
-        record { closed = closed; near = near_made (changed change m) (pairs_after change (constants_of m)) h (constants_after change) near; paths = paths_after change placed met h closed }
+        let closed = closed_made (changed change m) (pairs_after change (constants_of m)) h (constants_after change placed) (closed_after change placed met) in
+        record { closed = closed; near = near_made (changed change m) (pairs_after change (constants_of m)) h (constants_after change placed) near; paths = paths_after change placed met h closed }
 
     pub changed_rows : are_near (rows_of m.n (constants_of new)) ≡ true → rows_of new.n (constants_of new) ≡ guarded_rows m.n (pairs_after change (constants_of m))
-    changed_rows near = guarded_made (changed change m) (pairs_after change (constants_of m)) h (constants_after change) near
+    changed_rows near = guarded_made (changed change m) (pairs_after change (constants_of m)) h (constants_after change placed) near
 
     pub changed_none : (last : Cells) → are_near (rows_of m.n (constants_of new)) ≡ false → AreChanged cleared new last → rows_of last.n (constants_of last) ≡ guarded_rows m.n (pairs_after change (constants_of m))
-    changed_none last far again = guarded_cleared (changed change m) (pairs_after change (constants_of m)) h (constants_after change) last far again
+    changed_none last far again = guarded_cleared (changed change m) (pairs_after change (constants_of m)) h (constants_after change placed) last far again
 
   module _ (other : Cells) (same : other.n ≡ m.n) (both : IsCanonical other) (h : AreChanged (joined_step m other) m new) where
     longer_near : (o p : Option ℤ) → is_near o ≡ true → is_near p ≡ true → is_near (longer_of o p) ≡ true

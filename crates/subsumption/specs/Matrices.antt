@@ -105,10 +105,15 @@ more_of (Some s) c = Some (record { plus = s.plus +ℤ c; first = s.first })
 abbrev pub killed_step : ℕ → Option Step → ℕ → ℕ → Option Step
 killed_step x s i j = cond (i == j) s (cond (i == x) None (cond (j == x) None s))
 
+-- nothing is known of x; where no path from i leads to x, none leads through x either
+abbrev pub forgotten : ℕ → Option Step → Option Step → ℕ → ℕ → Option Step
+forgotten x None s i j = s
+forgotten x (Some t) s i j = own j (killed_step x s i j)
+
 abbrev pub changed : Change → Cells → ℕ → ℕ → Option Step
 changed (Add x y c) m i j =
     better_of (cell m i j) (sum_of (sum_of (constants_of m i x) (Some c)) (constants_of m y j)) (cond (i == x) y (first_of (cell m i x)))
-changed (Kill x) m i j = own j (killed_step x (cell m i j) i j)
+changed (Kill x) m i j = forgotten x (cell m i x) (cell m i j) i j
 changed (Shift x c) m i j = more_of (cell m i j) (cond (i == x) c (pos 0) -ℤ cond (j == x) c (pos 0))
 
 -- the longer of two, with a path of its own
@@ -133,10 +138,15 @@ abbrev pub reach_of : Option Step → ℤ → Option ℤ → ℕ → Bool → Op
 reach_of None c e y here = None
 reach_of (Some s) c e y here = cond (is_at_most e (s.plus +ℤ c)) None (Some (Reach y (s.plus +ℤ c) (cond here y s.first)))
 
+-- a path to x is forgotten, where there is one
+abbrev pub forget_of : Bool → Option Step → ℕ → Option Turn
+forget_of ready None x = None
+forget_of ready (Some s) x = cond ready (Some (Forget x)) None
+
 -- what a change makes of the steps from i, where it changes any
 abbrev pub turn_of : Change → Cells → ℕ → Option Turn
 turn_of (Add x y c) m i = reach_of (cell m i x) c (constants_of m i y) y (i == x)
-turn_of (Kill x) m i = cond (is_open (line m i)) (Some (Forget x)) None
+turn_of (Kill x) m i = forget_of (is_open (line m i)) (cell m i x) x
 turn_of (Shift x c) m i = cond (is_open (line m i)) (Some (Gain x c)) None
 
 -- x comes nearer to j once x is at most y + c

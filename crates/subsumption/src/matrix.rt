@@ -7,7 +7,7 @@ ghost use Rattle.subsumption.specs.Squares.{is_open, line, no_line};
 ghost use Rattle.subsumption.specs.ClosedTables.{are_near, is_at_most, rows_of, shared, sum_of};
 ghost use Rattle.subsumption.specs.MatrixPaths.{IsCanonical, IsCleared, IsMet, guarded_rows, pairs_after};
 ghost use Rattle.subsumption.specs.declared.matrix.Change.TheVariants.{Add};
-ghost use Rattle.subsumption.specs.Matrices.{AreChanged, AreColumns, AreColumnsOf, AreNear, Closes, HasRoom, IsPlaced, IsRowChanged, IsRowNear, IsTurnPlaced, Keeps, LeavesOut, Opens, Puts, ReadsNear, RowsNear, ShowsRow, Spares, TurnsNear, better_of, cell, changed, cleared, columns_of, constants_of, joined_step, killed_step, longer_step, lowers, lowers_by, more_of, own, plus_of, turn_of, turned, with_column};
+ghost use Rattle.subsumption.specs.Matrices.{AreChanged, AreColumns, AreColumnsOf, AreNear, Closes, HasRoom, IsPlaced, IsRowChanged, IsRowNear, IsTurnPlaced, Keeps, LeavesOut, Opens, Puts, ReadsNear, RowsNear, ShowsRow, Spares, TurnsNear, better_of, cell, changed, cleared, columns_of, constants_of, forget_of, joined_step, killed_step, longer_step, lowers, lowers_by, more_of, own, plus_of, turn_of, turned, with_column};
 
 use crate::row::{Row, Step};
 use ckc_text::fault::NoMemory;
@@ -238,13 +238,7 @@ impl Matrix {
     {
         match change {
             Change::Add(x, y, c) => self.reach(*x, *y, *c, i),
-            Change::Kill(x) => {
-                if self.is_open(i) {
-                    Some(Turn::Forget(*x))
-                } else {
-                    None
-                }
-            }
+            Change::Kill(x) => forget(self.is_open(i), self.step(i, *x), *x),
             Change::Shift(x, c) => {
                 if self.is_open(i) {
                     Some(Turn::Gain(*x, *c))
@@ -502,6 +496,16 @@ impl Matrix {
         ensures table { rows_of self.new.n (constants_of self.new) ≡ guarded_rows self.old.n (shared (constants_of self.old) (constants_of other.now)) }
     {
         self.join_all(other);
+    }
+}
+
+/// What becomes of the steps from a node once nothing is known of `x`: nothing, where there is no way to `x`.
+fn forget(is_open: bool, step: Option<Step>, x: usize) -> Option<Turn>
+    ensures { result ≡ forget_of is_open step x }
+{
+    match step {
+        None => None,
+        Some(_) => { if is_open { Some(Turn::Forget(x)) } else { None } }
     }
 }
 
