@@ -1,4 +1,5 @@
--- The lines that say that a source is accepted, or why a program wasn't run, or why its run broke off. Each ends with a line feed.
+-- The lines that say that a source is accepted, or why a program or a listing wasn't run, or why its run broke off. Each ends with a
+-- line feed.
 use Rattle.std.specs.Prelude.{ℕ, List, ◌++◌, codes, decimal}
 use Rattle.ckc_text.specs.declared.place.Place.{Place}
 use Rattle.ckc_text.specs.declared.code.Code.{Code}
@@ -20,6 +21,14 @@ act_refused_text number code = line (codes "[act line " ++ decimal number ++ cod
 -- a file that isn't there
 abbrev pub missing_text : List ℕ → List ℕ
 missing_text name = line (codes "[missing " ++ name ++ codes "]")
+
+-- a listing that is refused at the line of this number, as `[listing line 4]`
+abbrev pub listing_refused_text : ℕ → List ℕ
+listing_refused_text number = line (codes "[listing line " ++ decimal number ++ codes "]")
+
+-- a listing whose image doesn't fit the settings
+abbrev pub unfit_text : List ℕ
+unfit_text = line (codes "[listing unfit]")
 
 -- words that spell no request
 abbrev pub usage_text : List ℕ

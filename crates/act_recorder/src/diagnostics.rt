@@ -1,7 +1,7 @@
-// The lines that say that a source is accepted, or why a program wasn't run, or why its run broke off.
+// The lines that say that a source is accepted, or why a program or a listing wasn't run, or why its run broke off.
 
 ghost use Rattle.std.specs.Prelude.{◌≡◌, IfOk};
-ghost use Rattle.act_recorder.specs.Diagnostics.{accepted_text, refused_text, act_refused_text, missing_text, usage_text};
+ghost use Rattle.act_recorder.specs.Diagnostics.{accepted_text, refused_text, act_refused_text, missing_text, listing_refused_text, unfit_text, usage_text};
 
 use ckc_text::code::Code;
 use ckc_text::fault::NoMemory;
@@ -40,6 +40,21 @@ pub fn missing_line(alloc: Global, name: &str) -> Result<Vec<u8>, NoMemory>
     ensures { IfOk result (λ text. text.items ≡ missing_text name.now) }
 {
     Ok(format!(in alloc; "[missing {name}]\n")?.into_bytes())
+}
+
+/// The line of a listing that is refused at the line of this number.
+pub fn listing_refused_line(alloc: Global, line: u32) -> Result<Vec<u8>, NoMemory>
+    ensures { IfOk result (λ text. text.items ≡ listing_refused_text line) }
+{
+    Ok(format!(in alloc; "[listing line {line}]\n")?.into_bytes())
+}
+
+/// The line of a listing whose image doesn't fit the settings.
+pub fn unfit_line(alloc: Global) -> Result<Vec<u8>, NoMemory>
+    ensures { IfOk result (λ text. text.items ≡ unfit_text) }
+{
+    let text = "[listing unfit]\n";
+    Ok(Vec::from_slice(alloc, text.as_bytes())?)
 }
 
 /// The line for words that spell no request.

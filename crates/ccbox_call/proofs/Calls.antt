@@ -1,89 +1,129 @@
 -- What the end of a call says: of its Answer, of its status and of the counts.
-use Rattle.std.proofs.Common.{◌≡◌, ℕ, ◌≤◌, ◌⊎◌, inl, inr, ⊎_elim, ℤ, List, take, length, Option, Some, None, refl, sym, ap, ◌∙◌, subst, arith}
+use Rattle.std.proofs.Common.{◌≡◌, ℕ, ◌≤◌, ◌⊎◌, Bool, true, false, inl, inr, ⊎_elim, ℤ, List, take, length, Option, Some, None, refl, sym, ap, ◌∙◌, subst, arith}
 use Rattle.std.specs.Prelude.{◌≢◌}
 use Rattle.std.proofs.lemmas.List.{take_all}
 use Rattle.ckc_text.specs.declared.code.Code.{Code}
 use Rattle.ckc_text.specs.declared.place.Place.{Place}
 use Rattle.ckc_text.specs.declared.fault.SourceFault.{SourceFault}
+use Rattle.ckc_text.specs.Places.{place_at}
 use Rattle.ckc_io.specs.Files.{Files}
 use Rattle.ckc_io.specs.Written.{grown}
 use Rattle.ckc_io.proofs.Fronts.{grown-nothing}
 use Rattle.act_words.specs.declared.ending.Ending.{Ending}
 use Rattle.act_words.specs.declared.ending.Ending.TheVariants.{Exit, Check, Stop}
 use Rattle.ckc_core.specs.Core.{Core}
-use Rattle.ckc_core.specs.States.{State}
+use Rattle.act_words.specs.Shown.{Shown}
+use Rattle.act_words.specs.World.{Event}
+use Rattle.code_words.specs.Images.{Image}
+use Rattle.code_words.specs.Runs.{CodeRun}
 use Rattle.sandbox_actor.specs.ActLists.{ActList, RefusedLine}
 use Rattle.run_core.specs.Runs.{Counts}
 use Rattle.check_insertion.specs.Insert.{inserted}
 use Rattle.lowering_code.specs.Images.{image_of}
 use Rattle.code_words_listing.specs.Listings.{listing, InFormat}
-use Rattle.ccbox_call_words.specs.Requests.{Request, Run, Options, file_of, settings_of, inputs_of, request_of}
+use Rattle.ccbox_call_words.specs.Requests.{Request, Run, Exec, Options, file_of, is_of_source, settings_of, inputs_of, request_of}
 use Rattle.ccbox_call_words.specs.Requests as requests
-use Rattle.act_recorder.specs.Diagnostics.{accepted_text, usage_text, missing_text}
+use Rattle.act_recorder.specs.Diagnostics.{accepted_text, usage_text, missing_text, refused_text, listing_refused_text, unfit_text}
 use Rattle.ccbox_call_words.specs.Given.{TextGiven, all, failed, LineGiven, given, unmade}
 use Rattle.ccbox_call.specs.Acceptance.{Accepts, IsRefused, IsAcceptedCore}
-use Rattle.ccbox_call.specs.Answers.{RunsTo, needed_line, text_of, status_with, ran, CoreAnswer, acts_missing, acts, CheckAnswer, says_so, SplitAnswer, lists, SourceAnswer, refused, accepted, missing, source, AskedOf, RequestAnswer, Answer, IsFailure, WritesFront, GivesFront, IsCutShort, GivesWhole, Exactly, AsksAbout, AsksOf, AsksToRun, AsksFor, SourceIsRefused, SourceIsChecked, CodeIsListed, RunEndsWith, RunExits, Succeeds, CheckFails, RunStops, LineIsRefused, FileIsMissing, PrintsRun, PrintedRun, PrintedAccepted, IsComplete, IsQuiet, IsUntouched}
+use Rattle.ccbox_call.specs.Answers.{needed_line, text_with, status_with, ran, RunAnswer, acts_missing, acts, CheckAnswer, says_so, SplitAnswer, lists, ExecAnswer, unfit, fits, SourceAnswer, refused, accepted, ListingAnswer, refused_at, spells, missing, is_there, AskedOfCore, AskedOfImage, BytesAnswer, RequestAnswer, Answer, IsFailure, WritesFront, GivesFront, IsCutShort, GivesWhole, Exactly, AsksAbout, AsksAboutSource, AsksAboutListing, AsksOf, AsksToRun, AsksFor, SourceIsRefused, ListingFails, SourceIsChecked, CodeIsListed, RunEndsWith, RunExits, Succeeds, CheckFails, RunStops, LineIsRefused, FileIsMissing, PrintsRun, PrintedRun, PrintedImageRun, PrintedAccepted, IsComplete, IsQuiet, IsUntouched}
 use Rattle.ccbox_call.specs.Answers as answers
 use Rattle.ccbox_call.specs.PrintedCode.{SpellsAlone, PrintedCode}
+use Rattle.ccbox_call.specs.Programs.{Program, Meant, Coded, Runs}
+use Rattle.ccbox_call.specs.ReadListings.{Spells, IsRefusedAt}
 use Rattle.ccbox_call.specs.Calls.{StatusCounts, Gives, answered, output_failed, files_failed, no_memory, no_memory_behind, IsFileOf, IsInFormat, IsGiven, CallEnds, usage, asked}
 use Rattle.ccbox_call.proofs.OneAnswer.{one_answer}
 use Rattle.ccbox_call.proofs.PrintedCode.{parts_kept, spells_alone, kept_code, does_as}
-use Rattle.ccbox_call.proofs.Runs.{ends_over, view_over, view_before_over}
+use Rattle.ccbox_call.proofs.Runs.{ends_over, view_over, view_before_over, image_ends_over, image_view_over, image_view_before_over}
 
 -- ---- from what is asked for to its Answer
 
--- the run of a source that is asked for has its Answer
-pub run_answer : (files : Files) (words : List (List ℕ)) (options : Options) (list : ActList) (c : Core) (ending : Ending) (s : State) → AsksFor files words options list c → RunsTo c (settings_of options) (inputs_of options) list ending s → Answer files words (text_of (settings_of options) list ending s) (status_with (needed_line list s.world.events) ending)
-run_answer files words options list c ending s a runs =
-    answers.asked (Run a.asks.name options) a.asks.request (source a.src a.asks.there (accepted c a.accepted (acts list a.acts (ran ending s runs))))
+-- a program that is asked for has the answer of its run
+program_answer : (files : Files) (words : List (List ℕ)) (options : Options) (program : Program) → AsksToRun files words options program → {text : List ℕ} {n : ℕ} → RunAnswer files options program text n → Answer files words text n
+program_answer files words options (Meant c) a x = answers.asked (Run a.name options) a.request (is_there a.src a.there (accepted c a.accepted x))
+program_answer files words options (Coded image) a x = answers.asked (Exec a.name options) (a.asks).spelled (is_there a.listed (a.asks).there (spells image a.spells_it (fits a.fits_settings x)))
+
+-- so the run of a program that is asked for has its Answer
+pub run_answer : (files : Files) (words : List (List ℕ)) (options : Options) (list : ActList) (program : Program) (ending : Ending) (events : List Event) (blocks : List Shown) → AsksFor files words options list program → Runs program (settings_of options) (inputs_of options) list.acts ending events blocks → Answer files words (text_with (settings_of options) (needed_line list events) events ending blocks) (status_with (needed_line list events) ending)
+run_answer files words options list program ending events blocks a runs = program_answer files words options program a.asks (acts list a.acts_are (ran ending events blocks runs))
 
 -- so has the line of an accepted source, and the listing of its code
 check_answer : (files : Files) (words : List (List ℕ)) (name : List ℕ) (c : Core) → AsksOf files words (requests.Check name) c → Answer files words accepted_text 0
-check_answer files words name c a = answers.asked (requests.Check name) a.asks.spelled (source a.src a.asks.there (accepted c a.accepted says_so))
+check_answer files words name c a = answers.asked (requests.Check name) a.asks.spelled (is_there a.src a.asks.there (accepted c a.accepted says_so))
 
 split_answer : (files : Files) (words : List (List ℕ)) (name : List ℕ) (c : Core) → AsksOf files words (requests.Split name) c → Answer files words (listing (image_of (inserted c))) 0
-split_answer files words name c a = answers.asked (requests.Split name) a.asks.spelled (source a.src a.asks.there (accepted c a.accepted lists))
+split_answer files words name c a = answers.asked (requests.Split name) a.asks.spelled (is_there a.src a.asks.there (accepted c a.accepted lists))
 
-refused_answer : (files : Files) (words : List (List ℕ)) (request : Request) (src : List ℕ) (fault : SourceFault) → AsksAbout files words request src → IsRefused src fault → (text : List ℕ) × Answer files words text 1
-refused_answer files words request src fault a r = (_, answers.asked request a.spelled (source src a.there (refused fault r)))
+refused_answer : (files : Files) (words : List (List ℕ)) (request : Request) (src : List ℕ) (fault : SourceFault) → AsksAboutSource files words request src → IsRefused src fault → (text : List ℕ) × Answer files words text 1
+refused_answer files words request src fault a r =
+    (_, answers.asked request (a.about).spelled (is_there src (a.about).there (subst (λ b. BytesAnswer files request b src (refused_text fault.code (place_at src fault.span.from)) 1) (sym a.of_source) (refused fault r))))
+
+listing_answer : (files : Files) (words : List (List ℕ)) → ListingFails files words → (text : List ℕ) × Answer files words text 11
+listing_answer files words (inl x) = let a = x.4 in (listing_refused_text x.3, answers.asked (Exec x.0 x.1) a.spelled (is_there x.2 a.there (refused_at x.3 x.5)))
+listing_answer files words (inr x) = let a = x.4 in (unfit_text, answers.asked (Exec x.0 x.1) a.spelled (is_there x.2 a.there (spells x.3 x.5 (unfit x.6))))
 
 missing_answer : (files : Files) (words : List (List ℕ)) → FileIsMissing files words → (text : List ℕ) × Answer files words text 3
 missing_answer files words (inl m) = (missing_text (file_of m.0), answers.asked m.0 m.1 (missing m.2))
-missing_answer files words (inr m) =
-    let a = m.4 in
-    (missing_text m.0, answers.asked (Run a.name m.1) a.request (source m.2 a.there (accepted m.3 m.5 (acts_missing m.0 m.6 m.7))))
+missing_answer files words (inr m) = (missing_text m.0, program_answer files words m.1 m.2 m.3 (acts_missing m.0 m.4 m.5))
 
 -- ---- what an Answer says of its status
 
 -- the causes of the statuses that files and words have
 abbrev Cause : Files → List (List ℕ) → ℕ → Type 0
 Cause files words n =
-    ((n ≡ 1) × SourceIsRefused files words) ⊎ (((n ≡ 3) × FileIsMissing files words) ⊎ (((n ≡ 2) × (request_of words ≡ None))
-    ⊎ (((n ≡ 0) × (SourceIsChecked files words ⊎ CodeIsListed files words)) ⊎ ((needed : Option RefusedLine) × (ending : Ending) × (n ≡ status_with needed ending) × RunEndsWith files words needed ending))))
+    ((n ≡ 1) × SourceIsRefused files words) ⊎ (((n ≡ 3) × FileIsMissing files words) ⊎ (((n ≡ 2) × (request_of words ≡ None)) ⊎ (((n ≡ 11) × ListingFails files words)
+    ⊎ (((n ≡ 0) × (SourceIsChecked files words ⊎ CodeIsListed files words)) ⊎ ((needed : Option RefusedLine) × (ending : Ending) × (n ≡ status_with needed ending) × RunEndsWith files words needed ending)))))
 
-core_cause : (files : Files) (words : List (List ℕ)) (options : Options) (src : List ℕ) (c : Core) → AsksToRun files words options src → Accepts src c → {text : List ℕ} {n : ℕ} → CoreAnswer files options c text n → Cause files words n
-core_cause files words options src c asks is (acts_missing name e none) = inr (inl (refl, inr (name, options, src, c, asks, is, e, none)))
-core_cause files words options src c asks is (acts list there (ran ending s runs)) =
-    inr (inr (inr (inr (needed_line list s.world.events, ending, refl, (options, list, c, s, record { src = src; asks = asks; accepted = is; acts = there }, runs, refl)))))
+run_cause : (files : Files) (words : List (List ℕ)) (options : Options) (program : Program) → AsksToRun files words options program → {text : List ℕ} {n : ℕ} → RunAnswer files options program text n → Cause files words n
+run_cause files words options program asks (acts_missing name e none) = inr (inl (refl, inr (name, options, program, asks, e, none)))
+run_cause files words options program asks (acts list at (ran ending events blocks runs)) =
+    inr (inr (inr (inr (inr (needed_line list events, ending, refl, (options, list, program, events, blocks, record { asks = asks; acts_are = at }, runs, refl))))))
 
 check_cause : (files : Files) (words : List (List ℕ)) (name : List ℕ) (c : Core) → AsksOf files words (requests.Check name) c → {text : List ℕ} {n : ℕ} → CheckAnswer text n → Cause files words n
-check_cause files words name c a says_so = inr (inr (inr (inl (refl, inl (name, c, a)))))
+check_cause files words name c a says_so = inr (inr (inr (inr (inl (refl, inl (name, c, a))))))
 
 split_cause : (files : Files) (words : List (List ℕ)) (name : List ℕ) (c : Core) → AsksOf files words (requests.Split name) c → {text : List ℕ} {n : ℕ} → SplitAnswer c text n → Cause files words n
-split_cause files words name c a lists = inr (inr (inr (inl (refl, inr (name, c, a)))))
+split_cause files words name c a lists = inr (inr (inr (inr (inl (refl, inr (name, c, a))))))
 
-asked_cause : (files : Files) (words : List (List ℕ)) (request : Request) (src : List ℕ) (c : Core) → AsksAbout files words request src → Accepts src c → (text : List ℕ) (n : ℕ) → AskedOf files request c text n → Cause files words n
-asked_cause files words (requests.Check name) src c asks is text n a = check_cause files words name c (record { src = src; asks = asks; accepted = is }) a
-asked_cause files words (requests.Split name) src c asks is text n a = split_cause files words name c (record { src = src; asks = asks; accepted = is }) a
-asked_cause files words (Run name options) src c asks is text n a = core_cause files words options src c (record { name = name; request = asks.spelled; there = asks.there }) is a
+core_cause : (files : Files) (words : List (List ℕ)) (request : Request) (src : List ℕ) (c : Core) → AsksAbout files words request src → Accepts src c → (text : List ℕ) (n : ℕ) → AskedOfCore files request c text n → Cause files words n
+core_cause files words (requests.Check name) src c asks is text n a = check_cause files words name c (record { src = src; asks = asks; accepted = is }) a
+core_cause files words (requests.Split name) src c asks is text n a = split_cause files words name c (record { src = src; asks = asks; accepted = is }) a
+core_cause files words (Run name options) src c asks is text n a = run_cause files words options (Meant c) (record { name = name; src = src; request = asks.spelled; there = asks.there; accepted = is }) a
+core_cause files words (Exec name options) src c asks is text n a = absurd a
 
-source_cause : (files : Files) (words : List (List ℕ)) (request : Request) (src : List ℕ) → AsksAbout files words request src → {text : List ℕ} {n : ℕ} → SourceAnswer (AskedOf files request) src text n → Cause files words n
-source_cause files words request src asks (refused fault r) = inl (refl, (request, src, fault, asks, r))
-source_cause files words request src asks (accepted c is a) = asked_cause files words request src c asks is _ _ a
+exec_cause : (files : Files) (words : List (List ℕ)) (name : List ℕ) (options : Options) (listed : List ℕ) (image : Image) → AsksAboutListing files words name options listed → Spells listed image → {text : List ℕ} {n : ℕ} → ExecAnswer files options image text n → Cause files words n
+exec_cause files words name options listed image asks is (unfit misfit) = inr (inr (inr (inl (refl, inr (name, options, listed, image, asks, is, misfit)))))
+exec_cause files words name options listed image asks is (fits f a) =
+    run_cause files words options (Coded image) (record { name = name; listed = listed; asks = asks; spells_it = is; fits_settings = f }) a
+
+image_cause : (files : Files) (words : List (List ℕ)) (request : Request) (listed : List ℕ) (image : Image) → AsksAbout files words request listed → Spells listed image → (text : List ℕ) (n : ℕ) → AskedOfImage files request image text n → Cause files words n
+image_cause files words (requests.Check name) listed image asks is text n a = absurd a
+image_cause files words (requests.Split name) listed image asks is text n a = absurd a
+image_cause files words (Run name options) listed image asks is text n a = absurd a
+image_cause files words (Exec name options) listed image asks is text n a = exec_cause files words name options listed image (record { spelled = asks.spelled; there = asks.there }) is a
+
+source_cause : (files : Files) (words : List (List ℕ)) (request : Request) (src : List ℕ) → AsksAbout files words request src → is_of_source request ≡ true → {text : List ℕ} {n : ℕ} → SourceAnswer (AskedOfCore files request) src text n → Cause files words n
+source_cause files words request src asks of_source (refused fault r) = inl (refl, (request, src, fault, record { about = asks; of_source = of_source }, r))
+source_cause files words request src asks of_source (accepted c is a) = core_cause files words request src c asks is _ _ a
+
+-- a line of a listing is refused where the request is about a listing
+line_cause : (files : Files) (words : List (List ℕ)) (request : Request) (listed : List ℕ) (number : ℕ) → AsksAbout files words request listed → is_of_source request ≡ false → IsRefusedAt listed number → ListingFails files words
+line_cause files words (requests.Check name) listed number asks of_listing r = absurd (cc)
+line_cause files words (requests.Split name) listed number asks of_listing r = absurd (cc)
+line_cause files words (Run name options) listed number asks of_listing r = absurd (cc)
+line_cause files words (Exec name options) listed number asks of_listing r = inl (name, options, listed, number, record { spelled = asks.spelled; there = asks.there }, r)
+
+listing_cause : (files : Files) (words : List (List ℕ)) (request : Request) (listed : List ℕ) → AsksAbout files words request listed → is_of_source request ≡ false → {text : List ℕ} {n : ℕ} → ListingAnswer (AskedOfImage files request) listed text n → Cause files words n
+listing_cause files words request listed asks of_listing (refused_at number r) = inr (inr (inr (inl (refl, line_cause files words request listed number asks of_listing r))))
+listing_cause files words request listed asks of_listing (spells image is a) = image_cause files words request listed image asks is _ _ a
+
+bytes_cause : (files : Files) (words : List (List ℕ)) (request : Request) (bytes : List ℕ) → AsksAbout files words request bytes → (b : Bool) → is_of_source request ≡ b → (text : List ℕ) (n : ℕ) → BytesAnswer files request b bytes text n → Cause files words n
+bytes_cause files words request bytes asks true e text n a = source_cause files words request bytes asks e a
+bytes_cause files words request bytes asks false e text n a = listing_cause files words request bytes asks e a
 
 file_cause : (files : Files) (words : List (List ℕ)) (request : Request) → request_of words ≡ Some request → {text : List ℕ} {n : ℕ} → RequestAnswer files request text n → Cause files words n
 file_cause files words request e (missing none) = inr (inl (refl, inl (request, e, none)))
-file_cause files words request e (source src there a) = source_cause files words request src (record { spelled = e; there = there }) a
+file_cause files words request e (is_there bytes at a) = bytes_cause files words request bytes (record { spelled = e; there = at }) (is_of_source request) refl _ _ a
 
 cause : (files : Files) (words : List (List ℕ)) {text : List ℕ} {n : ℕ} → Answer files words text n → Cause files words n
 cause files words (answers.usage e) = inr (inr (inl (refl, e)))
@@ -127,22 +167,23 @@ line_from files words _ _ _ (stop code act) e r = absurd (omega arith)
 line_from files words _ _ _ (refusal needed ending) e r = (needed, ending, r)
 
 -- a status that only runs have comes with a run
-of_run : (files : Files) (words : List (List ℕ)) (n : ℕ) (P : Type 0) → (n ≡ 1 → ⊥) → (n ≡ 2 → ⊥) → (n ≡ 3 → ⊥) → (n ≡ 0 → SourceIsChecked files words ⊎ CodeIsListed files words → P) → ((needed : Option RefusedLine) (ending : Ending) → StatusOf n needed ending → RunEndsWith files words needed ending → P) → (text : List ℕ) → Answer files words text n → P
-of_run files words n P one two three done take_run text a = by (cause files words a)
+of_run : (files : Files) (words : List (List ℕ)) (n : ℕ) (P : Type 0) → (n ≡ 1 → ⊥) → (n ≡ 2 → ⊥) → (n ≡ 3 → ⊥) → (n ≡ 11 → ⊥) → (n ≡ 0 → SourceIsChecked files words ⊎ CodeIsListed files words → P) → ((needed : Option RefusedLine) (ending : Ending) → StatusOf n needed ending → RunEndsWith files words needed ending → P) → (text : List ℕ) → Answer files words text n → P
+of_run files words n P one two three eleven done take_run text a = by (cause files words a)
   where
     by : Cause files words n → P
     by (inl x) = absurd (one x.0)
     by (inr (inl x)) = absurd (three x.0)
     by (inr (inr (inl x))) = absurd (two x.0)
-    by (inr (inr (inr (inl x)))) = done x.0 x.1
-    by (inr (inr (inr (inr x)))) = take_run x.0 x.1 (subst (λ m. StatusOf m x.0 x.1) (sym x.2) (status_of_run x.0 x.1)) x.3
+    by (inr (inr (inr (inl x)))) = absurd (eleven x.0)
+    by (inr (inr (inr (inr (inl x))))) = done x.0 x.1
+    by (inr (inr (inr (inr (inr x))))) = take_run x.0 x.1 (subst (λ m. StatusOf m x.0 x.1) (sym x.2) (status_of_run x.0 x.1)) x.3
 
--- no run has the status 1 or 3
-no_run : (n : ℕ) (needed : Option RefusedLine) (ending : Ending) → StatusOf n needed ending → (n ≢ 1) × (n ≢ 3)
-no_run _ _ _ (exit value) = (λ e. omega arith, λ e. omega arith)
-no_run _ _ _ (check code place) = (λ e. omega arith, λ e. omega arith)
-no_run _ _ _ (stop code act) = (λ e. omega arith, λ e. omega arith)
-no_run _ _ _ (refusal needed ending) = (λ e. omega arith, λ e. omega arith)
+-- no run has the status 1, 3 or 11
+no_run : (n : ℕ) (needed : Option RefusedLine) (ending : Ending) → StatusOf n needed ending → (n ≢ 1) × (n ≢ 3) × (n ≢ 11)
+no_run _ _ _ (exit value) = (λ e. omega arith, λ e. omega arith, λ e. omega arith)
+no_run _ _ _ (check code place) = (λ e. omega arith, λ e. omega arith, λ e. omega arith)
+no_run _ _ _ (stop code act) = (λ e. omega arith, λ e. omega arith, λ e. omega arith)
+no_run _ _ _ (refusal needed ending) = (λ e. omega arith, λ e. omega arith, λ e. omega arith)
 
 refused_from : (files : Files) (words : List (List ℕ)) (text : List ℕ) → Answer files words text 1 → SourceIsRefused files words
 refused_from files words text a = by (cause files words a)
@@ -152,7 +193,8 @@ refused_from files words text a = by (cause files words a)
     by (inr (inl x)) = absurd (omega (arith, x.0))
     by (inr (inr (inl x))) = absurd (omega (arith, x.0))
     by (inr (inr (inr (inl x)))) = absurd (omega (arith, x.0))
-    by (inr (inr (inr (inr x)))) = absurd ((no_run (status_with x.0 x.1) x.0 x.1 (status_of_run x.0 x.1)).0 (sym x.2))
+    by (inr (inr (inr (inr (inl x))))) = absurd (omega (arith, x.0))
+    by (inr (inr (inr (inr (inr x))))) = absurd ((no_run (status_with x.0 x.1) x.0 x.1 (status_of_run x.0 x.1)).0 (sym x.2))
 
 missing_from : (files : Files) (words : List (List ℕ)) (text : List ℕ) → Answer files words text 3 → FileIsMissing files words
 missing_from files words text a = by (cause files words a)
@@ -162,7 +204,19 @@ missing_from files words text a = by (cause files words a)
     by (inr (inl x)) = x.1
     by (inr (inr (inl x))) = absurd (omega (arith, x.0))
     by (inr (inr (inr (inl x)))) = absurd (omega (arith, x.0))
-    by (inr (inr (inr (inr x)))) = absurd ((no_run (status_with x.0 x.1) x.0 x.1 (status_of_run x.0 x.1)).1 (sym x.2))
+    by (inr (inr (inr (inr (inl x))))) = absurd (omega (arith, x.0))
+    by (inr (inr (inr (inr (inr x))))) = absurd ((no_run (status_with x.0 x.1) x.0 x.1 (status_of_run x.0 x.1)).1 (sym x.2))
+
+listing_from : (files : Files) (words : List (List ℕ)) (text : List ℕ) → Answer files words text 11 → ListingFails files words
+listing_from files words text a = by (cause files words a)
+  where
+    by : Cause files words 11 → ListingFails files words
+    by (inl x) = absurd (omega (arith, x.0))
+    by (inr (inl x)) = absurd (omega (arith, x.0))
+    by (inr (inr (inl x))) = absurd (omega (arith, x.0))
+    by (inr (inr (inr (inl x)))) = x.1
+    by (inr (inr (inr (inr (inl x))))) = absurd (omega (arith, x.0))
+    by (inr (inr (inr (inr (inr x))))) = absurd ((no_run (status_with x.0 x.1) x.0 x.1 (status_of_run x.0 x.1)).2 (sym x.2))
 
 -- ---- the end of a call
 
@@ -256,7 +310,20 @@ module _ (words : List (List ℕ)) (told : Option Files) (old new : Option (List
           audited = e.3;
           view = view_over files words options list c e.0 e.1 a e.2;
           view_before = view_before_over files words options list c e.0 e.1 a e.2;
-          printed = is_given result (settled result h) (run_answer files words options list c e.0 e.1 a e.2);
+          printed = is_given result (settled result h) (run_answer files words options list (Meant c) e.0 (e.1).world.events _ a (record { last = e.1; runs = e.2; events_are = refl; blocks_are = refl }));
+        }
+
+    pub printed_image_run : (result : ℕ) → CallEnds words told old new before after result → PrintedImageRun files words old new result
+    printed_image_run result h options list image a =
+        let e = image_ends_over files words options list image a in
+        let run : CodeRun image (settings_of options) (inputs_of options) list.acts e.ending e.last = (e.steps, e.ends) in
+        record {
+          ending = e.ending;
+          last = e.last;
+          runs = run;
+          view = image_view_over files words options list image a e.ending e.last run;
+          view_before = image_view_before_over files words options list image a e.ending e.last run;
+          printed = is_given result (settled result h) (run_answer files words options list (Coded image) e.ending (e.last).world.events _ a (record { last = e.last; runs = run; events_are = refl; blocks_are = refl }));
         }
 
     -- a failure is one of memory, where no device fails
@@ -336,7 +403,7 @@ module _ (words : List (List ℕ)) (told : Option Files) (old new : Option (List
     -- the Answer of a run with this line needed and this ending
     run_ended : (needed : Option RefusedLine) (ending : Ending) (n : ℕ) → status_with needed ending ≡ n → RunEndsWith files words needed ending → (text : List ℕ) × Answer files words text n
     run_ended needed ending n e r =
-        (_, subst (λ m. Answer files words (text_of (settings_of r.0) r.1 ending r.3) m) (ap (λ x. status_with x ending) r.6 ∙ e) (run_answer files words r.0 r.1 r.2 ending r.3 r.4 r.5))
+        (_, subst (λ m. Answer files words (text_with (settings_of r.0) (needed_line r.1 r.3) r.3 ending r.4) m) (ap (λ x. status_with x ending) r.7 ∙ e) (run_answer files words r.0 r.1 r.2 ending r.3 r.4 r.5 r.6))
 
     safe : (n : ℕ) → n ≢ 4 → n ≢ 5 → n ≢ 9 → IsFailure n → ⊥
     safe n a b c (inl e) = a e
@@ -351,31 +418,36 @@ module _ (words : List (List ℕ)) (told : Option Files) (old new : Option (List
     pub succeeds : (result : ℕ) → CallEnds words told old new before after result → Exactly 0 result (Succeeds files words)
     succeeds result h =
         exactly 0 result (Succeeds files words) h (safe 0 (omega arith) (omega arith) (omega arith))
-        (of_run files words 0 (Succeeds files words) (omega arith) (omega arith) (omega arith) (λ zero d. inr d) (λ needed ending status r. inl (exit_from files words 0 needed ending status refl r)))
+        (of_run files words 0 (Succeeds files words) (omega arith) (omega arith) (omega arith) (omega arith) (λ zero d. inr d) (λ needed ending status r. inl (exit_from files words 0 needed ending status refl r)))
         success_answer
 
     pub checks : (result : ℕ) → CallEnds words told old new before after result → Exactly 6 result (CheckFails files words)
     checks result h =
         exactly 6 result (CheckFails files words) h (safe 6 (omega arith) (omega arith) (omega arith))
-        (of_run files words 6 (CheckFails files words) (omega arith) (omega arith) (omega arith) (λ zero d. absurd (omega arith)) (λ needed ending status r. check_from files words 6 needed ending status refl r))
+        (of_run files words 6 (CheckFails files words) (omega arith) (omega arith) (omega arith) (omega arith) (λ zero d. absurd (omega arith)) (λ needed ending status r. check_from files words 6 needed ending status refl r))
         (λ p. run_ended None (Check p.0 p.1) 6 refl p.2)
 
     pub stops : (result : ℕ) → CallEnds words told old new before after result → Exactly 7 result (RunStops files words)
     stops result h =
         exactly 7 result (RunStops files words) h (safe 7 (omega arith) (omega arith) (omega arith))
-        (of_run files words 7 (RunStops files words) (omega arith) (omega arith) (omega arith) (λ zero d. absurd (omega arith)) (λ needed ending status r. stop_from files words 7 needed ending status refl r))
+        (of_run files words 7 (RunStops files words) (omega arith) (omega arith) (omega arith) (omega arith) (λ zero d. absurd (omega arith)) (λ needed ending status r. stop_from files words 7 needed ending status refl r))
         (λ p. run_ended None (Stop p.0 p.1) 7 refl p.2)
 
     pub acts_refused : (result : ℕ) → CallEnds words told old new before after result → Exactly 8 result (LineIsRefused files words)
     acts_refused result h =
         exactly 8 result (LineIsRefused files words) h (safe 8 (omega arith) (omega arith) (omega arith))
-        (of_run files words 8 (LineIsRefused files words) (omega arith) (omega arith) (omega arith) (λ zero d. absurd (omega arith)) (λ needed ending status r. line_from files words 8 needed ending status refl r))
+        (of_run files words 8 (LineIsRefused files words) (omega arith) (omega arith) (omega arith) (omega arith) (λ zero d. absurd (omega arith)) (λ needed ending status r. line_from files words 8 needed ending status refl r))
         (λ p. run_ended (Some p.0) p.1 8 refl p.2)
 
     pub refuses : (result : ℕ) → CallEnds words told old new before after result → Exactly 1 result (SourceIsRefused files words)
     refuses result h =
         exactly 1 result (SourceIsRefused files words) h (safe 1 (omega arith) (omega arith) (omega arith))
         (refused_from files words) (λ p. refused_answer files words p.0 p.1 p.2 p.3 p.4)
+
+    pub listing_fails : (result : ℕ) → CallEnds words told old new before after result → Exactly 11 result (ListingFails files words)
+    listing_fails result h =
+        exactly 11 result (ListingFails files words) h (safe 11 (omega arith) (omega arith) (omega arith))
+        (listing_from files words) (listing_answer files words)
 
     pub misses : (result : ℕ) → CallEnds words told old new before after result → Exactly 3 result (FileIsMissing files words)
     misses result h =

@@ -1,6 +1,6 @@
 -- How the parts of a call give their answers.
 use Rattle.std.proofs.Common.{◌≡◌, ℕ, ℤ, ◌+◌, ◌<◌, ◌≤◌, nat_lt, Bool, true, false, inl, inr, List, ◌++◌, length, take, Option, Some, None, refl, sym, ap, ◌∙◌, subst, arith, length-append, [], ◌∷◌}
-use Rattle.std.specs.Prelude.{All, IsTrue, Result, Ok, Err, codes, decimal}
+use Rattle.std.specs.Prelude.{IsTrue, Result, Ok, Err, codes, decimal}
 use Rattle.ckc_text.specs.Texts.{number_of, name_of}
 use Rattle.std.proofs.lemmas.Bool.{ltb-true, ltb-false}
 use Rattle.std.proofs.lemmas.List.{take-append-le, take_all, length-take}
@@ -17,13 +17,11 @@ use Rattle.ckc_io.proofs.Fronts.{grown-grown}
 use Rattle.act_words.specs.declared.ending.Ending.{Ending}
 use Rattle.act_words.specs.declared.ending.Ending.TheVariants.{Exit, Check, Stop}
 use Rattle.act_words.specs.declared.settings.Settings.{Settings}
-use Rattle.act_words.specs.Acts.{IsAct}
-use Rattle.act_words.specs.Checks.{is_word_number}
-use Rattle.act_words.specs.Limits.{AreAllowed}
 use Rattle.ckc_core.specs.declared.program as code
 use Rattle.ckc_core.specs.Core.{Core, core}
 use Rattle.sandbox_actor.specs.ActLists.{ActList}
-use Rattle.code_words.specs.declared.image.Image.{Image}
+use Rattle.code_words.specs.Images.{Image}
+use Rattle.code_words.specs.Paced.{is_paced}
 use Rattle.lowering_code.specs.Correct.{KeepsMeaning}
 use Rattle.run_core_transcript.specs.declared.fault.RunFault.{RunFault}
 use Rattle.run_core_transcript.specs.declared.fault.RunFault.TheVariants as faults
@@ -32,16 +30,20 @@ use Rattle.act_recorder.specs.Diagnostics.{refused_text, act_refused_text}
 use Rattle.ccbox_call_words.specs.Statuses.{status_of}
 use Rattle.ccbox_call_words.specs.Given.{all, failed, LineGiven, given, unmade, OutcomeGiven}
 use Rattle.ccbox_call_words.specs.declared.status.Status.{Status}
-use Rattle.ccbox_call_words.specs.Requests.{Request, Options, file_of, settings_of, inputs_of}
+use Rattle.ccbox_call_words.specs.Requests.{Request, Options, file_of, is_of_source, settings_of, inputs_of}
 use Rattle.ccbox_call_words.specs.Requests as requests
 use Rattle.check_insertion.specs.Insert.{inserted}
 use Rattle.lowering_code.specs.Images.{image_of}
 use Rattle.code_words_listing.specs.Listings.{InFormat}
 use Rattle.ccbox_call.specs.Acceptance.{Accepts, IsAcceptedCore, no_tokens}
-use Rattle.ccbox_call.specs.Answers.{acts_at, ListAnswer, CoreAnswer, acts, SourceAnswer, refused, accepted, missing, source, AskedOf, RequestAnswer}
-use Rattle.ccbox_call.specs.Calls.{IsFoundStatus, StatusCounts, Gives, answered, output_failed, files_failed, no_memory, no_memory_behind, RefusedAnswer, NoCoreAnswer, IsFileOf, IsInFormat, IsGiven, SourceRead, ProgramRead}
+use Rattle.ccbox_call.specs.Answers.{acts_at, ListAnswer, RunAnswer, acts_missing, acts, ExecAnswer, SourceAnswer, refused, accepted, refused_at, spells, missing, is_there, AskedOfCore, BytesAnswer, RequestAnswer}
+use Rattle.ccbox_call.specs.Calls.{IsFoundStatus, StatusCounts, Gives, answered, output_failed, files_failed, no_memory, no_memory_behind, RefusedAnswer, NoCoreAnswer, IsFileOf, NoImageAnswer, NoListingAnswer, IsListingOf, IsInFormat, IsGiven, MayRun, SourceRead, ProgramRead, ListingRead, ImageRead}
+use Rattle.ccbox_call.specs.Programs.{Program, Meant, Coded}
+use Rattle.ccbox_call.specs.ReadListings.{Spells}
 use Rattle.ccbox_call.proofs.Fronts.{one_core, core_or_fault, one_refusal}
-use Rattle.ccbox_call.proofs.ListRuns.{FromList, Answers, whole, front, answers}
+use Rattle.ccbox_call.proofs.ListRuns.{FromList, Answers, whole, front, answers, meant_answer}
+use Rattle.ccbox_call.proofs.ReadListings.{file_spells, file_refused}
+use Rattle.ccbox_call.proofs.Runs.{acts_there}
 
 -- an answer of one kind is an answer of another
 pub gives_as : {Is Is' : List ℕ → ℕ → Type 0} {old new : Option (List ℕ)} {before after : Counts} {result : ℕ} → ((text : List ℕ) (status : ℕ) → Is text status → Is' text status) → Gives Is old new before after result → Gives Is' old new before after result
@@ -75,20 +77,20 @@ found (Check code place) = inr (inr (inl refl))
 found (Stop code act) = inr (inr (inr (inl refl)))
 
 line_found : IsFoundStatus 8
-line_found = inr (inr (inr (inr refl)))
+line_found = inr (inr (inr (inr (inl refl))))
 
 unchanged : (ending : Ending) (before : Counts) → StatusCounts (status_of ending) before before
 unchanged ending before = (refl, inr (found ending, refl))
 
-module _ (c : Core) (image : Image) (settings : Settings) (inputs : List ℤ) (list : ActList) (is : IsAcceptedCore c) (keeps : KeepsMeaning (inserted c) image) (allowed : AreAllowed settings) (are_words : All (λ z. IsTrue (is_word_number z)) inputs) (are : All IsAct list.acts) where
+module _ (image : Image) (settings : Settings) (inputs : List ℤ) (list : ActList) (paced : IsTrue (is_paced image)) where
   abbrev IsAnswer : List ℕ → ℕ → Type 0
-  IsAnswer = ListAnswer c settings inputs list
+  IsAnswer = ListAnswer (Coded image) settings inputs list
 
-  answers_of : {files : Option Files} {last : ActList} {outcome : Outcome} {text : List ℕ} → Comes FromList files image settings inputs list last outcome text → Answers c image settings inputs list is keeps allowed are_words are text outcome
-  answers_of comes = answers c image settings inputs list is keeps allowed are_words are comes
+  answers_of : {files : Option Files} {last : ActList} {outcome : Outcome} {text : List ℕ} → Comes FromList files image settings inputs list last outcome text → Answers image settings inputs list paced text outcome
+  answers_of comes = answers image settings inputs list paced comes
 
   -- a run that ended
-  ended_gives : (text : List ℕ) (ending : Ending) (old new : Option (List ℕ)) (before : Counts) → Answers c image settings inputs list is keeps allowed are_words are text (Ends ending) → new ≡ grown old text → Gives IsAnswer old new before before (status_of ending)
+  ended_gives : (text : List ℕ) (ending : Ending) (old new : Option (List ℕ)) (before : Counts) → Answers image settings inputs list paced text (Ends ending) → new ≡ grown old text → Gives IsAnswer old new before before (status_of ending)
   ended_gives text _ old new before (whole ending a) written = answered text (status_of ending) a (unchanged ending before) written refl
 
   run_gives : {files : Option Files} {last : ActList} {old new : Option (List ℕ)} {before after : Counts} (ending : Ending) (status : ℕ) → WritesAll FromList files image settings inputs list last (Ends ending) old new → after ≡ before → status ≡ status_of ending → Gives IsAnswer old new before after status
@@ -108,7 +110,7 @@ module _ (c : Core) (image : Image) (settings : Settings) (inputs : List ℤ) (l
   refused_long : (line : ℕ) (code : Code) → 0 < length (act_refused_text line code)
   refused_long line code = ends_line (codes "[act line " ++ decimal line ++ codes " " ++ number_of code ++ codes " " ++ name_of code ++ codes "]")
 
-  refused_gives : (text : List ℕ) (line : ℕ) (code : Code) (old mid new : Option (List ℕ)) (m f k k' result : ℕ) → Answers c image settings inputs list is keeps allowed are_words are text (LineRefused line code) → mid ≡ grown old text → LineGiven (act_refused_text line code) 8 mid new k k' result →
+  refused_gives : (text : List ℕ) (line : ℕ) (code : Code) (old mid new : Option (List ℕ)) (m f k k' result : ℕ) → Answers image settings inputs list paced text (LineRefused line code) → mid ≡ grown old text → LineGiven (act_refused_text line code) 8 mid new k k' result →
       Gives IsAnswer old new (record { misses = m; faults = f; sink = k }) (record { misses = m; faults = f; sink = k' }) result
   refused_gives text _ _ old mid new m f k k' _ (front line code a) first (given (all second same)) =
       answered (text ++ act_refused_text line code) 8 a (refl, inr (line_found, refl)) (second ∙ ap (λ o. grown o (act_refused_text line code)) first ∙ grown-grown old text (act_refused_text line code)) same
@@ -127,10 +129,10 @@ module _ (c : Core) (image : Image) (settings : Settings) (inputs : List ℤ) (l
       rw (misses, faults) (refused_gives w.0 line code old mid new m f k k' result (answers_of w.1) w.2 (rw sink at made))
 
   -- a file of acts was read before the run
-  not_missing : {text : List ℕ} → Answers c image settings inputs list is keeps allowed are_words are text FileMissing → ⊥
+  not_missing : {text : List ℕ} → Answers image settings inputs list paced text FileMissing → ⊥
   not_missing a = by FileMissing a refl
     where
-      by : {text : List ℕ} (outcome : Outcome) → Answers c image settings inputs list is keeps allowed are_words are text outcome → outcome ≡ FileMissing → ⊥
+      by : {text : List ℕ} (outcome : Outcome) → Answers image settings inputs list paced text outcome → outcome ≡ FileMissing → ⊥
       by _ (whole ending a) e = cc
       by _ (front line code a) e = cc
 
@@ -138,7 +140,7 @@ module _ (c : Core) (image : Image) (settings : Settings) (inputs : List ℤ) (l
   never_missing old new w = not_missing (answers_of w.1)
 
   -- a front of a run's text
-  fronted : (text : List ℕ) (outcome : Outcome) (n : ℕ) (old new : Option (List ℕ)) (before after : Counts) → Answers c image settings inputs list is keeps allowed are_words are text outcome → n ≤ length text → new ≡ grown old (take n text) → before.misses ≤ after.misses → after.faults ≡ before.faults → Rises before.sink after.sink → Gives IsAnswer old new before after 5
+  fronted : (text : List ℕ) (outcome : Outcome) (n : ℕ) (old new : Option (List ℕ)) (before after : Counts) → Answers image settings inputs list paced text outcome → n ≤ length text → new ≡ grown old (take n text) → before.misses ≤ after.misses → after.faults ≡ before.faults → Rises before.sink after.sink → Gives IsAnswer old new before after 5
   fronted text _ n old new before after (whole ending a) le part misses faults rises = output_failed text (status_of ending) n a misses faults le part rises
   fronted text _ n old new before after (front line code a) le part misses faults rises =
       output_failed (text ++ act_refused_text line code) 8 n a misses faults (omega (arith, length-append text (act_refused_text line code), le)) (part ∙ ap (grown old) (sym (take-append-le n text (act_refused_text line code) le))) rises
@@ -158,9 +160,15 @@ module _ (c : Core) (image : Image) (settings : Settings) (inputs : List ℤ) (l
 
 -- ---- from lists to files
 
--- an answer of a list is one of a core, where the options ask for that list
-pub list_core : (told : Option Files) (options : Options) (c : Core) (settings : Settings) (inputs : List ℤ) (list : ActList) → settings ≡ settings_of options → inputs ≡ inputs_of options → ((files : Files) → told ≡ Some files → acts_at files options.acts ≡ Some list) → (text : List ℕ) (status : ℕ) → ListAnswer c settings inputs list text status → Told told (λ files. CoreAnswer files options c text status)
-list_core told options c settings inputs list same same_inputs there text status a = λ files is. acts list (there files is) (subst (λ xs. ListAnswer c (settings_of options) xs list text status) same_inputs (subst (λ s. ListAnswer c s inputs list text status) same a))
+-- an answer of a list is one of a run, where the options ask for that list
+pub list_run : (told : Option Files) (options : Options) (program : Program) (settings : Settings) (inputs : List ℤ) (list : ActList) → settings ≡ settings_of options → inputs ≡ inputs_of options → ((files : Files) → told ≡ Some files → acts_at files options.acts ≡ Some list) → (text : List ℕ) (status : ℕ) → ListAnswer program settings inputs list text status → Told told (λ files. RunAnswer files options program text status)
+list_run told options program settings inputs list same same_inputs there text status a = λ files is. acts list (there files is) (subst (λ xs. ListAnswer program (settings_of options) xs list text status) same_inputs (subst (λ s. ListAnswer program s inputs list text status) same a))
+
+-- an answer of a program's code is one of the program
+pub code_run : (files : Files) (options : Options) (c : Core) (image : Image) → IsAcceptedCore c → KeepsMeaning (inserted c) image → MayRun options → {text : List ℕ} {status : ℕ} → RunAnswer files options (Coded image) text status → RunAnswer files options (Meant c) text status
+code_run files options c image is keeps may (acts_missing name e none) = acts_missing name e none
+code_run files options c image is keeps may (acts list at a) =
+    acts list at (meant_answer c image (settings_of options) (inputs_of options) list is keeps may.settings may.inputs (acts_there files options.acts list at) a)
 
 -- ---- a file is read up to one byte more than a source may have
 
@@ -207,7 +215,26 @@ file_read told name src read old new m m' f f' k k' same_misses same_faults is c
     (gives_as (λ text n a files tells. let x = content files tells in in_file files name x.0 x.1 (whole_file x.0 (subst (λ s. RefusedAnswer s text n) (is ∙ x.2) a))) (h m f))
   where
     in_file : (files : Files) (name file : List ℕ) → file_at files name ≡ Some file → {text : List ℕ} {n : ℕ} → RefusedAnswer file text n → NoCoreAnswer files name text n
-    in_file files name file there a = source file there a
+    in_file files name file at a = is_there file at a
+
+-- the same of a listing
+no_image_whole : (file : List ℕ) {text : List ℕ} {status : ℕ} → NoImageAnswer (take 16777217 file) text status → NoImageAnswer file text status
+no_image_whole file (refused_at number r) = refused_at number (file_refused file number r)
+no_image_whole file (spells image a x) = absurd x
+
+abbrev IsListingRead : Option Files → List ℕ → List ℕ → Type 0
+IsListingRead told name listed = Told told (λ files. (file : List ℕ) × (file_at files name ≡ Some file) × (listed ≡ take 16777217 file))
+
+pub listing_read : (told : Option Files) (name listed read : List ℕ) (old new : Option (List ℕ)) (m m' f f' k k' : ℕ) → m' ≡ m → f' ≡ f → listed ≡ read → IsListingRead told name read → (result : Result Image Status) → ListingRead listed old new k k' result →
+    ImageRead told name old new (record { misses = m; faults = f; sink = k }) (record { misses = m'; faults = f'; sink = k' }) result
+listing_read told name listed read old new m m' f f' k k' same_misses same_faults is content (Ok image) h =
+    ((h.0).paced, λ files tells. let x = content files tells in (x.0, x.1, file_spells x.0 image (subst (λ s. Spells s image) (is ∙ x.2) h.0)), h.1, rw (same_misses, same_faults, h.2) refl)
+listing_read told name listed read old new m m' f f' k k' same_misses same_faults is content (Err status) h =
+    rw (same_misses, same_faults)
+    (gives_as (λ text n a files tells. let x = content files tells in in_file files name x.0 x.1 (no_image_whole x.0 (subst (λ s. NoImageAnswer s text n) (is ∙ x.2) a))) (h m f))
+  where
+    in_file : (files : Files) (name file : List ℕ) → file_at files name ≡ Some file → {text : List ℕ} {n : ℕ} → NoImageAnswer file text n → NoListingAnswer files name text n
+    in_file files name file at a = is_there file at a
 
 -- ---- from a core to what is asked about its file
 
@@ -216,9 +243,9 @@ refused_alone : (src : List ℕ) (Of : Core → List ℕ → ℕ → Type 0) {te
 refused_alone src Of (refused fault r) = refused fault r
 refused_alone src Of (accepted c a x) = absurd x
 
-without_core : (files : Files) (request : Request) {text : List ℕ} {n : ℕ} → NoCoreAnswer files (file_of request) text n → RequestAnswer files request text n
-without_core files request (missing none) = missing none
-without_core files request (source src there a) = source src there (refused_alone src (AskedOf files request) a)
+without_core : (files : Files) (request : Request) → is_of_source request ≡ true → {text : List ℕ} {n : ℕ} → NoCoreAnswer files (file_of request) text n → RequestAnswer files request text n
+without_core files request of_source (missing none) = missing none
+without_core files request of_source {text} {n} (is_there src at a) = is_there src at (subst (λ b. BytesAnswer files request b src text n) (sym of_source) (refused_alone src (AskedOfCore files request) a))
 
 refused_core : (src : List ℕ) (c : Core) {text : List ℕ} {n : ℕ} → RefusedAnswer src text n → Accepts src c → ⊥
 refused_core src c (refused fault r) a = core_or_fault a r
@@ -226,8 +253,8 @@ refused_core src c (accepted d b x) a = absurd x
 
 no_core_there : (files : Files) (name : List ℕ) (c : Core) {text : List ℕ} {n : ℕ} → NoCoreAnswer files name text n → IsFileOf files name c → ⊥
 no_core_there files name c (missing none) f = let e : None ≡ Some f.0 = sym none ∙ f.1 in cc
-no_core_there files name c {text} {n} (source src there a) f =
-    let same : src ≡ f.0 = some_same (sym there ∙ f.1) in
+no_core_there files name c {text} {n} (is_there src at a) f =
+    let same : src ≡ f.0 = some_same (sym at ∙ f.1) in
     refused_core f.0 c (subst (λ (s : List ℕ). RefusedAnswer s text n) same a) f.2
   where
     some_same : {x y : List ℕ} → Some x ≡ Some y → x ≡ y
@@ -237,9 +264,10 @@ no_code : (files : Files) (request : Request) {text : List ℕ} {n : ℕ} → No
 no_code files (requests.Check name) a = tt
 no_code files (requests.Split name) a = λ c f. absurd (no_core_there files name c a f)
 no_code files (requests.Run name options) a = tt
+no_code files (requests.Exec name options) a = tt
 
-pub no_core_gives : (told : Option Files) (request : Request) {old new : Option (List ℕ)} {before after : Counts} {result : ℕ} → Gives (λ text n. Told told (λ files. NoCoreAnswer files (file_of request) text n)) old new before after result → Gives (IsGiven told request) old new before after result
-no_core_gives told request h = gives_as (λ text n a files tells. (without_core files request (a files tells), no_code files request (a files tells))) h
+pub no_core_gives : (told : Option Files) (request : Request) → is_of_source request ≡ true → {old new : Option (List ℕ)} {before after : Counts} {result : ℕ} → Gives (λ text n. Told told (λ files. NoCoreAnswer files (file_of request) text n)) old new before after result → Gives (IsGiven told request) old new before after result
+no_core_gives told request of_source h = gives_as (λ text n a files tells. (without_core files request of_source (a files tells), no_code files request (a files tells))) h
 
 -- a core's code is in the format, and so is that of each core of the same file
 pub same_code : (files : Files) (name : List ℕ) (c : Core) → IsFileOf files name c → InFormat (image_of (inserted c)) → IsInFormat files (requests.Split name)
@@ -251,10 +279,28 @@ same_code files name c f is d g =
     some_same e = cc
 
 -- what is given of a core behind the reading of its file is given of the file
-pub gives_behind : (told : Option Files) (request : Request) (c : Core) {Is : List ℕ → ℕ → Type 0} {old mid new : Option (List ℕ)} {before between after : Counts} {result : ℕ} → Told told (λ files. IsFileOf files (file_of request) c) → mid ≡ old → between ≡ before →
-    ((text : List ℕ) (n : ℕ) → Is text n → Told told (λ files. AskedOf files request c text n × IsInFormat files request)) → Gives Is mid new between after result → Gives (IsGiven told request) old new before after result
-gives_behind told request c {Is} {old} {mid} {new} {before} {between} {after} {result} there same still turn h =
-    gives_as (λ text n a files tells. let f = there files tells in let b = turn text n a files tells in (source f.0 f.1 (accepted c f.2 b.0), b.1))
+pub gives_behind : (told : Option Files) (request : Request) (c : Core) → is_of_source request ≡ true → {Is : List ℕ → ℕ → Type 0} {old mid new : Option (List ℕ)} {before between after : Counts} {result : ℕ} → Told told (λ files. IsFileOf files (file_of request) c) → mid ≡ old → between ≡ before →
+    ((text : List ℕ) (n : ℕ) → Is text n → Told told (λ files. AskedOfCore files request c text n × IsInFormat files request)) → Gives Is mid new between after result → Gives (IsGiven told request) old new before after result
+gives_behind told request c of_source {Is} {old} {mid} {new} {before} {between} {after} {result} found same still turn h =
+    gives_as (λ text n a files tells. let f = found files tells in let b = turn text n a files tells in (is_there f.0 f.1 (subst (λ s. BytesAnswer files request s f.0 text n) (sym of_source) (accepted c f.2 b.0)), b.1))
+    (gives_from still (subst (λ o. Gives Is o new between after result) same h))
+
+-- the same of a listing: what is given without an image, and what is given of its image
+pub no_image_gives : (told : Option Files) (name : List ℕ) (options : Options) {old new : Option (List ℕ)} {before after : Counts} {result : ℕ} → Gives (λ text n. Told told (λ files. NoListingAnswer files name text n)) old new before after result → Gives (IsGiven told (requests.Exec name options)) old new before after result
+no_image_gives told name options h = gives_as (λ text n a files tells. (by files (a files tells), tt)) h
+  where
+    by_bytes : (files : Files) (listed : List ℕ) {text : List ℕ} {n : ℕ} → NoImageAnswer listed text n → BytesAnswer files (requests.Exec name options) false listed text n
+    by_bytes files listed (refused_at number r) = refused_at number r
+    by_bytes files listed (spells image a x) = absurd x
+
+    by : (files : Files) {text : List ℕ} {n : ℕ} → NoListingAnswer files name text n → RequestAnswer files (requests.Exec name options) text n
+    by files (missing none) = missing none
+    by files (is_there listed at a) = is_there listed at (by_bytes files listed a)
+
+pub image_gives : (told : Option Files) (name : List ℕ) (options : Options) (image : Image) {Is : List ℕ → ℕ → Type 0} {old mid new : Option (List ℕ)} {before between after : Counts} {result : ℕ} → Told told (λ files. IsListingOf files name image) → mid ≡ old → between ≡ before →
+    ((text : List ℕ) (n : ℕ) → Is text n → Told told (λ files. ExecAnswer files options image text n)) → Gives Is mid new between after result → Gives (IsGiven told (requests.Exec name options)) old new before after result
+image_gives told name options image {Is} {old} {mid} {new} {before} {between} {after} {result} found same still turn h =
+    gives_as (λ text n a files tells. let f = found files tells in (is_there f.0 f.1 (spells image f.2 (turn text n a files tells)), tt))
     (gives_from still (subst (λ o. Gives Is o new between after result) same h))
 
 -- a text that is an answer with the status 0

@@ -2,11 +2,15 @@ pub mod Fronts
 pub mod OneAnswer
 pub mod Sized
 pub mod Lowering
+pub mod CodeEnds
+pub mod ReadListings
+pub mod Fitting
 pub mod Runs
 pub mod Formats
 pub mod PrintedCode
 pub mod ListRuns
 pub mod Giving
+pub mod CodeAnswers
 pub mod Calls
 pub mod SomeAnswer
 pub mod Processes

@@ -1,37 +1,74 @@
 -- Words have one Answer.
-use Rattle.std.proofs.Common.{◌≡◌, ℕ, ℤ, List, Option, Some, None, option_map, refl, sym, ap, ◌∙◌, subst}
+use Rattle.std.proofs.Common.{◌≡◌, ℕ, ℤ, Bool, true, false, List, Option, Some, None, option_map, refl, sym, ap, ◌∙◌, subst}
 use Rattle.ckc_text.specs.declared.fault.SourceFault.{SourceFault}
 use Rattle.ckc_text.specs.Places.{place_at}
 use Rattle.ckc_io.specs.Files.{Files, file_at}
 use Rattle.act_words.specs.declared.ending.Ending.{Ending}
 use Rattle.act_words.specs.declared.settings.Settings.{Settings}
+use Rattle.act_words.specs.Acts.{Act}
+use Rattle.act_words.specs.Shown.{Shown}
+use Rattle.act_words.specs.World.{Event}
 use Rattle.ckc_core.specs.Outcome.{Outcome, Ends}
 use Rattle.ckc_core.specs.Core.{Core}
 use Rattle.ckc_core.specs.States.{State}
+use Rattle.code_words.specs.Dumps.{blocks_held}
+use Rattle.code_words.specs.Images.{Image}
+use Rattle.code_words.specs.Runs.{started}
+use Rattle.code_words.specs.Table as machine
+use Rattle.code_words.proofs.Runs.{one_end, same_ending, same_last}
+use Rattle.lowering_code.specs.Correct.{blocks_meant}
 use Rattle.sandbox_actor.specs.ActLists.{ActList, acts_of_file}
-use Rattle.ccbox_call_words.specs.Requests.{Request, Run, Options, file_of, settings_of, inputs_of}
+use Rattle.ccbox_call_words.specs.Requests.{Request, Run, Options, file_of, is_of_source, settings_of, inputs_of}
 use Rattle.ccbox_call_words.specs.Requests as requests
-use Rattle.act_recorder.specs.Diagnostics.{missing_text, refused_text}
-use Rattle.ccbox_call.specs.Answers.{acts_at, RunsTo, needed_line, text_of, status_with, ListAnswer, ran, CoreAnswer, acts_missing, acts, CheckAnswer, says_so, SplitAnswer, lists, SourceAnswer, refused, accepted, FileAnswer, missing, source, AskedOf, RequestAnswer, Answer, usage, asked}
+use Rattle.act_recorder.specs.Diagnostics.{missing_text, refused_text, listing_refused_text}
+use Rattle.ccbox_call.specs.Answers.{acts_at, needed_line, text_with, status_with, ListAnswer, ran, RunAnswer, acts_missing, acts, CheckAnswer, says_so, SplitAnswer, lists, ExecAnswer, unfit, fits, SourceAnswer, refused, accepted, ListingAnswer, refused_at, spells, FileAnswer, missing, is_there, AskedOfCore, AskedOfImage, BytesAnswer, RequestAnswer, Answer, usage, asked}
+use Rattle.ccbox_call.specs.Programs.{Program, Meant, Coded, MeantRun, ImageRun, Runs}
 use Rattle.ccbox_call.proofs.Fronts.{one_core, core_or_fault, one_refusal}
+use Rattle.ccbox_call.proofs.ReadListings.{one_image, image_or_line, one_line}
 
 -- two texts and statuses that are the same
 pub record Same (t u : List ℕ) (m n : ℕ) : Type 0 where
   pub text : t ≡ u
   pub status : m ≡ n
 
--- a run ends in one way
-one_end : (c : Core) (settings : Settings) (inputs : List ℤ) (list : ActList) (e f : Ending) (s t : State) → RunsTo c settings inputs list e s → RunsTo c settings inputs list f t → (e ≡ f) × (s ≡ t)
-one_end c settings inputs list e f s t x y =
-    let both : ◌≡◌ {A = Outcome State (Unit {0})} (Ends e s) (Ends f t) = sym x ∙ y in
-    (cc, cc)
+-- how a run ended, and what can be seen of it, that are the same
+record SameRun (e f : Ending) (xs ys : List Event) (bs cs : List Shown) : Type 0 where
+  ending : e ≡ f
+  events : xs ≡ ys
+  blocks : bs ≡ cs
 
-one_list : (c : Core) (settings : Settings) (inputs : List ℤ) (list : ActList) {t u : List ℕ} {m n : ℕ} → ListAnswer c settings inputs list t m → ListAnswer c settings inputs list u n → Same t u m n
-one_list c settings inputs list (ran e s x) (ran f t y) =
-    let end = one_end c settings inputs list e f s t x y in
+-- a run ends in one way
+one_meant : (c : Core) (settings : Settings) (inputs : List ℤ) (taken : List Act) (e f : Ending) (xs ys : List Event) (bs cs : List Shown) → MeantRun c settings inputs taken e xs bs → MeantRun c settings inputs taken f ys cs → SameRun e f xs ys bs cs
+one_meant c settings inputs taken e f xs ys bs cs x y =
+    let both : ◌≡◌ {A = Outcome State (Unit {0})} (Ends e x.last) (Ends f y.last) = sym x.runs ∙ y.runs in
+    let last : x.last ≡ y.last = cc in
     record {
-      text = ap (λ (z : State). text_of settings list e z) end.1 ∙ ap (λ (g : Ending). text_of settings list g t) end.0;
-      status = ap (λ (z : State). status_with (needed_line list z.world.events) e) end.1 ∙ ap (λ (g : Ending). status_with (needed_line list t.world.events) g) end.0;
+      ending = cc;
+      events = sym x.events_are ∙ ap (λ (z : State). z.world.events) last ∙ y.events_are;
+      blocks = sym x.blocks_are ∙ ap (λ (z : State). blocks_meant settings.base z) last ∙ y.blocks_are;
+    }
+
+one_coded : (image : Image) (settings : Settings) (inputs : List ℤ) (taken : List Act) (e f : Ending) (xs ys : List Event) (bs cs : List Shown) → ImageRun image settings inputs taken e xs bs → ImageRun image settings inputs taken f ys cs → SameRun e f xs ys bs cs
+one_coded image settings inputs taken e f xs ys bs cs x y =
+    let both = one_end image settings (x.runs).0 (y.runs).0 (started image settings inputs taken) e f x.last y.last (x.runs).1 (y.runs).1 in
+    let last = same_last e f x.last y.last both in
+    record {
+      ending = same_ending e f x.last y.last both;
+      events = sym x.events_are ∙ ap (λ (z : machine.State). z.world.events) last ∙ y.events_are;
+      blocks = sym x.blocks_are ∙ ap blocks_held last ∙ y.blocks_are;
+    }
+
+one_run : (program : Program) (settings : Settings) (inputs : List ℤ) (taken : List Act) (e f : Ending) (xs ys : List Event) (bs cs : List Shown) → Runs program settings inputs taken e xs bs → Runs program settings inputs taken f ys cs → SameRun e f xs ys bs cs
+one_run (Meant c) = one_meant c
+one_run (Coded image) = one_coded image
+
+one_list : (program : Program) (settings : Settings) (inputs : List ℤ) (list : ActList) {t u : List ℕ} {m n : ℕ} → ListAnswer program settings inputs list t m → ListAnswer program settings inputs list u n → Same t u m n
+one_list program settings inputs list (ran e xs bs x) (ran f ys cs y) =
+    let same = one_run program settings inputs list.acts e f xs ys bs cs x y in
+    record {
+      text = ap (λ (z : List Event). text_with settings (needed_line list z) z e bs) same.events ∙ ap (λ (z : List Shown). text_with settings (needed_line list ys) ys e z) same.blocks
+          ∙ ap (λ (g : Ending). text_with settings (needed_line list ys) ys g cs) same.ending;
+      status = ap (λ (z : List Event). status_with (needed_line list z) e) same.events ∙ ap (λ (g : Ending). status_with (needed_line list ys) g) same.ending;
     }
 
 -- acts whose file is missing aren't there
@@ -40,34 +77,41 @@ acts_there files o name list e none there =
     let wrong : None ≡ Some list = sym (ap (acts_at files) e ∙ ap (option_map acts_of_file) none) ∙ there in
     cc
 
-one_core_answer : (files : Files) (options : Options) (c : Core) {t u : List ℕ} {m n : ℕ} → CoreAnswer files options c t m → CoreAnswer files options c u n → Same t u m n
-one_core_answer files options c (acts_missing name e none) (acts_missing other f none') =
+one_run_answer : (files : Files) (options : Options) (program : Program) {t u : List ℕ} {m n : ℕ} → RunAnswer files options program t m → RunAnswer files options program u n → Same t u m n
+one_run_answer files options program (acts_missing name e none) (acts_missing other f none') =
     let same : name ≡ other = cc in
     record { text = ap missing_text same; status = refl }
-one_core_answer files options c (acts_missing name e none) (acts list there a) = absurd (acts_there files options.acts name list e none there)
-one_core_answer files options c (acts list there a) (acts_missing name e none) = absurd (acts_there files options.acts name list e none there)
-one_core_answer files options c {t} {u} {m} {n} (acts list there a) (acts other there' b) =
+one_run_answer files options program (acts_missing name e none) (acts list there a) = absurd (acts_there files options.acts name list e none there)
+one_run_answer files options program (acts list there a) (acts_missing name e none) = absurd (acts_there files options.acts name list e none there)
+one_run_answer files options program {t} {u} {m} {n} (acts list there a) (acts other there' b) =
     let same : other ≡ list = cc in
-    one_list c (settings_of options) (inputs_of options) list a (subst (λ l. ListAnswer c (settings_of options) (inputs_of options) l u n) same b)
+    one_list program (settings_of options) (inputs_of options) list a (subst (λ l. ListAnswer program (settings_of options) (inputs_of options) l u n) same b)
 
--- what is asked of a core has one answer
-abbrev HasOne : (Core → List ℕ → ℕ → Type 0) → Type 0
-HasOne Of = (c : Core) (t u : List ℕ) (m n : ℕ) → Of c t m → Of c u n → Same t u m n
+-- what is asked of a core, or of an image, has one answer
+abbrev HasOne : {P : Type 0} → (P → List ℕ → ℕ → Type 0) → Type 0
+HasOne {P} Of = (x : P) (t u : List ℕ) (m n : ℕ) → Of x t m → Of x u n → Same t u m n
 
-one_source_answer : (Of : Core → List ℕ → ℕ → Type 0) (one : HasOne Of) (src : List ℕ) {t u : List ℕ} {m n : ℕ} → SourceAnswer Of src t m → SourceAnswer Of src u n → Same t u m n
-one_source_answer Of one src (refused fault r) (refused other s) = record { text = ap (λ (f : SourceFault). refused_text f.code (place_at src f.span.from)) (one_refusal r s); status = refl }
-one_source_answer Of one src (refused fault r) (accepted c a x) = absurd (core_or_fault a r)
-one_source_answer Of one src (accepted c a x) (refused fault r) = absurd (core_or_fault a r)
-one_source_answer Of one src {t} {u} {m} {n} (accepted c a x) (accepted d b y) =
+one_source_answer : (Of : Core → List ℕ → ℕ → Type 0) (one : HasOne Of) (src t u : List ℕ) (m n : ℕ) → SourceAnswer Of src t m → SourceAnswer Of src u n → Same t u m n
+one_source_answer Of one src t u m n (refused fault r) (refused other s) = record { text = ap (λ (f : SourceFault). refused_text f.code (place_at src f.span.from)) (one_refusal r s); status = refl }
+one_source_answer Of one src t u m n (refused fault r) (accepted c a x) = absurd (core_or_fault a r)
+one_source_answer Of one src t u m n (accepted c a x) (refused fault r) = absurd (core_or_fault a r)
+one_source_answer Of one src t u m n (accepted c a x) (accepted d b y) =
     one c t u m n x (subst (λ z. Of z u n) (one_core src d c b a) y)
 
-one_file_answer : (files : Files) (Of : Core → List ℕ → ℕ → Type 0) (one : HasOne Of) (name : List ℕ) {t u : List ℕ} {m n : ℕ} → FileAnswer files Of name t m → FileAnswer files Of name u n → Same t u m n
+one_listing_answer : (Of : Image → List ℕ → ℕ → Type 0) (one : HasOne Of) (listed t u : List ℕ) (m n : ℕ) → ListingAnswer Of listed t m → ListingAnswer Of listed u n → Same t u m n
+one_listing_answer Of one listed t u m n (refused_at k r) (refused_at l s) = record { text = ap listing_refused_text (one_line listed k l r s); status = refl }
+one_listing_answer Of one listed t u m n (refused_at k r) (spells image a x) = absurd (image_or_line listed image k a r)
+one_listing_answer Of one listed t u m n (spells image a x) (refused_at k r) = absurd (image_or_line listed image k a r)
+one_listing_answer Of one listed t u m n (spells image a x) (spells other b y) =
+    one image t u m n x (subst (λ z. Of z u n) (one_image listed other image b a) y)
+
+one_file_answer : (files : Files) (Of : List ℕ → List ℕ → ℕ → Type 0) (one : HasOne Of) (name : List ℕ) {t u : List ℕ} {m n : ℕ} → FileAnswer files Of name t m → FileAnswer files Of name u n → Same t u m n
 one_file_answer files Of one name (missing none) (missing none') = record { text = refl; status = refl }
-one_file_answer files Of one name (missing none) (source src there x) = absurd (cc)
-one_file_answer files Of one name (source src there x) (missing none) = absurd (cc)
-one_file_answer files Of one name {t} {u} {m} {n} (source src there x) (source other there' y) =
+one_file_answer files Of one name (missing none) (is_there src at x) = absurd (cc)
+one_file_answer files Of one name (is_there src at x) (missing none) = absurd (cc)
+one_file_answer files Of one name {t} {u} {m} {n} (is_there src at x) (is_there other at' y) =
     let same : other ≡ src = cc in
-    one_source_answer Of one src x (subst (λ z. SourceAnswer Of z u n) same y)
+    one src t u m n x (subst (λ z. Of z u n) same y)
 
 one_check : {t u : List ℕ} {m n : ℕ} → CheckAnswer t m → CheckAnswer u n → Same t u m n
 one_check says_so says_so = record { text = refl; status = refl }
@@ -75,10 +119,27 @@ one_check says_so says_so = record { text = refl; status = refl }
 one_split : (c : Core) {t u : List ℕ} {m n : ℕ} → SplitAnswer c t m → SplitAnswer c u n → Same t u m n
 one_split c lists lists = record { text = refl; status = refl }
 
-one_asked : (files : Files) (request : Request) → HasOne (AskedOf files request)
-one_asked files (requests.Check name) c t u m n x y = one_check x y
-one_asked files (requests.Split name) c t u m n x y = one_split c x y
-one_asked files (Run name options) c t u m n x y = one_core_answer files options c x y
+one_exec : (files : Files) (options : Options) (image : Image) {t u : List ℕ} {m n : ℕ} → ExecAnswer files options image t m → ExecAnswer files options image u n → Same t u m n
+one_exec files options image (unfit misfit) (unfit misfit') = record { text = refl; status = refl }
+one_exec files options image (unfit misfit) (fits f x) = absurd (misfit f)
+one_exec files options image (fits f x) (unfit misfit) = absurd (misfit f)
+one_exec files options image (fits f x) (fits g y) = one_run_answer files options (Coded image) x y
+
+one_of_core : (files : Files) (request : Request) → HasOne (AskedOfCore files request)
+one_of_core files (requests.Check name) c t u m n x y = one_check x y
+one_of_core files (requests.Split name) c t u m n x y = one_split c x y
+one_of_core files (Run name options) c t u m n x y = one_run_answer files options (Meant c) x y
+one_of_core files (requests.Exec name options) c t u m n x y = absurd x
+
+one_of_image : (files : Files) (request : Request) → HasOne (AskedOfImage files request)
+one_of_image files (requests.Check name) image t u m n x y = absurd x
+one_of_image files (requests.Split name) image t u m n x y = absurd x
+one_of_image files (Run name options) image t u m n x y = absurd x
+one_of_image files (requests.Exec name options) image t u m n x y = one_exec files options image x y
+
+one_of_bytes : (files : Files) (request : Request) (b : Bool) → HasOne (BytesAnswer files request b)
+one_of_bytes files request true = one_source_answer (AskedOfCore files request) (one_of_core files request)
+one_of_bytes files request false = one_listing_answer (AskedOfImage files request) (one_of_image files request)
 
 pub one_answer : (files : Files) (words : List (List ℕ)) {t u : List ℕ} {m n : ℕ} → Answer files words t m → Answer files words u n → Same t u m n
 one_answer files words (usage e) (usage f) = record { text = refl; status = refl }
@@ -86,4 +147,4 @@ one_answer files words (usage e) (asked request f x) = absurd (cc)
 one_answer files words (asked request e x) (usage f) = absurd (cc)
 one_answer files words {t} {u} {m} {n} (asked request e x) (asked other f y) =
     let same : other ≡ request = cc in
-    one_file_answer files (AskedOf files request) (one_asked files request) (file_of request) x (subst (λ (r : Request). RequestAnswer files r u n) same y)
+    one_file_answer files (BytesAnswer files request (is_of_source request)) (one_of_bytes files request (is_of_source request)) (file_of request) x (subst (λ (r : Request). RequestAnswer files r u n) same y)

@@ -9,17 +9,18 @@ use Rattle.ccbox_call_words.specs.Given.{all, failed, LineGiven, given, unmade}
 use Rattle.ccbox_call.specs.Answers.{IsFailure, IsStatus, Exactly, Tells}
 use Rattle.ccbox_call.specs.Calls.{IsFoundStatus, StatusCounts, Gives, answered, output_failed, files_failed, no_memory, no_memory_behind, CallEnds, usage, asked}
 use Rattle.ccbox_call.specs.Process.{Answers, IsUnmade, ProcessEnds}
-use Rattle.ccbox_call.proofs.Calls.{cut_short, front, whole, printed_run, printed_accepted, printed_code, complete, succeeds, refuses, misses, checks, stops, acts_refused, untouched, usage_line}
+use Rattle.ccbox_call.proofs.Calls.{cut_short, front, whole, printed_run, printed_image_run, printed_accepted, printed_code, complete, succeeds, refuses, misses, checks, stops, acts_refused, listing_fails, untouched, usage_line}
 
 failure : (n : ℕ) → IsFailure n → IsStatus n
-failure n f = inr (inr (inr (inr (inr (inr (inr f))))))
+failure n f = inr (inr (inr (inr (inr (inr (inr (inr f)))))))
 
 found_status : (n : ℕ) → IsFoundStatus n → IsStatus n
 found_status n (inl e) = inl e
 found_status n (inr (inl e)) = inr (inl e)
 found_status n (inr (inr (inl e))) = inr (inr (inr (inr (inl e))))
 found_status n (inr (inr (inr (inl e)))) = inr (inr (inr (inr (inr (inl e)))))
-found_status n (inr (inr (inr (inr e)))) = inr (inr (inr (inr (inr (inr (inl e))))))
+found_status n (inr (inr (inr (inr (inl e))))) = inr (inr (inr (inr (inr (inr (inl e))))))
+found_status n (inr (inr (inr (inr (inr e))))) = inr (inr (inr (inr (inr (inr (inr (inl e)))))))
 
 module _ (words : List (List ℕ)) (told : Option Files) (old new : Option (List ℕ)) (before after : Counts) where
   -- the status behind the line of usage
@@ -118,6 +119,7 @@ module _ (words : List (List ℕ)) (told : Option Files) (old new : Option (List
         whole = λ files tells. whole words told old new before after files tells status h;
         cut_short = λ files tells. cut_short words told old new before after files tells status h;
         printed_run = λ files tells. printed_run words told old new before after files tells status h;
+        printed_image_run = λ files tells. printed_image_run words told old new before after files tells status h;
         accepted = λ files tells. printed_accepted words told old new before after files tells status h;
         printed_code = λ files tells. printed_code words told old new before after files tells status h;
         complete = λ files tells. complete words told old new before after files tells status h;
@@ -130,6 +132,7 @@ module _ (words : List (List ℕ)) (told : Option Files) (old new : Option (List
         checks = λ files tells. checks words told old new before after files tells status h;
         stops = λ files tells. stops words told old new before after files tells status h;
         acts_refused = λ files tells. acts_refused words told old new before after files tells status h;
+        listing_refused = λ files tells. listing_fails words told old new before after files tells status h;
         untouched = untouched words told old new before after status h;
         misses = tells_misses status h;
         shelf_faults = tells_faults status h;

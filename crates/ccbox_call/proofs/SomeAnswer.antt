@@ -1,5 +1,5 @@
 -- Words have an Answer over every map of files.
-use Rattle.std.proofs.Common.{◌≡◌, ℕ, Bool, true, false, List, length, Option, Some, None, Result, Ok, Err, refl, inl, inr, ⊎_elim}
+use Rattle.std.proofs.Common.{◌≡◌, ℕ, ◌⊎◌, Bool, true, false, List, length, Option, Some, None, option_map, Result, Ok, Err, refl, sym, ap, ◌∙◌, inl, inr, ⊎_elim}
 use Rattle.ckc_text.specs.declared.fault.SourceFault.{SourceFault}
 use Rattle.ckc_text.specs.Places.{place_at}
 use Rattle.ckc_text.specs.Refusals.{not_built as not_built_fault}
@@ -15,12 +15,23 @@ use Rattle.region_typing_rules.specs.Verdicts.{Verdict, Passes, Stops, Broken, N
 use Rattle.region_typing_rules.specs.Cores.{checked}
 use Rattle.region_typing_rules.proofs.NamedItems.{all_named}
 use Rattle.ckc_core.specs.Core.{Core}
-use Rattle.sandbox_actor.specs.ActLists.{ActList}
-use Rattle.ccbox_call_words.specs.Requests.{Request, Run, Options, file_of, request_of}
+use Rattle.act_words.specs.declared.ending.Ending.{Ending}
+use Rattle.act_words.specs.Shown.{Shown}
+use Rattle.act_words.specs.World.{Event}
+use Rattle.code_words.specs.Fitting.{Fits}
+use Rattle.code_words.specs.Images.{Image}
+use Rattle.code_words.specs.Runs.{started}
+use Rattle.sandbox_actor.specs.ActLists.{ActList, acts_of_file}
+use Rattle.ccbox_call_words.specs.Requests.{Request, Run, Options, file_of, is_of_source, settings_of, inputs_of, request_of}
 use Rattle.ccbox_call_words.specs.Requests as requests
 use Rattle.ccbox_call.specs.Acceptance.{HasTree, Accepts, CoreOrFault, no_tokens, no_tree, not_built, misnamed, breaks}
-use Rattle.ccbox_call.specs.Answers.{acts_at, AsksToRun, ran, acts_missing, acts, says_so, lists, refused, accepted, missing, source, AskedOf, Answer, usage, asked}
-use Rattle.ccbox_call.proofs.Runs.{ends_over}
+use Rattle.ccbox_call.specs.Answers.{acts_at, AsksToRunCore, ran, RunAnswer, acts_missing, acts, says_so, lists, ExecAnswer, unfit, fits, refused, accepted, refused_at, spells, missing, is_there, AskedOfCore, BytesAnswer, Answer, usage, asked}
+use Rattle.ccbox_call.specs.Programs.{Program, Meant, Coded, Runs}
+use Rattle.ccbox_call.specs.ReadListings.{Spells, ImageOrRefusal}
+use Rattle.ccbox_call.proofs.CodeEnds.{HasEnd, run_ends}
+use Rattle.ccbox_call.proofs.Fitting.{fits_or_not}
+use Rattle.ccbox_call.proofs.ReadListings.{some_image_or_line}
+use Rattle.ccbox_call.proofs.Runs.{ends_over, listing_may_run}
 
 -- ---- a source has a core or a fault
 
@@ -58,38 +69,78 @@ HasAnswer files words = (text : List ℕ) × (status : ℕ) × Answer files word
 
 -- what is asked of a core has an answer
 abbrev HasSome : Files → Request → Core → Type 0
-HasSome files request c = (text : List ℕ) × (status : ℕ) × AskedOf files request c text status
+HasSome files request c = (text : List ℕ) × (status : ℕ) × AskedOfCore files request c text status
+
+-- so has a program whose run ends over each list
+abbrev HasRun : Files → Options → Program → Type 0
+HasRun files options program = (text : List ℕ) × (status : ℕ) × RunAnswer files options program text status
+
+abbrev EndsOver : Options → Program → ActList → Type 0
+EndsOver options program list = (ending : Ending) × (events : List Event) × (blocks : List Shown) × Runs program (settings_of options) (inputs_of options) list.acts ending events blocks
+
+module _ (files : Files) (options : Options) (program : Program) (over : (list : ActList) → acts_at files options.acts ≡ Some list → EndsOver options program list) where
+  by_file : (name : List ℕ) → options.acts ≡ Some name → acts_at files (Some name) ≡ None → (o : Option (List ℕ)) → file_at files name ≡ o → HasRun files options program
+  by_file name e none None gone = (_, _, acts_missing name e gone)
+  by_file name e none (Some text) found = let wrong : None ≡ Some (acts_of_file text) = sym none ∙ ap (option_map acts_of_file) found in cc
+
+  by_acts : (o : Option (List ℕ)) → options.acts ≡ o → (list : Option ActList) → acts_at files o ≡ list → HasRun files options program
+  by_acts None e None acts_are = absurd (cc)
+  by_acts (Some name) e None acts_are = by_file name e acts_are (file_at files name) refl
+  by_acts o e (Some list) acts_are =
+      let at : acts_at files options.acts ≡ Some list = ap (acts_at files) e ∙ acts_are in
+      let end = over list at in
+      (_, _, acts list at (ran end.0 end.1 end.2 end.3))
+
+  some_run : HasRun files options program
+  some_run = by_acts options.acts refl (acts_at files options.acts) refl
 
 module _ (files : Files) (words : List (List ℕ)) where
-  by_acts : (name : List ℕ) (options : Options) (src : List ℕ) (c : Core) → request_of words ≡ Some (Run name options) → file_at files name ≡ Some src → Accepts src c
-      → (o : Option (List ℕ)) → options.acts ≡ o → (list : Option ActList) → acts_at files o ≡ list → HasSome files (Run name options) c
-  by_acts name options src c request there is None e None acts_are = absurd (cc)
-  by_acts name options src c request there is (Some file) e None acts_are = by_file (file_at files file) refl
-    where
-      by_file : (o : Option (List ℕ)) → file_at files file ≡ o → HasSome files (Run name options) c
-      by_file None gone = (_, _, acts_missing file e gone)
-      by_file (Some text) found = absurd (cc)
-  by_acts name options src c request there is o e (Some list) acts_are =
-      let at : acts_at files options.acts ≡ Some list = cc in
-      let asks : AsksToRun files words options src = record { name = name; request = request; there = there } in
-      let end = ends_over files words options list c (record { src = src; asks = asks; accepted = is; acts = at }) in
-      (_, _, acts list at (ran end.0 end.1 end.2))
+  core_ends : (name : List ℕ) (options : Options) (src : List ℕ) (c : Core) → request_of words ≡ Some (Run name options) → file_at files name ≡ Some src → Accepts src c → (list : ActList) → acts_at files options.acts ≡ Some list → EndsOver options (Meant c) list
+  core_ends name options src c request at is list acts_are =
+      let asks : AsksToRunCore files words options c = record { name = name; src = src; request = request; there = at; accepted = is } in
+      let end = ends_over files words options list c (record { asks = asks; acts_are = acts_are }) in
+      (end.0, _, _, record { last = end.1; runs = end.2; events_are = refl; blocks_are = refl })
 
-  by_core : (request : Request) (src : List ℕ) (c : Core) → request_of words ≡ Some request → file_at files (file_of request) ≡ Some src → Accepts src c → HasSome files request c
-  by_core (requests.Check name) src c e there is = (_, _, says_so)
-  by_core (requests.Split name) src c e there is = (_, _, lists)
-  by_core (Run name options) src c e there is = by_acts name options src c e there is options.acts refl (acts_at files options.acts) refl
+  by_core : (request : Request) (src : List ℕ) (c : Core) → is_of_source request ≡ true → request_of words ≡ Some request → file_at files (file_of request) ≡ Some src → Accepts src c → HasSome files request c
+  by_core (requests.Check name) src c of_source e at is = (_, _, says_so)
+  by_core (requests.Split name) src c of_source e at is = (_, _, lists)
+  by_core (Run name options) src c of_source e at is = some_run files options (Meant c) (core_ends name options src c e at is)
+  by_core (requests.Exec name options) src c of_source e at is = absurd (cc)
 
-  by_source : (request : Request) → request_of words ≡ Some request → (o : Option (List ℕ)) → file_at files (file_of request) ≡ o → HasAnswer files words
-  by_source request e None gone = (_, _, asked request e (missing gone))
-  by_source request e (Some src) there =
-      ⊎_elim (λ x. let a = by_core request src x.0 e there x.1 in (a.0, a.1, asked request e (source src there (accepted x.0 x.1 a.2))))
-      (λ x. (_, _, asked request e (source src there (refused x.0 x.1))))
-      (some_core_or_fault src)
+  image_ends : (options : Options) (listed : List ℕ) (image : Image) → Spells listed image → (list : ActList) → EndsOver options (Coded image) list
+  image_ends options listed image a list =
+      let end : HasEnd image (settings_of options) a.paced (started image (settings_of options) (inputs_of options) list.acts) = run_ends image (settings_of options) a.paced (inputs_of options) list.acts in
+      (end.ending, _, _, record { last = end.last; runs = (end.steps, end.ends); events_are = refl; blocks_are = refl })
+
+  by_fit : (options : Options) (listed : List ℕ) (image : Image) → Spells listed image → Fits image (settings_of options) ⊎ (Fits image (settings_of options) → ⊥) → (text : List ℕ) × (status : ℕ) × ExecAnswer files options image text status
+  by_fit options listed image a (inl f) =
+      let run = some_run files options (Coded image) (λ list at. image_ends options listed image a list) in
+      (run.0, run.1, fits f run.2)
+  by_fit options listed image a (inr misfit) = (_, _, unfit misfit)
+
+  by_listing : (name : List ℕ) (options : Options) (listed : List ℕ) → request_of words ≡ Some (requests.Exec name options) → ImageOrRefusal listed → (text : List ℕ) × (status : ℕ) × BytesAnswer files (requests.Exec name options) false listed text status
+  by_listing name options listed e (inl x) =
+      let a = by_fit options listed x.0 x.1 (fits_or_not x.0 (settings_of options) (listing_may_run words name options e).settings) in
+      (a.0, a.1, spells x.0 x.1 a.2)
+  by_listing name options listed e (inr x) = (_, _, refused_at x.0 x.1)
+
+  by_source : (request : Request) (src : List ℕ) → is_of_source request ≡ true → request_of words ≡ Some request → file_at files (file_of request) ≡ Some src → CoreOrFault src → (text : List ℕ) × (status : ℕ) × BytesAnswer files request true src text status
+  by_source request src of_source e at (inl x) = let a = by_core request src x.0 of_source e at x.1 in (a.0, a.1, accepted x.0 x.1 a.2)
+  by_source request src of_source e at (inr x) = (_, _, refused x.0 x.1)
+
+  by_bytes : (request : Request) (bytes : List ℕ) → request_of words ≡ Some request → file_at files (file_of request) ≡ Some bytes → (text : List ℕ) × (status : ℕ) × BytesAnswer files request (is_of_source request) bytes text status
+  by_bytes (requests.Check name) bytes e at = by_source (requests.Check name) bytes refl e at (some_core_or_fault bytes)
+  by_bytes (requests.Split name) bytes e at = by_source (requests.Split name) bytes refl e at (some_core_or_fault bytes)
+  by_bytes (Run name options) bytes e at = by_source (Run name options) bytes refl e at (some_core_or_fault bytes)
+  by_bytes (requests.Exec name options) bytes e at = by_listing name options bytes e (some_image_or_line bytes)
+
+  by_there : (request : Request) → request_of words ≡ Some request → (o : Option (List ℕ)) → file_at files (file_of request) ≡ o → HasAnswer files words
+  by_there request e None gone = (_, _, asked request e (missing gone))
+  by_there request e (Some bytes) at = let a = by_bytes request bytes e at in (a.0, a.1, asked request e (is_there bytes at a.2))
 
   by_request : (o : Option Request) → request_of words ≡ o → HasAnswer files words
   by_request None e = (_, _, usage e)
-  by_request (Some request) e = by_source request e (file_at files (file_of request)) refl
+  by_request (Some request) e = by_there request e (file_at files (file_of request)) refl
 
 pub some_answer : (files : Files) (words : List (List ℕ)) → (text : List ℕ) × (status : ℕ) × Answer files words text status
 some_answer files words = by_request files words (request_of words) refl

@@ -1,4 +1,6 @@
 pub mod Acceptance
+pub mod ReadListings
+pub mod Programs
 pub mod Answers
 pub mod PrintedCode
 pub mod Words

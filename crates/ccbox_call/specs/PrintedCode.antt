@@ -21,11 +21,13 @@ use Rattle.code_words.specs.Runs.{CodeRun}
 use Rattle.code_words.specs.Table as machine
 use Rattle.code_words_listing.specs.Listings.{listing, InFormat}
 use Rattle.code_words_listing.specs.Verdicts.{Verdict}
+use Rattle.check_insertion.specs.Insert.{inserted}
 use Rattle.lowering_code.specs.Code.{result_kind}
 use Rattle.lowering_code.specs.Correct.{SameEnd}
-use Rattle.lowering_code.specs.Images.{object_bytes, imports_from}
-use Rattle.ccbox_call_words.specs.Requests.{Split}
-use Rattle.ccbox_call.specs.Answers.{AsksOf, IsFailure}
+use Rattle.lowering_code.specs.Images.{object_bytes, imports_from, image_of}
+use Rattle.ccbox_call_words.specs.Requests.{Options, Split}
+use Rattle.ccbox_call.specs.Answers.{AsksOf, AsksToRunCore, AsksAboutListing, Answer, IsFailure}
+use Rattle.ccbox_call.specs.ReadListings.{Spells}
 
 -- the trusted side of an image has a static block for each file-level variable of a core, the tainted functions of the core, its
 -- trusted functions in their order, each with its name, and its `main`; there are no callbacks, and nothing is in the sandbox
@@ -74,3 +76,21 @@ pub record PrintsCode (c : Core) (old new : Option (List ℕ)) (status : ℕ) : 
 
 abbrev pub PrintedCode : Files → List (List ℕ) → Option (List ℕ) → Option (List ℕ) → ℕ → Type 0
 PrintedCode files words old new status = (name : List ℕ) (c : Core) → AsksOf files words (Split name) c → PrintsCode c old new status
+
+-- ---- the code that was printed, run
+
+-- some words ask to run a source, and others, with the same options, the listing of its code
+pub record AskAlike (files : Files) (words others : List (List ℕ)) : Type 0 where
+  pub options : Options
+  pub program : Core
+  pub name : List ℕ
+  pub listed : List ℕ
+  pub of_source : AsksToRunCore files words options program
+  pub of_listing : AsksAboutListing files others name options listed
+  pub its_code : Spells listed (image_of (inserted program))
+
+-- the Answer of those is that of these
+abbrev pub RunsAsSource : Type 0
+RunsAsSource =
+    (files : Files) (words others : List (List ℕ)) (text : List ℕ) (status : ℕ) → AskAlike files words others → Answer files others text status
+    → Answer files words text status

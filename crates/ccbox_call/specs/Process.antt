@@ -15,7 +15,8 @@ use Rattle.ccbox_call_words.specs.Given.{LineGiven}
 use Rattle.ccbox_call_words.specs.Requests.{request_of}
 use Rattle.ccbox_call.specs.Calls.{CallEnds}
 use Rattle.ccbox_call.specs.Answers.{GivesFront, GivesWhole, IsCutShort, IsFailure, IsStatus, Exactly, Tells, SourceIsRefused, FileIsMissing, Succeeds}
-use Rattle.ccbox_call.specs.Answers.{CheckFails, RunStops, LineIsRefused, PrintedRun, PrintedAccepted, IsComplete, IsQuiet, IsUntouched}
+use Rattle.ccbox_call.specs.Answers.{CheckFails, RunStops, LineIsRefused, ListingFails, PrintedRun, PrintedImageRun, PrintedAccepted, IsComplete}
+use Rattle.ccbox_call.specs.Answers.{IsQuiet, IsUntouched}
 use Rattle.ccbox_call.specs.PrintedCode.{PrintedCode}
 
 -- the words of an outcome without any: memory ran out, or one of them is no text, and then they count as none
@@ -34,6 +35,7 @@ pub record Answers (told : Option Files) (words : List (List ℕ)) (old new : Op
   pub whole : Told told (λ files. GivesWhole files words old new status ⊎ IsFailure status)
   pub cut_short : Told told (λ files. (status ≡ 4) ⊎ (status ≡ 9) → IsCutShort files words old new)
   pub printed_run : Told told (λ files. PrintedRun files words old new status)
+  pub printed_image_run : Told told (λ files. PrintedImageRun files words old new status)
   pub accepted : Told told (λ files. PrintedAccepted files words old new status)
   pub printed_code : Told told (λ files. PrintedCode files words old new status)
   pub complete : Told told (λ files. IsQuiet before.faults after.faults → IsQuiet before.sink after.sink → IsComplete files words old new status)
@@ -46,6 +48,7 @@ pub record Answers (told : Option Files) (words : List (List ℕ)) (old new : Op
   pub checks : Told told (λ files. Exactly 6 status (CheckFails files words))
   pub stops : Told told (λ files. Exactly 7 status (RunStops files words))
   pub acts_refused : Told told (λ files. Exactly 8 status (LineIsRefused files words))
+  pub listing_refused : Told told (λ files. Exactly 11 status (ListingFails files words))
   pub untouched : request_of words ≡ None → IsUntouched before.misses after.misses before.faults after.faults
   pub misses : Tells status 3 before.misses after.misses ((status ≡ 3) ⊎ ((status ≡ 5) ⊎ (status ≡ 9)))
   pub shelf_faults : Tells status 4 before.faults after.faults (status ≡ 4)

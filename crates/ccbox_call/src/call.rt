@@ -3,7 +3,7 @@
 ghost use Rattle.std.specs.Prelude.{◌≡◌, ◌⊎◌, ℕ, List, map, None};
 ghost use Rattle.ckc_io.specs.Files.{Told};
 ghost use Rattle.ccbox_call_words.specs.Requests.{request_of};
-ghost use Rattle.ccbox_call.specs.Answers.{GivesFront, GivesWhole, IsCutShort, IsFailure, IsStatus, Exactly, Tells, SourceIsRefused, FileIsMissing, Succeeds, CheckFails, RunStops, LineIsRefused, PrintedRun, PrintedAccepted, IsComplete, IsQuiet, IsUntouched};
+ghost use Rattle.ccbox_call.specs.Answers.{GivesFront, GivesWhole, IsCutShort, IsFailure, IsStatus, Exactly, Tells, SourceIsRefused, FileIsMissing, Succeeds, CheckFails, RunStops, LineIsRefused, ListingFails, PrintedRun, PrintedImageRun, PrintedAccepted, IsComplete, IsQuiet, IsUntouched};
 ghost use Rattle.ccbox_call.specs.PrintedCode.{PrintedCode};
 ghost use Rattle.ccbox_call_words.specs.Given.{LineGiven};
 ghost use Rattle.ccbox_call_words.specs.Statuses.{number_of};
@@ -11,6 +11,7 @@ ghost use Rattle.act_recorder.specs.Diagnostics.{usage_text};
 ghost use Rattle.ccbox_call.specs.Calls.{CallEnds};
 
 use crate::check::check_file;
+use crate::exec::exec_file;
 use crate::run::run_file;
 use crate::split::split_file;
 use ccbox_call_words::output::give_usage;
@@ -43,6 +44,11 @@ pub fn ccbox<F: Shelf, K: Sink>(
     ensures printed_run { Told (F.files shelf.old) (λ files.
         PrintedRun files (map (λ word. word.now) words.now) (K.written sink.old) (K.written sink.new) (number_of result)) }
 
+    // Whoever wrote it, the run of a listing whose image fits the settings ends and is printed, and what the sandbox is shown is
+    // determined by its starting memory, the acts that were taken, and the releases.
+    ensures printed_image_run { Told (F.files shelf.old) (λ files.
+        PrintedImageRun files (map (λ word. word.now) words.now) (K.written sink.old) (K.written sink.new) (number_of result)) }
+
     // Where the words ask whether a source is accepted, and it is, the line that says so is printed.
     ensures accepted { Told (F.files shelf.old) (λ files.
         PrintedAccepted files (map (λ word. word.now) words.now) (K.written sink.old) (K.written sink.new) (number_of result)) }
@@ -68,6 +74,8 @@ pub fn ccbox<F: Shelf, K: Sink>(
     ensures checks { Told (F.files shelf.old) (λ files. Exactly 6 (number_of result) (CheckFails files (map (λ word. word.now) words.now))) }
     ensures stops { Told (F.files shelf.old) (λ files. Exactly 7 (number_of result) (RunStops files (map (λ word. word.now) words.now))) }
     ensures acts_refused { Told (F.files shelf.old) (λ files. Exactly 8 (number_of result) (LineIsRefused files (map (λ word. word.now) words.now))) }
+
+    ensures listing_refused { Told (F.files shelf.old) (λ files. Exactly 11 (number_of result) (ListingFails files (map (λ word. word.now) words.now))) }
 
     // Words that spell no request touch no file.
     ensures untouched { request_of (map (λ word. word.now) words.now) ≡ None → IsUntouched (F.misses shelf.old) (F.misses shelf.new) (F.faults shelf.old) (F.faults shelf.new) }
@@ -96,6 +104,7 @@ pub(crate) fn status_of_call<F: Shelf, K: Sink>(
         Some(Request::Check { file }) => check_file(alloc, file, shelf, sink),
         Some(Request::Split { file }) => split_file(alloc, file, shelf, sink),
         Some(Request::Run { file, options }) => run_file(alloc, file, &options, shelf, sink),
+        Some(Request::Exec { file, options }) => exec_file(alloc, file, &options, shelf, sink),
         None => give_usage(alloc, sink),
     }
 }

@@ -3,9 +3,11 @@
 
 pub mod call;
 mod check;
+mod exec;
 pub mod front;
 mod image;
 pub mod laws;
+mod listing;
 pub mod process;
 mod program;
 mod run;

@@ -1,15 +1,14 @@
-// Running the program of a file.
+// Running the program of a file, and any image.
 
 ghost use Rattle.std.specs.Prelude.{◌≡◌, false, IsTrue};
-ghost use Rattle.std.specs.List.{All};
-ghost use Rattle.act_words.specs.Acts.{IsAct};
-ghost use Rattle.act_words.specs.Checks.{is_word_number};
-ghost use Rattle.act_words.specs.Limits.{AreAllowed};
 ghost use Rattle.ckc_io.specs.Files.{Told};
 ghost use Rattle.ckc_core.specs.Core.{core};
 ghost use Rattle.ccbox_call.specs.Acceptance.{IsAcceptedCore};
-ghost use Rattle.ccbox_call.specs.Answers.{ListAnswer, CoreAnswer};
-ghost use Rattle.ccbox_call_words.specs.Requests.{Run};
+ghost use Rattle.code_words.specs.Fitting.{Fits};
+ghost use Rattle.code_words.specs.Paced.{is_paced};
+ghost use Rattle.ccbox_call.specs.Answers.{ListAnswer, RunAnswer};
+ghost use Rattle.ccbox_call.specs.Programs.{Meant, Coded};
+ghost use Rattle.ccbox_call_words.specs.Requests.{Run, settings_of};
 ghost use Rattle.ccbox_call_words.specs.Statuses.{number_of};
 ghost use Rattle.ccbox_call_words.specs.Requested.{options as options_view};
 ghost use Rattle.ccbox_call.specs.Calls.{MayRun, Gives, IsGiven};
@@ -23,6 +22,8 @@ use ccbox_call_words::status::Status;
 use ckc_core::program::Core;
 use ckc_io::shelf::Shelf;
 use ckc_io::sink::Sink;
+use ckc_text::fault::NoMemory;
+use code_words::image::Image;
 use run_core::run::run;
 use sandbox_actor::actor::ActorFault;
 use sandbox_actor::list_actor::ListActor;
@@ -48,7 +49,7 @@ pub fn run_file<F: Shelf, K: Sink>(
     }
 }
 
-// Runs a program with the acts that the options ask for.
+// Runs the code of a program.
 fn run_program<F: Shelf, K: Sink>(
     alloc: Global,
     program: &Core,
@@ -58,7 +59,29 @@ fn run_program<F: Shelf, K: Sink>(
 ) -> Status
     requires allowed { MayRun (options_view options.now) }
     requires accepted { IsAcceptedCore (core program.now) }
-    ensures { Gives (λ text status. Told (F.files shelf.old) (λ files. CoreAnswer files (options_view options.now) (core program.now) text status))
+    ensures { Gives (λ text status. Told (F.files shelf.old) (λ files. RunAnswer files (options_view options.now) (Meant (core program.now)) text status))
+        (K.written sink.old) (K.written sink.new)
+        (record { misses = F.misses shelf.old; faults = F.faults shelf.old; sink = K.faults sink.old })
+        (record { misses = F.misses shelf.new; faults = F.faults shelf.new; sink = K.faults sink.new }) (number_of result) }
+{
+    match image_of(alloc, program) {
+        Ok(image) => run_image(alloc, &image, options, shelf, sink),
+        Err(NoMemory) => Status::NoMemory,
+    }
+}
+
+/// Runs an image with the acts that the options ask for.
+pub fn run_image<F: Shelf, K: Sink>(
+    alloc: Global,
+    image: &Image,
+    options: &Options,
+    shelf: &mut F,
+    sink: &mut K,
+) -> Status
+    requires allowed { MayRun (options_view options.now) }
+    requires fits { Fits image.now (settings_of (options_view options.now)) }
+    requires paced { IsTrue (is_paced image.now) }
+    ensures { Gives (λ text status. Told (F.files shelf.old) (λ files. RunAnswer files (options_view options.now) (Coded image.now) text status))
         (K.written sink.old) (K.written sink.new)
         (record { misses = F.misses shelf.old; faults = F.faults shelf.old; sink = K.faults sink.old })
         (record { misses = F.misses shelf.new; faults = F.faults shelf.new; sink = K.faults sink.new }) (number_of result) }
@@ -70,10 +93,10 @@ fn run_program<F: Shelf, K: Sink>(
     let inputs = inputs.as_slice();
     let Some(name) = options.acts else {
         let mut actor = ListActor::empty(alloc);
-        return run_with(alloc, program, &settings, inputs, &mut actor, shelf, sink);
+        return run_with(alloc, image, &settings, inputs, &mut actor, shelf, sink);
     };
     match ListActor::start(alloc, shelf, name) {
-        Ok(mut actor) => run_with(alloc, program, &settings, inputs, &mut actor, shelf, sink),
+        Ok(mut actor) => run_with(alloc, image, &settings, inputs, &mut actor, shelf, sink),
         Err(ActorFault::Missing) => give_missing(alloc, name, sink),
         Err(ActorFault::Failed) => Status::FilesFailed,
         Err(ActorFault::NoMemory) => Status::NoMemory,
@@ -82,29 +105,24 @@ fn run_program<F: Shelf, K: Sink>(
     }
 }
 
-// Runs the code of a program with an actor.
+// Runs an image with an actor.
 fn run_with<F: Shelf, K: Sink>(
     alloc: Global,
-    program: &Core,
+    image: &Image,
     settings: &Settings,
     inputs: &[i32],
     actor: &mut ListActor,
     shelf: &mut F,
     sink: &mut K,
 ) -> Status
-    requires allowed { AreAllowed settings.now }
+    requires fits { Fits image.now settings.now }
     requires plain { settings.now.code ≡ false }
-    requires accepted { IsAcceptedCore (core program.now) }
-    requires words { All (λ z. IsTrue (is_word_number z)) inputs.now }
-    requires acts { All IsAct actor.old.acts }
-    ensures { Gives (ListAnswer (core program.now) settings.now inputs.now actor.old)
+    requires paced { IsTrue (is_paced image.now) }
+    ensures { Gives (ListAnswer (Coded image.now) settings.now inputs.now actor.old)
         (K.written sink.old) (K.written sink.new)
         (record { misses = F.misses shelf.old; faults = F.faults shelf.old; sink = K.faults sink.old })
         (record { misses = F.misses shelf.new; faults = F.faults shelf.new; sink = K.faults sink.new }) (number_of result) }
 {
-    let Ok(image) = image_of(alloc, program) else {
-        return Status::NoMemory;
-    };
-    let outcome = run(alloc, &image, settings, inputs, actor, shelf, sink);
+    let outcome = run(alloc, image, settings, inputs, actor, shelf, sink);
     give_outcome(alloc, outcome, sink)
 }

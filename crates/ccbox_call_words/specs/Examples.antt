@@ -1,6 +1,6 @@
 -- Words at work.
 use Rattle.std.specs.Prelude.{◌≡◌, ℕ, List, [], ◌∷◌, codes, Option, Some, None, pos, negsuc, true}
-use Rattle.ccbox_call_words.specs.Requests.{Options, Check, Split, Run, Request, request_of, no_options, input_list}
+use Rattle.ccbox_call_words.specs.Requests.{Options, Check, Split, Run, Exec, Request, request_of, no_options, input_list}
 
 abbrev run_with : List (List ℕ) → Option Request
 run_with words = request_of (codes "run" ∷ codes "a.c" ∷ words)
@@ -37,6 +37,23 @@ commands =
     × (request_of (codes "check" ∷ codes "a.c" ∷ codes "b.c" ∷ []) ≡ None)
     × (request_of (codes "check" ∷ codes "a.c" ∷ codes "--view" ∷ []) ≡ None)
     × (request_of (codes "split" ∷ codes "a.c" ∷ codes "--base=16" ∷ []) ≡ None)
+
+-- listings are run with the options of sources, and with a file of acts
+abbrev pub listings : Type 0
+listings =
+    (request_of (codes "exec" ∷ codes "a.txt" ∷ codes "--acts=f" ∷ []) ≡ Some (Exec (codes "a.txt") (record no_options { acts = Some (codes "f") })))
+    × (request_of (codes "exec" ∷ codes "a.txt" ∷ codes "--dump" ∷ codes "--acts" ∷ codes "f" ∷ codes "--input=7" ∷ [])
+    ≡ Some (Exec (codes "a.txt") (record no_options {
+      acts = Some (codes "f");
+      input = Some (pos 7
+          ∷ []);
+      dump = true;
+    })))
+    × (request_of (codes "exec" ∷ codes "a.txt" ∷ []) ≡ None)
+    × (request_of (codes "exec" ∷ codes "a.txt" ∷ codes "--view" ∷ []) ≡ None)
+    × (request_of (codes "exec" ∷ codes "--acts=f" ∷ []) ≡ None)
+    × (request_of (codes "exec" ∷ codes "-a" ∷ codes "--acts=f" ∷ []) ≡ None)
+    × (request_of (codes "exec" ∷ codes "a.txt" ∷ codes "--acts=f" ∷ codes "b.txt" ∷ []) ≡ None)
 
 -- several, in any order
 abbrev pub together : Type 0

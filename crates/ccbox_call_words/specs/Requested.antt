@@ -2,7 +2,7 @@
 use Rattle.std.specs.Prelude.{ℕ, List, [], Option, Some, None, option_map, unwrap_or}
 use Rattle.std.proofs.Common.{ℤ}
 use Rattle.std.specs.Borrow.{Bor}
-use Rattle.ccbox_call_words.specs.Requests.{Request, Check, Split, Run, Options, Choice, ActsFrom, InputOf, BudgetOf, SandboxOf, TrustedOf, BaseOf, View}
+use Rattle.ccbox_call_words.specs.Requests.{Request, Check, Split, Run, Exec, Options, Choice, ActsFrom, InputOf, BudgetOf, SandboxOf, TrustedOf, BaseOf, View}
 use Rattle.ccbox_call_words.specs.Requests.{Releases, Dump, input_list}
 use Rattle.ccbox_call_words.specs.declared.inputs.InputList.{InputList}
 use Rattle.ccbox_call_words.specs.declared.request.Request as code
@@ -33,6 +33,7 @@ abbrev pub request : code.Request → Request
 request (requests.Check file) = Check file.now
 request (requests.Split file) = Split file.now
 request (requests.Run file o) = Run file.now (options o)
+request (requests.Exec file o) = Exec file.now (options o)
 
 abbrev pub requested : Option code.Request → Option Request
 requested None = None

@@ -32,12 +32,22 @@ pub data Request : Type 0 where
   Split : (file : List ℕ) → Request
   -- to run it
   Run : (file : List ℕ) (options : Options) → Request
+  -- to run the listing of a file
+  Exec : (file : List ℕ) (options : Options) → Request
 
 -- the file that is asked about
 abbrev pub file_of : Request → List ℕ
 file_of (Check file) = file
 file_of (Split file) = file
 file_of (Run file options) = file
+file_of (Exec file options) = file
+
+-- the file is a source, and not a listing
+abbrev pub is_of_source : Request → Bool
+is_of_source (Check file) = true
+is_of_source (Split file) = true
+is_of_source (Run file options) = true
+is_of_source (Exec file options) = false
 
 -- the settings of a run. No option asks for its code
 abbrev pub settings_of : Options → Settings
@@ -212,12 +222,18 @@ abbrev pub alone : List (List ℕ) → Request → Option Request
 alone [] request = Some request
 alone (word ∷ words) request = None
 
--- what a command asks about a file, with the words behind both: `check FILE`, `split FILE`, or `run FILE` and options in any order
+-- the run of a listing, whose acts come from a file
+abbrev pub exec_request : List ℕ → Options → Option Request
+exec_request file options = option_map (λ acts. Exec file options) options.acts
+
+-- what a command asks about a file, with the words behind both: `check FILE`, `split FILE`, `run FILE` and options in any order, or
+-- `exec FILE` and options in any order, among them the file of acts
 abbrev pub command_request : List ℕ → List ℕ → List (List ℕ) → Option Request
 command_request command file words =
     if bytes_eq command (codes "check") then alone words (Check file)
     else if bytes_eq command (codes "split") then alone words (Split file)
     else if bytes_eq command (codes "run") then option_map (Run file) (options_of words)
+    else if bytes_eq command (codes "exec") then option_and_then (exec_request file) (options_of words)
     else None
 
 -- the request that the words spell, if they spell one

@@ -17,6 +17,7 @@ number_of statuses.CheckFailed = 6
 number_of statuses.Stopped = 7
 number_of statuses.LineRefused = 8
 number_of statuses.NoMemory = 9
+number_of statuses.ListingRefused = 11
 
 -- the status of a run that ended so
 abbrev pub status_of : Ending → ℕ

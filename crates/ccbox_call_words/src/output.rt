@@ -3,11 +3,12 @@
 ghost use Rattle.std.specs.Prelude.{◌≡◌, ℕ, List, IfOk};
 ghost use Rattle.ccbox_call_words.specs.Given.{TextGiven, LineGiven, OutcomeGiven};
 ghost use Rattle.ccbox_call_words.specs.Statuses.{number_of};
-ghost use Rattle.act_recorder.specs.Diagnostics.{accepted_text, refused_text, act_refused_text, missing_text, usage_text};
+ghost use Rattle.act_recorder.specs.Diagnostics.{accepted_text, refused_text, act_refused_text, missing_text, listing_refused_text, unfit_text, usage_text};
 
 use crate::status::{Status, status_of};
 use act_recorder::diagnostics::{
-    accepted_line, act_refused_line, missing_line, refused_line, usage_line,
+    accepted_line, act_refused_line, listing_refused_line, missing_line, refused_line, unfit_line,
+    usage_line,
 };
 use act_words::ending::Ending;
 use ckc_io::sink::{Sink, SinkFault};
@@ -78,6 +79,24 @@ pub fn give_missing<K: Sink>(alloc: Global, name: &str, sink: &mut K) -> Status
     ensures { LineGiven (missing_text name.now) 3 (K.written sink.old) (K.written sink.new) (K.faults sink.old) (K.faults sink.new) (number_of result) }
 {
     give_line(sink, missing_line(alloc, name), Status::FileMissing)
+}
+
+/// The same of a listing that is refused at the line of this number.
+pub fn give_listing_refused<K: Sink>(alloc: Global, line: u32, sink: &mut K) -> Status
+    ensures { LineGiven (listing_refused_text line) 11 (K.written sink.old) (K.written sink.new) (K.faults sink.old) (K.faults sink.new) (number_of result) }
+{
+    give_line(
+        sink,
+        listing_refused_line(alloc, line),
+        Status::ListingRefused,
+    )
+}
+
+/// The same of a listing whose image doesn't fit the settings.
+pub fn give_unfit<K: Sink>(alloc: Global, sink: &mut K) -> Status
+    ensures { LineGiven unfit_text 11 (K.written sink.old) (K.written sink.new) (K.faults sink.old) (K.faults sink.new) (number_of result) }
+{
+    give_line(sink, unfit_line(alloc), Status::ListingRefused)
 }
 
 /// The same of words that spell no request.

@@ -2,7 +2,7 @@
 
 ghost use Rattle.std.specs.Prelude.{◌≡◌, ◌≤◌, ◌∷◌, IfOk, IfSome, option_map, map, drop, length};
 ghost use Rattle.std.specs.Option.{option_and_then};
-ghost use Rattle.ccbox_call_words.specs.Requests.{settings_of, inputs_of, may_name_file, acts_choice, input_choice, cut_at, value_choice, word_choice, pair_choice, choices_of, chosen, options_of, alone, command_request, request_of};
+ghost use Rattle.ccbox_call_words.specs.Requests.{settings_of, inputs_of, may_name_file, acts_choice, input_choice, cut_at, value_choice, word_choice, pair_choice, choices_of, chosen, options_of, alone, exec_request, command_request, request_of};
 ghost use Rattle.ccbox_call_words.specs.Requested.{request as request_view, requested, options as options_view, choice as choice_view};
 
 use crate::inputs::InputList;
@@ -123,6 +123,8 @@ pub enum Request<'a> {
     Split { file: &'a str },
     /// To run it.
     Run { file: &'a str, options: Options<'a> },
+    /// To run the listing of a file.
+    Exec { file: &'a str, options: Options<'a> },
 }
 
 /// The request that words spell, if they spell one.
@@ -146,7 +148,21 @@ fn command_request<'a>(command: &str, file: &'a str, rest: &[&'a str]) -> Option
             let options = options_from(rest)?;
             Some(Request::Run { file, options })
         }
+        "exec" => {
+            let options = options_from(rest)?;
+            exec_request(file, options)
+        }
         _ => None,
+    }
+}
+
+// The run of a listing, whose acts come from a file.
+fn exec_request<'a>(file: &'a str, options: Options<'a>) -> Option<Request<'a>>
+    ensures { requested result ≡ exec_request file.now (options_view options.entry) }
+{
+    match options.acts {
+        Some(_) => Some(Request::Exec { file, options }),
+        None => None,
     }
 }
 

@@ -28,6 +28,8 @@ pub enum Status {
     LineRefused,
     /// 9: memory ran out.
     NoMemory,
+    /// 11: a line of the listing is refused, or its image doesn't fit the settings.
+    ListingRefused,
 }
 
 impl Status {
@@ -46,6 +48,7 @@ impl Status {
             Status::Stopped => 7,
             Status::LineRefused => 8,
             Status::NoMemory => 9,
+            Status::ListingRefused => 11,
         }
     }
 }

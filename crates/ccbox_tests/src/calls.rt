@@ -25,8 +25,8 @@ pub struct Call<'a> {
     pub put: u64,
 }
 
-// The words of a text.
-fn words_of(alloc: Global, text: &str) -> Vec<&str> {
+/// The words of a text.
+pub fn words_of(alloc: Global, text: &str) -> Vec<&str> {
     let mut words = Vec::new(alloc);
     if !text.is_empty() {
         for word in text.split(' ') {
@@ -69,13 +69,14 @@ pub fn answers(alloc: Global, call: &Call) -> bool {
 // How a line begins that tells of no return, and the status of the call that prints it.
 struct Ending(&'static str, u8);
 
-static ENDINGS: [Ending; 6] = [
+static ENDINGS: [Ending; 7] = [
     Ending("[refused ", 1),
     Ending("[usage]", 2),
     Ending("[missing ", 3),
     Ending("[check ", 6),
     Ending("[stop ", 7),
     Ending("[act line ", 8),
+    Ending("[listing ", 11),
 ];
 
 // The status of the call that prints a text.
@@ -120,6 +121,24 @@ pub fn run_prints(alloc: Global, source: &str, expected: &str, dumps: bool) -> b
         "run a.c --sandbox 65536 --trusted 65536 --budget 2000"
     };
     prints(alloc, words, "", source, expected)
+}
+
+// What stands before and behind the instructions of a case.
+const BEFORE_MAIN: &str =
+    "ccbox listing 1\ntrusted\nfun 0 main args 0 slots 1 stack 3 result int\n";
+
+const BEHIND_MAIN: &str = "\nend\nmain 0\nsandbox\nclose\n";
+
+/// Whether the run of a listing prints this whose `main` has these instructions, with small memories and few ticks: a row has
+/// the acts and the instructions.
+pub fn main_prints(alloc: Global, row: &str, expected: &str) -> bool {
+    let (acts, instructions) = field(row);
+    let mut listing = String::new(alloc);
+    for piece in [BEFORE_MAIN, instructions, BEHIND_MAIN] {
+        add(&mut listing, piece);
+    }
+    let words = "exec a.c --acts f --sandbox 65536 --trusted 65536 --budget 2000";
+    prints(alloc, words, acts, listing.as_str(), expected)
 }
 
 // What stands before and behind the statements of a case.

@@ -18,6 +18,8 @@ mod cores;
 #[cfg(test)]
 mod corners;
 #[cfg(test)]
+mod exec;
+#[cfg(test)]
 mod facts;
 #[cfg(test)]
 mod files;

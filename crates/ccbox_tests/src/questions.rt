@@ -4,7 +4,8 @@ use crate::actors::gives_all;
 use crate::acts::is_act;
 use crate::calls::{
     arguments_print, body_prints, bounded_print, call_prints, elements_print, head_prints,
-    parameters_print, results_print, returns_print, run_prints, statements_print, value_prints,
+    main_prints, parameters_print, results_print, returns_print, run_prints, statements_print,
+    value_prints,
 };
 use crate::lines::is_number;
 use crate::shapes::has_shape;
@@ -57,6 +58,8 @@ pub enum Question {
     Returns,
     /// What a call prints; the case has the words, the acts and the source.
     Call,
+    /// What the run of a listing prints; the case has the acts and the instructions of its `main`.
+    Main,
 }
 
 /// Whether a case has this answer. What is printed stands without its last line feed.
@@ -81,6 +84,7 @@ pub fn is_answer(alloc: Global, question: Question, case: &str, expected: &str) 
         Question::Results => results_print(alloc, case, expected),
         Question::Returns => returns_print(alloc, case, expected),
         Question::Call => call_prints(alloc, case, expected),
+        Question::Main => main_prints(alloc, case, expected),
     }
 }
 

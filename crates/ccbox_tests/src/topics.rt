@@ -4,6 +4,7 @@ use crate::acts::acts;
 use crate::arrays::arrays;
 use crate::bounded::bounded;
 use crate::corners::{corners, large_inputs};
+use crate::exec::{large_listings, runs_of_listings, runs_of_printed};
 use crate::facts::entailment;
 use crate::files::files_and_outputs;
 use crate::flows::flows;
@@ -60,6 +61,8 @@ fn sandbox_acts(rt: HostRuntime) -> Result<(), Fail> {
     acts(rt.alloc())?;
     expect("kept acts", keeps_acts(rt.alloc()))?;
     sandboxes(rt.alloc())?;
+    runs_of_listings(rt.alloc())?;
+    runs_of_printed(rt.alloc())?;
     files_and_outputs(&rt)
 }
 
@@ -74,5 +77,6 @@ fn libraries(rt: HostRuntime) -> Result<(), Fail> {
 
 #[test]
 fn sizes(rt: HostRuntime) -> Result<(), Fail> {
-    large_inputs(rt.alloc())
+    large_inputs(rt.alloc())?;
+    large_listings(rt.alloc())
 }

@@ -1,4 +1,4 @@
-use Rattle.ccbox_call.proofs.Calls.{front, whole, cut_short, printed_run, printed_accepted, printed_code, complete, succeeds, refuses, misses, checks, stops, acts_refused, untouched, usage_line}
+use Rattle.ccbox_call.proofs.Calls.{front, whole, cut_short, printed_run, printed_image_run, printed_accepted, printed_code, complete, succeeds, refuses, misses, checks, stops, acts_refused, listing_fails, untouched, usage_line}
 use Rattle.ccbox_call.proofs.call.ccbox.Goals as goal
 
 pub returns-clause-cut_short : goal.returns-clause-cut_short
@@ -45,3 +45,9 @@ returns-clause-untouched g c = untouched _ _ _ _ _ _ _ c.status_of_call.ensures
 
 pub returns-clause-usage_line : goal.returns-clause-usage_line
 returns-clause-usage_line g c = usage_line _ _ _ _ _ _ _ c.status_of_call.ensures
+
+pub returns-clause-printed_image_run : goal.returns-clause-printed_image_run
+returns-clause-printed_image_run g c = λ files told. printed_image_run _ _ _ _ _ _ files told _ c.status_of_call.ensures
+
+pub returns-clause-listing_refused : goal.returns-clause-listing_refused
+returns-clause-listing_refused g c = λ files told. listing_fails _ _ _ _ _ _ files told _ c.status_of_call.ensures

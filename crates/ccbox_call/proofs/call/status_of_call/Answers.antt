@@ -1,6 +1,6 @@
 use Rattle.std.proofs.Common.{sym, map}
 use Rattle.ccbox_call.specs.Calls.{asked}
-use Rattle.ccbox_call.proofs.Runs.{may_run}
+use Rattle.ccbox_call.proofs.Runs.{may_run, listing_may_run}
 use Rattle.ccbox_call.proofs.call.status_of_call.Goals as goal
 
 pub run_file-requires : goal.run_file-requires
@@ -14,3 +14,9 @@ returns-in-Some-Split g c = asked _ (sym (rw c.in-Some-Split.field-0-is at c.in-
 
 pub returns-in-Some-Run : goal.returns-in-Some-Run
 returns-in-Some-Run g c = asked _ (sym (rw c.in-Some-Run.field-0-is at c.in-Some-Run.ensures)) c.run_file.ensures
+
+pub exec_file-requires : goal.exec_file-requires
+exec_file-requires g c = listing_may_run (map (λ word. word.now) c.args.words.now) _ _ (sym (rw c.in-Some-Exec.field-0-is at c.in-Some-Exec.ensures))
+
+pub returns-in-Some-Exec : goal.returns-in-Some-Exec
+returns-in-Some-Exec g c = asked _ (sym (rw c.in-Some-Exec.field-0-is at c.in-Some-Exec.ensures)) c.exec_file.ensures

@@ -1,5 +1,6 @@
 use Rattle.ccbox_call.proofs.Fronts.{one_core, one_refusal, core_or_fault}
 use Rattle.ccbox_call.proofs.OneAnswer.{one_answer}
+use Rattle.ccbox_call.proofs.ReadListings.{one_image, one_line, image_or_line}
 use Rattle.ccbox_call.proofs.laws.at_most_one_answer.Goals as goal
 
 pub returns-clause-core : goal.returns-clause-core
@@ -16,3 +17,12 @@ returns-clause-text c = λ files words t u m n a b. (one_answer files words a b)
 
 pub returns-clause-status : goal.returns-clause-status
 returns-clause-status c = λ files words t u m n a b. (one_answer files words a b).status
+
+pub returns-clause-image : goal.returns-clause-image
+returns-clause-image c = one_image
+
+pub returns-clause-line : goal.returns-clause-line
+returns-clause-line c = one_line
+
+pub returns-clause-image_or_line : goal.returns-clause-image_or_line
+returns-clause-image_or_line c = image_or_line

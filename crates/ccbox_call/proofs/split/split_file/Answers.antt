@@ -1,3 +1,4 @@
+use Rattle.std.proofs.Common.{refl}
 use Rattle.ckc_core.specs.Core.{core}
 use Rattle.ccbox_call_words.specs.Requests.{Split}
 use Rattle.ccbox_call.proofs.Giving.{gives_behind, same_code, no_core_gives}
@@ -11,8 +12,8 @@ returns-in-Ok g c =
     let told = g.F.Shelf.files c.args.shelf.now in
     let p = core c.in-Ok.program in
     let there = c.in-Ok.ensures.program.1 in
-    gives_behind told (Split c.args.file.now) p there c.in-Ok.ensures.program.2 c.in-Ok.ensures.program.3
+    gives_behind told (Split c.args.file.now) p refl there c.in-Ok.ensures.program.2 c.in-Ok.ensures.program.3
     (λ text status a files tells. (a.0, same_code files c.args.file.now p (there files tells) a.1)) (c.print_code.ensures _ _)
 
 pub returns-in-Err : goal.returns-in-Err
-returns-in-Err g c = no_core_gives (g.F.Shelf.files c.args.shelf.now) (Split c.args.file.now) c.in-Err.ensures.program
+returns-in-Err g c = no_core_gives (g.F.Shelf.files c.args.shelf.now) (Split c.args.file.now) refl c.in-Err.ensures.program
