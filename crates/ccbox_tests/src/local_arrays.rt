@@ -19,6 +19,8 @@ const DECLARATIONS: &str = "[refused E08 3:1 limit]@int b _Checked[0];
 [refused E15 3:1 unchecked in a checked region]@int *b _Checked[1];
 [refused E15 3:1 unchecked in a checked region]@int **b _Checked[2] : count(2);
 [refused E15 3:11 unchecked in a checked region]@array_ptr<int *> b _Checked[2];
+[refused E08 3:1 limit]@array_ptr<int *> b _Checked[0];
+[refused E15 3:11 unchecked in a checked region]@array_ptr<int *> d, b _Checked[0];
 [refused E15 3:1 unchecked in a checked region]@array_ptr<int> *b _Checked[2] = {1};
 [refused E08 3:1 limit]@int b _Checked[0] : count(-1);
 [refused E08 3:1 limit]@int b _Checked[8193] = {1};
