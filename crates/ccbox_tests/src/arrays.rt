@@ -182,6 +182,8 @@ const PROGRAMS: &str = "[exit 0]@int a _Checked[8188]; int main(void) { return a
 [exit 2]@int b = 2, a _Checked[1], d = 3; int main(void) { a[0] = 7; return b; }
 [check C2 1:64 bounds]@int a _Checked[2]; int f(int n) { if (n == 0) return 1; return a[n] + f(n - 1); } int main(void) { return f(2); }
 [exit 7]@struct s { ptr<struct s> n; int x; }; struct s v _Checked[2]; int main(void) { v[0].n = v + 1; v[1].n = v; v[1].x = 7; return v->n->n->n->x; }
+[refused E17 1:80 bounds not proved]@struct s { ptr<struct s> n; int x; }; struct s v _Checked[2]; int main(void) { v[0].n = v + 2; return 0; }
+[exit 0]@struct s { char c; int a; char d; }; struct s x _Checked[2]; int main(void) { array_ptr<char> q : count(1) = &x[0].d; return q + 1 == &x[1].c; }
 [check C1 1:87 null]@struct s { ptr<struct s> n; int x; }; struct s v _Checked[2]; int main(void) { return v[1].n->x; }
 [check C1 1:55 null]@ptr<int> a _Checked[2] = {0}; int main(void) { return *a[1]; }
 [exit 2]@ptr<int> a _Checked[2] = {0, 0}; int main(void) { return !a[0] + !a[1]; }
@@ -198,6 +200,7 @@ const DUMPS: &str =
 [exit 0]¶[block 65552 16 00000000000000000500000003000000]@struct s { int x; char c; }; struct s v _Checked[2]; int main(void) { v[1].x = 5; v[1].c = 259; return 0; }
 [exit 0]¶[block 65552 8 0000000000000000]¶[block 65584 4 07000000]@ptr<int> a _Checked[2] = {0}; int g = 7; int main(void) { return 0; }
 [exit 0]¶[block 65552 8 0000000000000000]¶[block 65584 4 14000100]@int a _Checked[2]; ptr<int> p; int main(void) { p = a + 1; return 0; }
+[exit 0]¶[block 65552 24 000000000000000000000000000000000000000000000000]¶[block 65600 4 19000100]@struct s { char c; int a; char d; }; struct s x _Checked[2]; array_ptr<char> w; int main(void) { array_ptr<char> q : count(1) = &x[0].d; w = q + 1; return q + 1 == &x[1].c; }
 [check C2 1:47 bounds]¶[block 65552 8 0100000000000000]@int a _Checked[2]; int main(void) { a[0] = 1; a[2] = 3; return 0; }";
 
 const BASES: &str =

@@ -72,6 +72,7 @@ const FORMS: &str = "[refused E16 3:20 bounds form]@array_ptr<int> p : count(-1)
 [refused E16 3:20 bounds form]@array_ptr<int> p : byte_count(n * sizeof(char)) = a;
 [refused E16 3:20 bounds form]@array_ptr<int> p : byte_count(n + sizeof(int)) = a;
 [refused E16 3:20 bounds form]@array_ptr<int> p : byte_count(n * m * sizeof(int)) = a;
+[refused E16 3:21 bounds form]@array_ptr<char> p : byte_count(n * 2) = c;
 [refused E16 3:20 bounds form]@array_ptr<int> p : byte_count(g * sizeof(int)) = a;
 [refused E16 3:20 bounds form]@array_ptr<int> p : byte_count(-4) = a;
 [refused E16 3:20 bounds form]@array_ptr<int> p : byte_count(p) = a;
@@ -117,6 +118,8 @@ const FIRST_FAULTS: &str = "[refused E10 3:26 unknown name]@array_ptr<int> p : c
 const NORMAL: &str = "[exit 9]@array_ptr<int> p : count(10) = a; return p[9];
 [exit 9]@array_ptr<int> p : count(2 * 3 + 4) = a; return p[9];
 [exit 9]@array_ptr<int> p : count(12 - 2) = a; return p[9];
+[exit 9]@array_ptr<int> p : count(5 * 2 * 1) = a; return p[9];
+[exit 9]@array_ptr<int> p : count(2 * (3 + 2)) = a; return p[9];
 [exit 9]@array_ptr<int> p : count('a' - 87) = a; return p[9];
 [exit 7]@array_ptr<int> p : count(sizeof(struct s)) = a; return p[7];
 [check C2 3:56 bounds]@array_ptr<int> p : count(sizeof(struct s)) = a; return p[8];
@@ -173,6 +176,8 @@ const INITIAL: &str = "[refused E17 3:1 bounds not proved]@array_ptr<int> p : co
 [refused E17 3:1 bounds not proved]@array_ptr<int> p : count(0) = a + n;
 [refused E17 3:1 bounds not proved]@array_ptr<int> p : count(1) = w;
 [refused E17 3:1 bounds not proved]@array_ptr<int> p : count(1) = ws[0];
+[refused E17 3:1 bounds not proved]@array_ptr<int> p : count(1) = *ws;
+[exit 1]@array_ptr<int> p = *ws; return p == NULL;
 [refused E17 3:1 bounds not proved]@array_ptr<int> p : count(1) = z.p;
 [refused E17 3:1 bounds not proved]@array_ptr<int> p : count(1) = at();
 [exit 3]@array_ptr<int> p : count(1) = &a[3]; return *p;
@@ -213,8 +218,13 @@ const KNOWN: &str = "[exit 4]@if (n <= 10) { array_ptr<int> p : count(n) = a; re
 [refused E17 3:15 bounds not proved]@if (n < 12) { array_ptr<int> p : count(n) = a; }
 [refused E17 3:16 bounds not proved]@if (n >= 10) { array_ptr<int> p : count(n) = a; }
 [refused E17 3:15 bounds not proved]@if (n != 5) { array_ptr<int> p : count(n) = a; }
+[refused E17 3:27 bounds not proved]@if (n <= 11 && n != 11) { array_ptr<int> p : count(n) = a; }
+[refused E17 3:34 bounds not proved]@if (n > 11 || n == 11) return 1; array_ptr<int> p : count(n) = a;
 [refused E17 3:19 bounds not proved]@if (!(n <= 10)) { array_ptr<int> p : count(n) = a; }
 [refused E17 3:16 bounds not proved]@if (m <= 10) { array_ptr<int> p : count(n) = a; }
+[refused E17 3:10 bounds not proved]@if (0) { array_ptr<int> p : count(n) = a; }
+[exit 4]@if (1 < 0) { array_ptr<int> p : count(n) = a; } return 4;
+[exit 4]@if (n < n) { array_ptr<int> p : count(n) = a; } return 4;
 [exit 4]@if (n > 10) { return 1; } array_ptr<int> p : count(n) = a; return p[4];
 [exit 4]@if (n > 10) ; else { array_ptr<int> p : count(n) = a; return p[4]; }
 [exit 4]@if (n != 5) return 1; array_ptr<int> p : count(n) = a; return p[4];
@@ -224,6 +234,8 @@ const KNOWN: &str = "[exit 4]@if (n <= 10) { array_ptr<int> p : count(n) = a; re
 [refused E17 3:21 bounds not proved]@if (n > 10) n = 11; array_ptr<int> p : count(n) = a;
 [exit 9]@if (n > 10) { n = 7; } else { n = 10; } array_ptr<int> p : count(n) = a; return p[9];
 [refused E17 3:41 bounds not proved]@if (n > 10) { n = 7; } else { n = 11; } array_ptr<int> p : count(n) = a;
+[exit 1]@if (n < m) { m = n; } array_ptr<int> p : count(n); array_ptr<int> r : count(m) = p; return r == NULL;
+[refused E17 3:56 bounds not proved]@if (n < m) { m = n + 1; } array_ptr<int> p : count(n); array_ptr<int> r : count(m) = p;
 [exit 2]@if (m <= n && n <= 10) { array_ptr<int> p : count(m) = a; return p[2]; }
 [exit 4]@if (n <= 10 && i == 0) { array_ptr<int> p : count(n) = a; return p[4]; }
 [exit 4]@if (is_a(a) && n <= 10) { array_ptr<int> p : count(n) = a; return p[4]; }
@@ -240,6 +252,9 @@ const KNOWN: &str = "[exit 4]@if (n <= 10) { array_ptr<int> p : count(n) = a; re
 [refused E17 3:20 bounds not proved]@if (n * 1 <= 10) { array_ptr<int> p : count(n) = a; }
 [refused E17 3:20 bounds not proved]@if (10 - n >= 0) { array_ptr<int> p : count(n) = a; }
 [refused E17 3:19 bounds not proved]@if (n <= g + 5) { array_ptr<int> p : count(n) = a; }
+[refused E17 3:23 bounds not proved]@if ((n <= 10) != 0) { array_ptr<int> p : count(n) = a; }
+[refused E17 3:11 bounds not proved]@if (!n) { array_ptr<int> p : count(n) = a; }
+[refused E17 3:16 bounds not proved]@while (n) n--; array_ptr<int> p : count(n) = a;
 [refused E17 3:28 bounds not proved]@char x = 10; if (n <= x) { array_ptr<int> p : count(n) = a; }
 [refused E17 3:27 bounds not proved]@int k = n <= 10; if (k) { array_ptr<int> p : count(n) = a; }
 [refused E17 3:29 bounds not proved]@int k = n <= 10 && m <= 10; array_ptr<int> p : count(n) = a;
@@ -250,6 +265,8 @@ const BEHIND: &str = "[exit 9]@n = 10; array_ptr<int> p : count(n) = a; return p
 [refused E17 3:9 bounds not proved]@n = 11; array_ptr<int> p : count(n) = a;
 [exit 9]@int k = 10; array_ptr<int> p : count(k) = a; return p[9];
 [refused E17 3:13 bounds not proved]@int k = 11; array_ptr<int> p : count(k) = a;
+[refused E17 3:16 bounds not proved]@int k = k + 1; array_ptr<int> p : count(k) = a;
+[exit 4]@int k = k + 1; if (k <= 10) { array_ptr<int> p : count(k) = a; return p[k - 1] + k + 3; }
 [check C2 3:48 bounds]@int k; array_ptr<int> p : count(k) = a; return p[0];
 [refused E17 3:9 bounds not proved]@n = -5; array_ptr<int> p : count(n) = a;
 [check C2 3:52 bounds]@n = 0 - 5; array_ptr<int> p : count(n) = a; return p[0];
@@ -264,6 +281,8 @@ const BEHIND: &str = "[exit 9]@n = 10; array_ptr<int> p : count(n) = a; return p
 [exit 5]@if (n < 10) { n = 1 + n; array_ptr<int> p : count(n) = a; return p[5]; }
 [exit 4]@if (n <= 10) { n = n - 2; array_ptr<int> p : count(n + 2) = a; return p[4]; }
 [refused E17 3:27 bounds not proved]@if (n <= 10) { n = n - 2; array_ptr<int> p : count(n + 3) = a; }
+[exit 2]@if (m <= n) { n = n - 1; if (n <= 9) { array_ptr<int> p : count(m) = a; return p[m - 1]; } }
+[refused E17 3:41 bounds not proved]@if (m <= n) { n = n - 1; if (n <= 10) { array_ptr<int> p : count(m) = a; } }
 [exit 3]@if (n <= 11) { n--; array_ptr<int> p : count(n) = a; return p[3]; }
 [exit 2]@if (m <= 10) { n = m; array_ptr<int> p : count(n) = a; return p[2]; }
 [exit 1]@if (m <= 10) { n = m - 1; array_ptr<int> p : count(n) = a; return p[1]; }
@@ -279,10 +298,14 @@ const BEHIND: &str = "[exit 9]@n = 10; array_ptr<int> p : count(n) = a; return p
 [refused E17 3:51 bounds not proved]@while (n > 10) { if (n == 20) break; n = n - 1; } array_ptr<int> p : count(n) = a;
 [refused E17 3:46 bounds not proved]@while (1) { if (n <= 10) break; n = n - 1; } array_ptr<int> p : count(n) = a;
 [refused E17 3:45 bounds not proved]@for (;;) { if (n <= 10) break; n = n - 1; } array_ptr<int> p : count(n) = a;
+[refused E17 3:15 bounds not proved]@while (1) { } array_ptr<int> p : count(n) = a;
+[refused E17 3:14 bounds not proved]@for (;;) { } array_ptr<int> p : count(n) = a;
+[exit 2]@for (n = 10; i < 2; i++) { array_ptr<int> p : count(n) = a; } return i;
 [exit 4]@while (n <= 10) { array_ptr<int> p : count(n) = a; return p[4]; }
 [exit 7]@for (; n <= 10; n++) { array_ptr<int> p : count(n) = a; if (n == 8) return p[7]; }
 [exit 2]@if (n <= 10) { while (i < 2) { array_ptr<int> p : count(n) = a; i++; } return i; }
 [refused E17 3:32 bounds not proved]@if (n <= 10) { while (i < 2) { array_ptr<int> p : count(n) = a; n = 7; i++; } }
+[exit 2]@if (m <= n && n <= 10) { while (i < 2) { array_ptr<int> p : count(m) = a; n = g; i++; } return i; }
 [refused E17 3:32 bounds not proved]@if (n <= 10) { while (n > 0) { array_ptr<int> p : count(n) = a; n = n - 1; } }
 [refused E17 3:39 bounds not proved]@if (n <= 10) { for (; i < 2; n = 7) { array_ptr<int> p : count(n) = a; i++; } }
 [refused E17 3:46 bounds not proved]@if (n <= 10) { while (i < 2) { i++; n = n; } array_ptr<int> p : count(n) = a; }
@@ -459,6 +482,16 @@ const BASES: &str =
 [exit 1]@array_ptr<int> p : count(10) = a; array_ptr<int> r : bounds(p, p + 2) = p; p = p + 0; return r[1];
 [exit 1]@array_ptr<int> p : count(10) = a; array_ptr<int> r : bounds(p, p + 2) = p; p = p; return r[1];
 [exit 1]@array_ptr<int> p : count(10) = a; array_ptr<int> r : bounds(p, p + 2) = p; p -= 0; return r[1];
+[refused E17 3:77 bounds not proved]@array_ptr<int> p : count(10) = a; array_ptr<int> r : bounds(p, p + 10) = p; p = r;
+[exit 1]@array_ptr<int> p : count(10) = a; array_ptr<int> r : bounds(p, p + 10) = p + 3; r = p; return r == a;
+[refused E17 3:114 bounds not proved]@array_ptr<int> b : count(10) = a; array_ptr<int> p : bounds(b, b + 10) = b; array_ptr<int> r : bounds(p, p + 2); p++;
+[refused E17 3:114 bounds not proved]@array_ptr<int> b : count(10) = a; array_ptr<int> p : bounds(b, b + 10) = b; array_ptr<int> r : bounds(p, p + 2); p--;
+[exit 1]@array_ptr<int> b : count(10) = a; array_ptr<int> p : bounds(b, b + 10) = b; array_ptr<int> r : bounds(p, p + 2); p += 0; return r == NULL;
+[refused E20 3:114 bounds lost]@array_ptr<int> b : count(10) = a; array_ptr<int> p : bounds(b, b + 10) = b; array_ptr<int> r : bounds(p, p + 2); p = b + 1;
+[refused E20 3:114 bounds lost]@array_ptr<int> b : count(10) = a; array_ptr<int> p : bounds(b, b + 10) = b; array_ptr<int> r : bounds(p, p + 2); p += n;
+[exit 3]@ptr<int> b = &a[3]; array_ptr<int> p : bounds(b, b + 1) = b; b = b; return *p;
+[refused E20 3:62 bounds lost]@ptr<int> b = &a[3]; array_ptr<int> p : bounds(b, b + 1) = b; b = &a[4];
+[refused E17 3:62 bounds not proved]@ptr<int> b = &a[3]; array_ptr<int> p : bounds(b, b + 1) = b; b = a + 10;
 [exit 3]@array_ptr<int> p : count(10) = a; { array_ptr<int> r : bounds(p, p + 2) = p; } p = a; return p[3];
 [exit 1]@array_ptr<int> p : count(10) = a; while (1) { array_ptr<int> r : bounds(p, p + 2) = p; if (r[1]) break; } p = NULL; return p == NULL;
 [refused E20 3:105 bounds lost]@array_ptr<int> p : count(10) = a; while (1) { array_ptr<int> r : bounds(p, p + 2) = p; if (r[1]) break; p = a; }
@@ -525,6 +558,7 @@ const LACKING: &str = "[refused E18 3:30 no bounds]@array_ptr<int> p = a; return
 [refused E18 3:8 no bounds]@return at()[0];
 [refused E18 3:8 no bounds]@return *at();
 [refused E18 3:8 no bounds]@return ws[0][0];
+[refused E18 3:8 no bounds]@return **ws;
 [refused E18 3:1 no bounds]@ws[0] += 1;
 [refused E18 3:8 no bounds]@return z.p[0];
 [refused E18 3:8 no bounds]@return *z.p;
@@ -557,6 +591,7 @@ const LACKING: &str = "[refused E18 3:30 no bounds]@array_ptr<int> p = a; return
 [refused E13 3:34 type]@array_ptr<int> p : count(2) = a; return p;
 [refused E13 3:34 type]@array_ptr<int> p : count(2) = a; array_ptr<char> r = p;
 [refused E13 3:34 type]@array_ptr<int> p : count(2) = a; ptr<char> r = p;
+[refused E13 3:1 type]@array_ptr<ptr<int>> p : count(2) = ws;
 [refused E22 3:38 address not allowed]@array_ptr<int> p : count(2) = a; n = &p == NULL;
 [refused E24 3:43 checked pointer to tainted code]@array_ptr<int> p : count(2) = a; return t(p);
 [refused E24 3:10 checked pointer to tainted code]@return t(w);";

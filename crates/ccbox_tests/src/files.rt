@@ -181,13 +181,25 @@ const WITH_OUTPUT: Call = Call {
     put: 0,
 };
 
+// A call whose program writes what it worked out in memory of the run.
+const WITH_SQUARES: Call = Call {
+    words: "run a.c --sandbox 65536 --trusted 65536",
+    source: "int main(void) {\n  array_ptr<int> a : count(10) = malloc<int>(10 * sizeof(int));\n  int i = 0;\n  int s = 0;\n  while (i < 10) {\n    a[i] = i * i;\n    i = i + 1;\n  }\n  for (int j = 0; j < 10; j++) {\n    s = s + a[j];\n  }\n  print_int(s);\n  return 0;\n}\n",
+    acts: "",
+    text: b"285\n[exit 0]\n",
+    status: 0,
+    read: 0,
+    put: 0,
+};
+
 // A call each of whose puts fails, and how many of its first reads do. A file takes two reads.
 struct Failing(Call<'static>, u64);
 
-static FAILING: [Failing; 3] = [
+static FAILING: [Failing; 4] = [
     Failing(SOURCE_ALONE, 2),
     Failing(WITH_ACTS, 4),
     Failing(WITH_OUTPUT, 0),
+    Failing(WITH_SQUARES, 0),
 ];
 
 // Whether calls fail as their files and outputs do.

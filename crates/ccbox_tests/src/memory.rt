@@ -271,6 +271,8 @@ const REFUSED_CASTS: &str =
 [refused E15 3:33 unchecked in a checked region]@array_ptr<int> p : count(sizeof(int *)) = a; return 0;
 [refused E15 3:84 unchecked in a checked region]@array_ptr<int> p : count(4) = _Dynamic_bounds_cast<array_ptr<int>>(a, count(sizeof(int *))); return 0;
 [refused E10 3:77 unknown name]@array_ptr<int> p : count(4) = _Dynamic_bounds_cast<array_ptr<int>>(a, count(zz)); return 0;
+[refused E10 3:51 unknown name]@w = _Dynamic_bounds_cast<array_ptr<int>>(a, count(k)); int k = 1;
+[refused E16 3:57 bounds form]@char x = 3; w = _Dynamic_bounds_cast<array_ptr<int>>(a, count(x)); return 0;
 [refused E16 3:71 bounds form]@array_ptr<int> p : count(4) = _Dynamic_bounds_cast<array_ptr<int>>(a, count(p)); return 0;
 [refused E18 3:31 no bounds]@array_ptr<int> p : count(2) = _Dynamic_bounds_cast<array_ptr<int>>(a, bounds(p, p + 2)); return 0;";
 
@@ -305,6 +307,7 @@ const CALLS: &str =
 [refused E18 4:41 no bounds]@run a.c@@int main(void) {¶  array_ptr<int> b : count(1) = calloc<int>(1, sizeof(int));¶  array_ptr<int> c : count(1) = calloc<int>(1, sizeof(int));¶  array_ptr<int> p : bounds(b, b - 1) = _Dynamic_bounds_cast<array_ptr<int>>(c, bounds(b, b - 1));¶  return p < b;¶}
 [check C2 4:16 bounds]@run a.c@@struct s { int v; };¶int main(void) {¶  array_ptr<struct s> p : count(0) = calloc<struct s>(1, sizeof(struct s));¶  ptr<int> q = &p->v;¶  return *q;¶}
 [refused E17 2:3 bounds not proved]@run a.c@@int f(array_ptr<int> q : count(m), int m, int n) {¶  array_ptr<int> p : count(n) = q;¶  return 0;¶}¶int main(void) { return 0; }
+[refused E17 2:3 bounds not proved]@check a.c@@int f(array_ptr<int> q : count(m), int m, int n) {¶  array_ptr<int> p : count(n) = q;¶  return 0;¶}¶int main(void) { return 0; }
 [accepted all checked]@check a.c@@int f(array_ptr<int> q : count(m), int m, int n) {¶  if (n <= m) { array_ptr<int> p : count(n) = q; }¶  return 0;¶}¶int main(void) { return 0; }
 [exit 2047]@run a.c --trusted 65536@@int main(void) { int k = 0; while (malloc<char>(1) != NULL) k++; return k; }
 [exit 1365]@run a.c --trusted 65536@@int main(void) { int k = 0; while (malloc<char>(17) != NULL) k++; return k; }

@@ -162,6 +162,8 @@ const ARGUMENTS: &str = "[exit 9]@return last(a, 10);
 [refused E17 3:25 bounds not proved]@char k = 3; return last(a, k);
 [refused E17 3:13 bounds not proved]@return last(a, a[3]);
 [refused E17 3:13 bounds not proved]@return last(a, n < m);
+[refused E17 3:14 bounds not proved]@int k = last(a, k);
+[check C2 1:344 bounds]@int k; k = last(a, k);
 [exit 6]@return last(a, 'a' - 90);
 [exit 7]@return last(a, sizeof(struct s));
 [check C2 1:344 bounds]@return last(a, NULL);
@@ -228,6 +230,8 @@ const ARGUMENTS: &str = "[exit 9]@return last(a, 10);
 [check C7 3:19 zero divisor]@return last(NULL, 1 / i);
 [refused E17 3:10 bounds not proved]@i = last(a, 11);
 [refused E17 3:13 bounds not proved]@while (last(a, 11)) { }
+[refused E17 3:21 bounds not proved]@n = 10; while (last(a, n) > 90) n = 11;
+[exit 10]@n = 10; while (last(a, n) > 90) i = 1; return n;
 [exit 1]@if (n <= 10 && last(a, n)) return 1;
 [refused E17 3:20 bounds not proved]@if (n > 10 && last(a, n)) return 1;
 [exit 1]@if (n > 10 || last(a, n)) return 1;
@@ -502,6 +506,8 @@ const INSIDE: &str = "[exit 9]@array_ptr<int> p : count(n), int n@a, 10@return p
 [refused E20 3:1 bounds lost]@array_ptr<int> b : count(n), array_ptr<int> p : bounds(b, b + n), int n@e, e, 10@b = NULL;
 [refused E17 3:1 bounds not proved]@array_ptr<int> b : count(n), array_ptr<int> p : bounds(b, b + n), int n@e, e, 10@b = b + 1;
 [exit 0]@array_ptr<int> b : count(n), array_ptr<int> p : bounds(b, b + n), int n@e, e, 10@b = b; return *p;
+[refused E17 3:1 bounds not proved]@array_ptr<int> b : count(n), array_ptr<int> p : bounds(b, b + n), int n@e, e, 10@b = a;
+[refused E20 3:1 bounds lost]@array_ptr<int> p : bounds(b, b + n), array_ptr<int> b : count(n), int n@e, e, 10@b = a;
 [refused E17 3:1 bounds not proved]@array_ptr<int> b : count(n), array_ptr<int> p : bounds(b, b + n), int n@e, e, 10@p = a;
 [refused E17 3:1 bounds not proved]@array_ptr<int> b : count(n), array_ptr<int> p : bounds(b, b + n), int n@e, e, 10@n++;
 [exit 8]@array_ptr<int> b : count(n), array_ptr<int> p : bounds(b, b + n), int n@e, e, 10@n--; p += n; return p[-1];
@@ -662,6 +668,9 @@ const CALLS: &str =
 [exit 0]@run a.c --input=-1@@int a _Checked[8]; int sum(array_ptr<int> p : count(n), int n) { int s = 0; for (int k = 0; k < n; k++) s += p[k]; return s; } int main(void) { int n = next_input(); if (n > 8) return 9; return sum(a, n); }
 [check C2 2:56 bounds]@run a.c --input=-1@@int a _Checked[8];¶int first(array_ptr<int> p : count(n), int n) { return p[0]; } int main(void) { int n = next_input(); if (n > 8) return 9; return first(a, n); }
 [accepted all checked]@check a.c@@int a _Checked[8]; int first(array_ptr<int> p : count(n), int n) { return p[0]; } int main(void) { return first(a, 8); }
+[accepted all checked]@check a.c@@int f(array_ptr<int> p : count(n), int n) {¶  n = n - 1;¶  return 0;¶}¶int main(void) { return 0; }
+[refused E17 2:3 bounds not proved]@check a.c@@int f(array_ptr<int> p : count(n), int n) {¶  n = n + 1;¶  return 0;¶}¶int main(void) { return 0; }
+[refused E20 2:3 bounds lost]@check a.c@@int f(array_ptr<int> p : count(n), int n) {¶  n = 5;¶  return 0;¶}¶int main(void) { return 0; }
 [refused E17 1:135 bounds not proved]@check a.c@@int a _Checked[8]; int first(array_ptr<int> p : count(n), int n) { return p[0]; } int main(void) { int n = next_input(); return first(a, n); }
 [refused E16 2:30 bounds form]@check a.c@@int n;¶int first(array_ptr<int> p : count(n)) { return p[0]; }¶int main(void) { return 0; }
 3¶1¶2¶[exit 0]@run a.c@@int a _Checked[3] = {1, 2, 3}; void show(array_ptr<int> p : count(n), int n) { for (int k = 0; k < n; k++) print_int(p[k]); } int main(void) { show(a + 2, 1); show(a, 2); return 0; }"#;
