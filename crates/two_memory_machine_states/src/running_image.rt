@@ -279,7 +279,7 @@ impl<'a> RunningImage<'a> {
 
     /// Pops a word into a slot.
     #[tactic(auto, using(std::proofs::lemmas::Bool::Decides::nat_tests))]
-    #[inline]
+    #[inline(always)]
     pub fn set(&mut self, slot: u32) -> Outcome
         requires { IsReady self.old }
         ensures { Acts (Op.Set slot) self.old result self.new }
@@ -296,7 +296,7 @@ impl<'a> RunningImage<'a> {
     }
 
     /// Pushes the word of a slot.
-    #[inline]
+    #[inline(always)]
     pub fn local(&mut self, slot: u32) -> Outcome
         requires { IsReady self.old }
         ensures { Acts (Op.Local slot) self.old result self.new }
@@ -306,7 +306,7 @@ impl<'a> RunningImage<'a> {
     }
 
     /// Pushes the address of a static block of trusted memory.
-    #[inline]
+    #[inline(always)]
     pub fn block_address(&mut self, k: u32) -> Outcome
         requires { IsReady self.old }
         ensures { Acts (Op.BlockAddress k) self.old result self.new }
@@ -325,7 +325,7 @@ impl<'a> RunningImage<'a> {
     }
 
     /// Pops an address, and pushes the byte or the word there.
-    #[inline]
+    #[inline(always)]
     pub fn load(&mut self, len: u32) -> Outcome
         requires ready { IsReady self.old }
         requires width { (len ≡ 1) ⊎ (len ≡ 4) }
@@ -344,7 +344,7 @@ impl<'a> RunningImage<'a> {
 
     /// Pops a value and an address, and stores the lowest byte or all of the value there.
     #[tactic(auto, using(std::proofs::lemmas::Bool::Decides::nat_tests))]
-    #[inline]
+    #[inline(always)]
     pub fn store(&mut self, len: u32) -> Outcome
         requires ready { IsReady self.old }
         requires width { (len ≡ 1) ⊎ (len ≡ 4) }
@@ -365,7 +365,7 @@ impl<'a> RunningImage<'a> {
     }
 
     // Pushes what is there.
-    #[inline]
+    #[inline(always)]
     pub(crate) fn push_some(&mut self, word: Option<u32>) -> Outcome
         requires { IsReady self.old }
         ensures { (f : FuncData) → IsIn self.old f
@@ -379,7 +379,7 @@ impl<'a> RunningImage<'a> {
 
     /// Pops words, and goes on at an instruction of the same function.
     #[tactic(auto, using(std::proofs::lemmas::Bool::Decides::nat_tests))]
-    #[inline]
+    #[inline(always)]
     pub fn jump(&mut self, popped: usize, target: u32) -> Outcome
         requires ready { IsReady self.old }
         requires there { popped ≤ length self.old.frame.stack }
@@ -394,7 +394,7 @@ impl<'a> RunningImage<'a> {
     }
 
     /// Pops words, pushes a word if there is room for it then, and goes on to the next instruction.
-    #[inline]
+    #[inline(always)]
     pub fn push(&mut self, popped: usize, word: u32) -> Outcome
         requires ready { IsReady self.old }
         requires there { popped ≤ length self.old.frame.stack }
@@ -409,7 +409,7 @@ impl<'a> RunningImage<'a> {
     }
 
     /// Pops words, and goes on to the next instruction.
-    #[inline]
+    #[inline(always)]
     pub fn go_on(&mut self, popped: usize) -> Outcome
         requires ready { IsReady self.old }
         requires there { popped ≤ length self.old.frame.stack }
@@ -422,6 +422,7 @@ impl<'a> RunningImage<'a> {
 
     /// Ends the run, since no line of the table has a result.
     #[cold]
+    #[inline(never)]
     pub fn end_wild(&mut self) -> Outcome
         ensures ends { StopsBy self.old (Ending.Stop Code.S6 None) result self.new }
         ensures line { GoesBy wild self.old result self.new }
@@ -443,7 +444,7 @@ impl<'a> RunningImage<'a> {
     }
 
     /// The topmost word, if there is one.
-    #[inline]
+    #[inline(always)]
     pub fn word(&self) -> Option<u32>
         ensures { result ≡ slice_get self.now.frame.stack 0 }
     {
@@ -451,7 +452,7 @@ impl<'a> RunningImage<'a> {
     }
 
     /// The two topmost words, the lower one first, if there are two.
-    #[inline]
+    #[inline(always)]
     pub fn two_words(&self) -> Option<(u32, u32)>
         ensures { result ≡ two_topmost self.now.frame.stack }
     {

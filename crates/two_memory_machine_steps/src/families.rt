@@ -10,6 +10,7 @@ use two_memory_machine_states::outcome::Outcome;
 use two_memory_machine_states::running_image::RunningImage;
 
 /// Makes the step of an instruction, unless it writes or waits for a number.
+#[inline(always)]
 pub fn perform(machine: &mut RunningImage, op: &Op) -> Option<Outcome>
     requires ready { IsReady machine.old }
     ensures { ActsUnlessTold op.now machine.old result machine.new }

@@ -7,6 +7,7 @@ use two_memory_machine_states::outcome::Outcome;
 use two_memory_machine_states::running_image::RunningImage;
 
 /// Pops an address, and pushes the byte there.
+#[inline(always)]
 pub fn load_1(machine: &mut RunningImage) -> Outcome
     requires { IsReady machine.old }
     ensures { Acts Op.Load1 machine.old result machine.new }
@@ -15,6 +16,7 @@ pub fn load_1(machine: &mut RunningImage) -> Outcome
 }
 
 /// Pops an address, and pushes the word there.
+#[inline(always)]
 pub fn load_4(machine: &mut RunningImage) -> Outcome
     requires { IsReady machine.old }
     ensures { Acts Op.Load4 machine.old result machine.new }
@@ -23,6 +25,7 @@ pub fn load_4(machine: &mut RunningImage) -> Outcome
 }
 
 /// Pops a value and an address, and stores the lowest byte of the value there.
+#[inline(always)]
 pub fn store_1(machine: &mut RunningImage) -> Outcome
     requires { IsReady machine.old }
     ensures { Acts Op.Store1 machine.old result machine.new }
@@ -31,6 +34,7 @@ pub fn store_1(machine: &mut RunningImage) -> Outcome
 }
 
 /// Pops a value and an address, and stores the value there.
+#[inline(always)]
 pub fn store_4(machine: &mut RunningImage) -> Outcome
     requires { IsReady machine.old }
     ensures { Acts Op.Store4 machine.old result machine.new }

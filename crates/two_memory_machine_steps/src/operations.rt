@@ -11,6 +11,7 @@ use two_memory_machine_states::outcome::Outcome;
 use two_memory_machine_states::running_image::RunningImage;
 
 /// Pops two numbers, and pushes what an arithmetic operator makes of them.
+#[inline(always)]
 pub fn compute(machine: &mut RunningImage, operator: ArithmeticOperator, place: Place) -> Outcome
     requires { IsReady machine.old }
     ensures { Acts (Op.Arithmetic operator place) machine.old result machine.new }
@@ -35,6 +36,7 @@ pub fn negate(machine: &mut RunningImage, place: Place) -> Outcome
 }
 
 /// Pops an address and an index, and pushes the address of the element.
+#[inline(always)]
 pub fn index(machine: &mut RunningImage, size: u32) -> Outcome
     requires { IsReady machine.old }
     ensures { Acts (Op.Index size) machine.old result machine.new }
@@ -47,6 +49,7 @@ pub fn index(machine: &mut RunningImage, size: u32) -> Outcome
 }
 
 /// Pushes the topmost word again.
+#[inline(always)]
 pub fn duplicate(machine: &mut RunningImage) -> Outcome
     requires { IsReady machine.old }
     ensures { Acts Op.Duplicate machine.old result machine.new }
@@ -58,6 +61,7 @@ pub fn duplicate(machine: &mut RunningImage) -> Outcome
 }
 
 /// Pops a word.
+#[inline(always)]
 pub fn discard(machine: &mut RunningImage) -> Outcome
     requires { IsReady machine.old }
     ensures { Acts Op.Discard machine.old result machine.new }
@@ -91,6 +95,7 @@ pub fn complement(machine: &mut RunningImage) -> Outcome
 }
 
 /// Pops a word, and pushes whether it is 0.
+#[inline(always)]
 pub fn is_zero(machine: &mut RunningImage) -> Outcome
     requires { IsReady machine.old }
     ensures { Acts Op.Zero machine.old result machine.new }
@@ -102,6 +107,7 @@ pub fn is_zero(machine: &mut RunningImage) -> Outcome
 }
 
 /// Pops a word, and pushes its lowest byte.
+#[inline(always)]
 pub fn low_byte(machine: &mut RunningImage) -> Outcome
     requires { IsReady machine.old }
     ensures { Acts Op.Byte machine.old result machine.new }
@@ -168,6 +174,7 @@ pub fn wrapping_shift_right(machine: &mut RunningImage) -> Outcome
 }
 
 /// Pops two words, and pushes what a bitwise operator makes of them.
+#[inline(always)]
 pub fn combine(machine: &mut RunningImage, operator: BitwiseOperator) -> Outcome
     requires { IsReady machine.old }
     ensures { Acts (Op.Bitwise operator) machine.old result machine.new }
@@ -179,6 +186,7 @@ pub fn combine(machine: &mut RunningImage, operator: BitwiseOperator) -> Outcome
 }
 
 /// Pops two words, and pushes whether a comparison with a sign holds of them.
+#[inline(always)]
 pub fn compare(machine: &mut RunningImage, comparison: Comparison) -> Outcome
     requires { IsReady machine.old }
     ensures { Acts (Op.Compare comparison) machine.old result machine.new }

@@ -12,6 +12,7 @@ use two_memory_machine_states::outcome::Outcome;
 use two_memory_machine_states::running_image::RunningImage;
 
 /// Makes the next step.
+#[inline(never)]
 pub fn step(machine: &mut RunningImage) -> Event
     requires { waiting_of machine.old ≡ Waiting.Runs }
     ensures steps { Steps machine.old result machine.new }
@@ -25,6 +26,7 @@ pub fn step(machine: &mut RunningImage) -> Event
 }
 
 /// Makes steps up to one that has to be told.
+#[inline(never)]
 pub fn run_on(machine: &mut RunningImage) -> Event
     requires { waiting_of machine.old ≡ Waiting.Runs }
     ensures steps { StepsOn machine.old result machine.new }
@@ -46,6 +48,7 @@ pub fn run_on(machine: &mut RunningImage) -> Event
 }
 
 // Makes the next step, unless it writes or takes an input number. An `Outcome` goes from hand to hand in a register.
+#[inline(always)]
 fn try_step(machine: &mut RunningImage) -> Option<Outcome>
     requires { waiting_of machine.old ≡ Waiting.Runs }
     ensures { TriesStep machine.old result machine.new }

@@ -14,6 +14,7 @@ use two_memory_machine_states::outcome::Outcome;
 use two_memory_machine_states::running_image::RunningImage;
 
 /// Pops words, and pushes the number of a check that holds.
+#[inline(always)]
 pub fn push_number(
     machine: &mut RunningImage,
     popped: usize,
@@ -32,6 +33,7 @@ pub fn push_number(
 
 /// Pops words, and goes on where a check holds.
 #[tactic(auto, using(std::proofs::lemmas::Bool::Decides::nat_tests))]
+#[inline(always)]
 pub fn check(
     machine: &mut RunningImage,
     popped: usize,
@@ -50,6 +52,7 @@ pub fn check(
 }
 
 /// Goes on at an instruction of the same function.
+#[inline(always)]
 pub fn jump(machine: &mut RunningImage, target: u32) -> Outcome
     requires { IsReady machine.old }
     ensures { Acts (Op.Jump target) machine.old result machine.new }
@@ -59,6 +62,7 @@ pub fn jump(machine: &mut RunningImage, target: u32) -> Outcome
 
 /// Pops a word, and goes on there where it is 0.
 #[tactic(auto, using(std::proofs::lemmas::Bool::Decides::nat_tests))]
+#[inline(always)]
 pub fn jump_if_zero(machine: &mut RunningImage, target: u32) -> Outcome
     requires { IsReady machine.old }
     ensures { Acts (Op.JumpIfZero target) machine.old result machine.new }
@@ -74,6 +78,7 @@ pub fn jump_if_zero(machine: &mut RunningImage, target: u32) -> Outcome
 
 /// Spends a tick.
 #[tactic(auto, using(std::proofs::lemmas::Bool::Decides::nat_tests))]
+#[inline(always)]
 pub fn tick(machine: &mut RunningImage) -> Outcome
     requires { IsReady machine.old }
     ensures { Acts Op.Tick machine.old result machine.new }
