@@ -1,10 +1,9 @@
 -- Steps that tell nothing lead to a machine that runs on.
-use Rattle.std.proofs.Common.{◌≡◌, ◌≤◌, Bool, true, false, Option, Some, None, [], refl, arith}
+use Rattle.std.proofs.Common.{◌≡◌, Bool, true, false, Option, Some, None, [], refl}
 use Rattle.std.specs.Prelude.{IsTrue}
 use Rattle.code_words.specs.Paced.{is_paced}
 use Rattle.code_words.specs.Table.{Step, Goes, Over, wild}
 use Rattle.code_words.specs.declared.op.Op.{Op}
-use Rattle.code_words.specs.declared.op.Op.TheVariants as ops
 use Rattle.two_memory_machine_states.specs.declared.event.Event.{Event}
 use Rattle.two_memory_machine_states.specs.declared.event.Event.TheVariants.{Ran, Input, Ended}
 use Rattle.two_memory_machine_states.specs.declared.event.Waiting.TheVariants as waiting

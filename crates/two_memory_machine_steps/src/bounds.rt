@@ -12,6 +12,7 @@ use two_memory_machine_states::outcome::Outcome;
 use two_memory_machine_states::running_image::RunningImage;
 
 /// Goes on if the topmost word isn't 0 (C1).
+#[inline(always)]
 pub fn non_null(machine: &mut RunningImage, place: Place) -> Outcome
     requires { IsReady machine.old }
     ensures { Acts (Op.NonNull place) machine.old result machine.new }
@@ -23,6 +24,7 @@ pub fn non_null(machine: &mut RunningImage, place: Place) -> Outcome
 }
 
 /// Goes on if an element lies between ends (C2).
+#[inline(always)]
 pub fn check_in(
     machine: &mut RunningImage,
     low_plus: i64,

@@ -50,6 +50,13 @@ pub fn perform(machine: &mut RunningImage, op: &Op) -> Option<Outcome>
         Op::UnsignedGreaterEqual => Some(operations::unsigned_greater_equal(machine)),
         Op::Zero => Some(operations::is_zero(machine)),
         Op::Byte => Some(operations::low_byte(machine)),
+        Op::NonNull { place } => Some(bounds::non_null(machine, *place)),
+        Op::In {
+            low,
+            high,
+            size,
+            place,
+        } => Some(bounds::check_in(machine, *low, *high, *size, *place)),
         Op::Load1 => Some(memory::load_1(machine)),
         Op::Load4 => Some(memory::load_4(machine)),
         Op::Store1 => Some(memory::store_1(machine)),
@@ -66,7 +73,7 @@ pub fn perform(machine: &mut RunningImage, op: &Op) -> Option<Outcome>
     }
 }
 
-// Makes the step of a check, and none of an instruction that writes or waits for a number.
+// Makes the step of a check that is less common, and none of an instruction that writes or waits for a number.
 #[inline(never)]
 fn check_operands(machine: &mut RunningImage, op: &Op) -> Option<Outcome>
     requires ready { IsReady machine.old }
@@ -74,13 +81,6 @@ fn check_operands(machine: &mut RunningImage, op: &Op) -> Option<Outcome>
     ensures { ActsUnlessTold op.now machine.old result machine.new }
 {
     match op {
-        Op::NonNull { place } => Some(bounds::non_null(machine, *place)),
-        Op::In {
-            low,
-            high,
-            size,
-            place,
-        } => Some(bounds::check_in(machine, *low, *high, *size, *place)),
         Op::UpTo {
             low,
             high,
