@@ -62,6 +62,7 @@ AreStacked funs stride rows (suc n) limit = stacked (slice_get rows n) (AreStack
 pub record IsConsistent (c : Inside) : Type 0 where
   -- the innermost function is there
   pub there : slice_get c.funs.now c.function ≡ Some c.fun.now
+  pub ops : c.ops.now ≡ c.fun.now.ops
   pub room : c.extent.end ≡ c.extent.room + c.fun.now.stack
   pub order : InOrder c.extent (c.stride * (c.count + 1))
   -- the calls behind it stand below it

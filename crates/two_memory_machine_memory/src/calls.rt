@@ -51,6 +51,8 @@ pub struct Row {
 pub struct CallWords<'a> {
     funs: &'a [Func],
     fun: &'a Func,
+    // The instructions of `fun`.
+    ops: &'a [Op],
     function: u32,
     next: usize,
     extent: Extent,
@@ -99,6 +101,7 @@ impl<'a> CallWords<'a> {
         Ok(CallWords {
             funs,
             fun,
+            ops: fun.ops(),
             function,
             next: 0,
             extent,
@@ -144,6 +147,7 @@ impl<'a> CallWords<'a> {
             end,
         };
         self.fun = fun;
+        self.ops = fun.ops();
         self.function = function;
         self.next = 0;
     }
@@ -163,6 +167,7 @@ impl<'a> CallWords<'a> {
             extent,
         } = self.rows[self.count];
         self.fun = &self.funs[function as usize];
+        self.ops = self.fun.ops();
         self.function = function;
         self.next = next;
         self.extent = extent;
@@ -174,7 +179,7 @@ impl<'a> CallWords<'a> {
         ensures op { option_copied result ≡ slice_get self.now.fun.ops self.now.frame.next }
         ensures within { IfSome result (λ op. self.now.frame.next + 1 < 2 ^ 64) }
     {
-        self.fun.ops().get(self.next)
+        self.ops.get(self.next)
     }
 
     /// The topmost word, if there is one.
@@ -203,8 +208,11 @@ impl<'a> CallWords<'a> {
     pub fn slot(&self, k: u32) -> Option<u32>
         ensures { result ≡ slice_get self.now.frame.slots k }
     {
-        let slots = &self.words[self.extent.base..self.extent.room];
-        slots.get(k as usize).copied()
+        let at = self.extent.base + k as usize;
+        if at >= self.extent.room {
+            return None;
+        }
+        Some(self.words[at])
     }
 
     /// Stores a word in a slot, if it is there, and tells whether it is. If not, all stays.
@@ -229,7 +237,7 @@ impl<'a> CallWords<'a> {
         ensures after { self.new ≡ pushed_if result word (drop popped self.old.frame.stack) self.old }
     {
         let top = self.extent.top + popped;
-        if top <= self.extent.room {
+        if popped == 0 && top <= self.extent.room {
             return false;
         }
         self.words[top - 1] = word;
@@ -262,7 +270,7 @@ impl<'a> CallWords<'a> {
         ensures after { self.new ≡ at_next (if result then target else self.old.frame.next) self.old }
     {
         let target = target as usize;
-        let there = target < self.fun.ops().len();
+        let there = target < self.ops.len();
         if there {
             self.next = target;
         }

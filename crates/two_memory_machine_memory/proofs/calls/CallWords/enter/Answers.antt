@@ -28,6 +28,7 @@ invariant_of-self c =
     rw (c.slots.ensures.slots, c.stack.ensures.stack)
     (record {
       there = there;
+      ops = c.ops-self-inside.ensures.ops;
       room = refl;
       order = record { slots = omega arith; room = omega arith; stack = omega arith; within = omega (arith, next_reaches i h c.args.function f there) };
       behind = stacked_more i c.args.link h;

@@ -37,6 +37,7 @@ invariant_of-self c =
     let read = get_or_from_slice_get i.funs.now row.function last.call.f c.index-self-function.result last.call.there in
     record {
       there = fun_there i.funs.now row.function last.call.f c.index-self-function.result last.call.there;
+      ops = c.ops-self-inside.ensures.ops;
       room = last.call.room ∙ ap (λ (f : Func). row.extent.room + f.stack) (sym read);
       order = record { slots = last.order.slots; room = last.order.room; stack = last.order.stack; within = last.fits };
       behind = last.below;
