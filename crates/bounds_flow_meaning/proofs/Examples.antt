@@ -58,10 +58,10 @@ abbrev shapes_of_three : World → List Shape
 shapes_of_three w = shapes (three_ints w (pos 3)).blocks
 
 int_at : (w : World) (k : ℕ) → k < 3 → IsPlace [] (shapes_of_three w) Int 0 (k * 4)
-int_at w k lt = record { shape = three_shape; found = refl; row = record { stands = record { there = omega arith; each = each k lt; open_ended = refl }; room = omega arith } }
+int_at w k lt = record { shape = three_shape; found = refl; row = record { stands = record { there = omega arith; each = each k lt; open_ended = refl; unsealed = refl }; room = omega arith } }
   where
     three_shape : Shape
-    three_shape = record { types = Int ∷ Int ∷ Int ∷ []; strides = 4 ∷ 4 ∷ 4 ∷ []; zero_ended = false }
+    three_shape = record { types = Int ∷ Int ∷ Int ∷ []; strides = 4 ∷ 4 ∷ 4 ∷ []; zero_ended = false; is_sealed = false }
 
     typed : (k : ℕ) → k < 3 → type_at three_shape (k * 4 + 0) ≡ Some Int
     typed zero lt = refl

@@ -20,7 +20,7 @@ use Rattle.ckc_core.specs.Programs.{Initial}
 use Rattle.ckc_core.specs.States.{Value, Null, At, Cell, Block, Local, State, Shape, shape, shapes, strides}
 use Rattle.ckc_core.specs.Bounds.{Ends, base_byte, block_size, ends_at, ends_from, is_valid, lie_within, term_value}
 use Rattle.ckc_core.specs.Meaning.{sound_if}
-use Rattle.ckc_core.specs.Pointers.{cells_of_elements, counter_behind, element_cells, element_size, made_if, reaches}
+use Rattle.ckc_core.specs.Pointers.{cells_of_elements, counter_behind, element_cells, element_size, made_if, new_block, reaches}
 use Rattle.bounds_flow_meaning.specs.Holding.{IsValid, at_node, target_size}
 use Rattle.bounds_flow_meaning.specs.Rows.{AreCellsBehind, AreCellsOf, AreElements, HasRow, LeadsOn}
 use Rattle.bounds_flow_meaning.specs.Sums.{AuditsPass, BasesStay, BlocksGrow, EndsMoveBack, IsNew, NewBlocksCount, NullIsValid, VariablesAreBases, counted}
@@ -195,7 +195,7 @@ same_state a v r u e = cc
 
 module _ (structs : List Structure) (element : List Initial) (t : Term) (l : Local) (s : State) (sized : element_size element ≡ target_size structs l.type) (cells : AreCellsBehind structs l.type element) where
   abbrev made : ℕ → Block
-  made n = record { cells = cells_of_elements n element; zero_ended = false }
+  made n = new_block n element
 
   -- a value of the type stands at each element
   element_row : (target : CType) (n k : ℕ) → AreCellsOf structs target element → k < n → HasRow structs (shape (made n)) (k * element_size element) target
@@ -204,7 +204,7 @@ module _ (structs : List Structure) (element : List Initial) (t : Term) (l : Loc
       let count : n ≡ k + suc more = omega (arith, lt) in
       let whole : cells_of_elements n element ≡ cells_of_elements k element ++ element_cells element ++ cells_of_elements more element =
       ap (λ n. cells_of_elements n element) count ∙ cells_split k more element in
-      subst (λ cells. HasRow structs (shape (record { cells = cells; zero_ended = false })) (k * element_size element) target) (sym whole) (cells k (cells_of_elements more element))
+      subst (λ cells. HasRow structs (shape (record { cells = cells; zero_ended = false; is_sealed = false })) (k * element_size element) target) (sym whole) (cells k (cells_of_elements more element))
 
   abbrev made_blocks : ℕ → List Block
   made_blocks n = s.blocks ++ made n ∷ []

@@ -23,7 +23,7 @@ an_int = record { type = Int; stride = 4; value = Number (pos 0) }
 -- n holds this number, x holds 0, p leads to the first of three ints, and q is null
 abbrev pub three_ints : World → ℤ → State
 three_ints w n = record {
-  blocks = record { cells = an_int ∷ an_int ∷ an_int ∷ []; zero_ended = false } ∷ [];
+  blocks = record { cells = an_int ∷ an_int ∷ an_int ∷ []; zero_ended = false; is_sealed = false } ∷ [];
   locals = holding Int (Number n) ∷ holding Int (Number (pos 0)) ∷ holding ints (At 0 0) ∷ holding ints Null ∷ [];
   depth = 0;
   world = w;

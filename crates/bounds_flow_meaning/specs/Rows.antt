@@ -28,11 +28,12 @@ slots structs Char = single Char
 slots structs (Pointer mode kind target) = single (Pointer mode kind target)
 slots structs (Struct number) = slots_from (members_of structs number) (cells_of structs (Struct number))
 
--- at a byte of a block of this shape such scalars stand, and there is one; no zero ends the block
+-- at a byte of a block of this shape such scalars stand, and there is one; no zero ends the block, and pointers may lead to it
 pub record Stands (s : Shape) (byte : ℕ) (row : List Slot) : Type 0 where
   pub there : 0 < length row
   pub each : (k : ℕ) (slot : Slot) → slice_get row k ≡ Some slot → type_at s (byte + slot.offset) ≡ Some slot.type
   pub open_ended : s.zero_ended ≡ false
+  pub unsealed : s.is_sealed ≡ false
 
 -- a value of the type stands at a byte of a block of this shape, and so many bytes as it takes are the block's
 pub record HasRow (structs : List Structure) (s : Shape) (byte : ℕ) (type : CType) : Type 0 where
@@ -64,7 +65,7 @@ LeadsOn structs blocks (Pointer mode kind target) block byte e = AreElements str
 -- in a block that begins with elements of these cells, a value of the type stands at each of them
 abbrev pub AreCellsOf : List Structure → CType → List Initial → Type 0
 AreCellsOf structs type element = (n : ℕ) (after : List states.Cell)
-    → HasRow structs (shape (record { cells = cells_of_elements n element ++ element_cells element ++ after; zero_ended = false }))
+    → HasRow structs (shape (record { cells = cells_of_elements n element ++ element_cells element ++ after; zero_ended = false; is_sealed = false }))
     (n * element_size element) type
 
 -- the same of what a pointer of a type leads to

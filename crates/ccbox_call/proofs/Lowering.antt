@@ -5,7 +5,7 @@ use Rattle.std.proofs.lemmas.List.{length-map}
 use Rattle.std.proofs.lemmas.List.Elements.{All-map, All-from_recursion}
 use Rattle.std.proofs.lemmas.List.Sums.{sum_by-cons}
 use Rattle.flat_bytes.specs.Blocks.{first_offset, grown, rounded_up}
-use Rattle.ckc_core.specs.Programs.{Initial}
+use Rattle.ckc_core.specs.Programs.{Initial, Variable}
 use Rattle.ckc_core.specs.Core.{Parted, Function}
 use Rattle.check_insertion.specs.Erased as erased
 use Rattle.check_insertion.specs.Insert.{function, with_checks}
@@ -25,11 +25,11 @@ sizes_are : (cells : List Initial) → sum (map (λ (i : Initial). i.stride) cel
 sizes_are [] = refl
 sizes_are (i ∷ is) = sum_by-cons (λ n. n) i.stride (map (λ (i : Initial). i.stride) is) ∙ ap (λ n. i.stride + n) (sizes_are is)
 
-counted_is : (objects : List (List Initial)) (offset : ℕ) → counted_from offset objects ≡ offset + objects_size objects
+counted_is : (objects : List Variable) (offset : ℕ) → counted_from offset objects ≡ offset + objects_size objects
 counted_is [] offset = omega arith
-counted_is (cells ∷ objects) offset =
-    let behind = counted_is objects (grown offset (sum (map (λ (i : Initial). i.stride) cells))) in
-    let size = ap rounded_up (sizes_are cells) in
+counted_is (v ∷ objects) offset =
+    let behind = counted_is objects (grown offset (sum (map (λ (i : Initial). i.stride) v.cells))) in
+    let size = ap rounded_up (sizes_are v.cells) in
     behind ∙ omega (arith, size)
 
 -- the body has few nodes

@@ -61,7 +61,8 @@ fn object(alloc: Global, object: &Object) -> Result<Object, NoMemory>
     ensures { IfOk result (λ copy. object_of copy ≡ object_of object.now) }
 {
     let cells = cells(alloc, object.cells.as_slice())?;
-    Ok(Object { cells })
+    let is_sealed = object.is_sealed;
+    Ok(Object { cells, is_sealed })
 }
 
 // A copy more, of the variable of this number.

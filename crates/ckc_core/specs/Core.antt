@@ -16,7 +16,7 @@ use Rattle.act_words.specs.declared.operator.Comparison.{Comparison}
 use Rattle.ckc_core.specs.declared.program.Callee.{Callee}
 use Rattle.ckc_core.specs.declared.program.Direction.{Direction}
 use Rattle.ckc_core.specs.declared.program.PointerBounds.{PointerBounds}
-use Rattle.ckc_core.specs.Programs.{FunctionOf, Import, Initial, Definition, Trusted, Tainted, SourceOf, ProgramOf}
+use Rattle.ckc_core.specs.Programs.{FunctionOf, Import, Initial, Variable, Definition, Trusted, Tainted, SourceOf, ProgramOf}
 
 mutual
   -- an expression
@@ -199,8 +199,8 @@ function f = record {
 abbrev pub import_of : code.Import.Import → Import
 import_of i = record { name = i.name; parameters = i.parameters; result = option_map ctype i.result }
 
-abbrev pub object : code.Object.Object → List Initial
-object o = map initial o.cells.items
+abbrev pub object : code.Object.Object → Variable
+object o = record { cells = map initial o.cells.items; is_sealed = o.is_sealed }
 
 -- a function on its side
 abbrev pub definition : code.Definition.Definition → Definition Statements

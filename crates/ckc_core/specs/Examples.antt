@@ -19,7 +19,7 @@ use Rattle.ckc_core.specs.declared.program.Direction.TheVariants as directions
 use Rattle.ckc_core.specs.Core
 use Rattle.ckc_core.specs.declared.program.PointerBounds.{PointerBounds}
 use Rattle.bounds_exprs.specs.Normal.{constant}
-use Rattle.ckc_core.specs.Programs.{Initial, Trusted, parted}
+use Rattle.ckc_core.specs.Programs.{Initial, Variable, Trusted, open_variable, parted}
 use Rattle.ckc_core.specs.Core.{Core, Expression, Statement, Statements, Function}
 use Rattle.ckc_core.specs.States.{At, State}
 use Rattle.ckc_core.specs.Bounds.{is_valid}
@@ -68,7 +68,7 @@ body (s ∷ others) = Core.Then s (body others)
 abbrev pub main_with : List CType → List Statement → Function
 main_with locals statements = record { name = codes "main"; parameters = 0; locals = locals; result = Some Int; body = body statements }
 
-abbrev pub one : List CType → List (List Initial) → List Statement → Core
+abbrev pub one : List CType → List Variable → List Statement → Core
 one locals objects statements = record { objects = objects; definitions = Trusted (main_with locals statements) ∷ []; main = 0 }
 
 abbrev pub number : ℕ → Expression
@@ -80,7 +80,7 @@ int_cell n = record { type = Int; stride = 4; number = pos n }
 -- int g = 1; int main(void) { ptr<int> p = &g; *p = 41; return g + 1; }
 abbrev pub first_run : Core
 first_run =
-    one (Pointer modes.Checked kinds.One Int ∷ []) ((int_cell 1 ∷ []) ∷ [])
+    one (Pointer modes.Checked kinds.One Int ∷ []) (open_variable (int_cell 1 ∷ []) ∷ [])
     (Core.SetLocal 0 (Core.AddressOf (Core.Direct 0 0) (one_of 4))
     ∷ (Core.Store Int (Core.Through (Core.Local 0 (one_of 4)) Core.First 0 (site 1 46)) (number 41)
     ∷ (Core.Return (Core.Arithmetic (operators.Arithmetic arithmetics.Add) (int_in 0) (number 1) (site 1 62)) ∷ [])))
@@ -202,7 +202,7 @@ depth_and_budget = ends_as (runs falling 1000) (Stop S2 None) × ends_as (runs f
 -- struct s { char c; int v; }; struct s a; int main(void) { ptr<struct s> p = &a; p->v = 7; a.c = 300; return p->v + a.c; }
 abbrev pub members : Core
 members =
-    (one (Pointer modes.Checked kinds.One (Struct 0) ∷ []) (((record { type = Char; stride = 4; number = pos 0 }) ∷ (int_cell 0 ∷ [])) ∷ [])
+    (one (Pointer modes.Checked kinds.One (Struct 0) ∷ []) (open_variable (record { type = Char; stride = 4; number = pos 0 } ∷ (int_cell 0 ∷ [])) ∷ [])
     (Core.SetLocal 0 (Core.AddressOf (Core.Direct 0 0) (one_of 8))
     ∷ (Core.Store Int (Core.Through (Core.Local 0 (one_of 8)) Core.First 4 (site 3 40)) (number 7)
     ∷ (Core.Store Char (Core.Direct 0 0) (Core.LowByte (number 300))
@@ -217,7 +217,7 @@ struct_ends = ends_as (runs members 100) (Exit (pos 51))
 abbrev valid_between : ℕ → ℤ → ℤ → Bool
 valid_between byte lo hi =
     is_valid (record { bounds = record { base = None; lo = constant lo; hi = constant hi }; size = 1; site = site 1 1 }) (At 0 byte)
-    (initial (parted (one [] ((int_cell 0 ∷ []) ∷ []) [])) world)
+    (initial (parted (one [] (open_variable (int_cell 0 ∷ []) ∷ []) [])) world)
 
 -- valid are bounds up to both ends of the block, and no further
 abbrev pub within_block : Type 0
@@ -233,6 +233,6 @@ empty_bounds = (valid_between 4 (pos 0) (pos 0) ≡ true) × (valid_between 4 (p
 abbrev pub beyond_block : Type 0
 beyond_block =
     is_unsound
-    (runs (one (Pointer modes.Checked kinds.One Int ∷ []) ((int_cell 0 ∷ []) ∷ [])
+    (runs (one (Pointer modes.Checked kinds.One Int ∷ []) (open_variable (int_cell 0 ∷ []) ∷ [])
     (Core.SetLocal 0 (Core.AddressOf (Core.Direct 0 0) (one_of 5)) ∷ (Core.Return (number 0) ∷ []))) 100)
     (site 1 1)

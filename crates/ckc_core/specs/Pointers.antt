@@ -114,10 +114,13 @@ abbrev pub cells_of_elements : ℕ → List Initial → List Cell
 cells_of_elements zero element = []
 cells_of_elements (suc n) element = element_cells element ++ cells_of_elements n element
 
+-- the block of so many elements
+abbrev pub new_block : ℕ → List Initial → Block
+new_block n element = record { cells = cells_of_elements n element; zero_ended = false; is_sealed = false }
+
 abbrev pub made_if : Bool → ℕ → List Initial → State → Result Value
 made_if true n element s = Gives Null s
-made_if false n element s =
-    Gives (At (length s.blocks) 0) (record s { blocks = s.blocks ++ record { cells = cells_of_elements n element; zero_ended = false } ∷ [] })
+made_if false n element s = Gives (At (length s.blocks) 0) (record s { blocks = s.blocks ++ new_block n element ∷ [] })
 
 -- a new block of so many elements in a memory of this size: null where there are none, or where it is refused
 abbrev pub allocated : ℕ → List Initial → ℤ → State → Result Value

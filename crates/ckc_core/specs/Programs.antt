@@ -1,5 +1,5 @@
 -- Programs over bodies of any kind.
-use Rattle.std.specs.Prelude.{ℕ, List, [], ◌∷◌, Option}
+use Rattle.std.specs.Prelude.{ℕ, Bool, false, List, [], ◌∷◌, Option}
 use Rattle.std.proofs.Common.{ℤ}
 use Rattle.pointer_modes.specs.Types.{CType}
 
@@ -40,16 +40,25 @@ pub record Initial : Type 0 where
   pub stride : ℕ
   pub number : ℤ
 
--- a whole source: its file-level variables, each with its cells, its functions in the order in which they are first declared, and the
--- number of `main` among those that are trusted
+-- a file-level variable before the run: its cells, and whether no pointer leads to it
+pub record Variable : Type 0 where
+  pub cells : List Initial
+  pub is_sealed : Bool
+
+-- one that pointers may lead to
+abbrev pub open_variable : List Initial → Variable
+open_variable cells = record { cells = cells; is_sealed = false }
+
+-- a whole source: its file-level variables, its functions in the order in which they are first declared, and the number of `main`
+-- among those that are trusted
 pub record SourceOf (Body : Type 0) : Type 0 where
-  pub objects : List (List Initial)
+  pub objects : List Variable
   pub definitions : List (Definition Body)
   pub main : ℕ
 
 -- a whole program of two sides: a call names a function by its number among those of its side
 pub record ProgramOf (Body : Type 0) : Type 0 where
-  pub objects : List (List Initial)
+  pub objects : List Variable
   pub imports : List Import
   pub functions : List (FunctionOf Body)
   pub main : ℕ

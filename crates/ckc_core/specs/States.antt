@@ -10,7 +10,7 @@ use Rattle.pointer_modes.specs.declared.ctype.Kind.{Kind}
 use Rattle.pointer_modes.specs.declared.ctype.Kind.TheVariants as kinds
 use Rattle.pointer_modes.specs.Types.{CType, Int, Char, Struct, Pointer}
 use Rattle.act_words.specs.World.{World}
-use Rattle.ckc_core.specs.Programs.{Initial}
+use Rattle.ckc_core.specs.Programs.{Initial, Variable}
 
 -- a number, null, or a place: a byte of a block
 pub data Value : Type 0 where
@@ -64,10 +64,11 @@ pub record Cell : Type 0 where
   pub stride : ℕ
   pub value : Value
 
--- a block: its cells, in order, and whether a zero ends it
+-- a block: its cells, in order, whether a zero ends it, and whether no pointer leads to it
 pub record Block : Type 0 where
   pub cells : List Cell
   pub zero_ended : Bool
+  pub is_sealed : Bool
 
 -- the bytes from each cell to the next one
 abbrev pub strides : List Cell → List ℕ
@@ -104,15 +105,16 @@ stored blocks block byte value = with_block (slice_get blocks block)
     with_block None = blocks
     with_block (Some b) = slice_set blocks block (record b { cells = with_value b.cells (number_at (strides b.cells) byte) value })
 
--- ---- what a block never changes: the types of its cells, where they stand, and whether a zero ends it
+-- ---- what a block never changes: the types of its cells, where they stand, whether a zero ends it, and whether no pointer leads to it
 
 pub record Shape : Type 0 where
   pub types : List CType
   pub strides : List ℕ
   pub zero_ended : Bool
+  pub is_sealed : Bool
 
 abbrev pub shape : Block → Shape
-shape b = record { types = map (λ (c : Cell). c.type) b.cells; strides = strides b.cells; zero_ended = b.zero_ended }
+shape b = record { types = map (λ (c : Cell). c.type) b.cells; strides = strides b.cells; zero_ended = b.zero_ended; is_sealed = b.is_sealed }
 
 abbrev pub shapes : List Block → List Shape
 shapes blocks = map shape blocks
@@ -149,9 +151,10 @@ initial_value Char number = Number number
 initial_value (Struct n) number = Null
 initial_value (Pointer mode kind target) number = Null
 
--- a file-level variable before the run
-abbrev pub object_block : List Initial → Block
-object_block cells = record {
-  cells = map (λ (i : Initial). record { type = i.type; stride = i.stride; value = initial_value i.type i.number }) cells;
-  zero_ended = false;
-}
+-- the cells of a file-level variable before the run
+abbrev pub initial_cells : List Initial → List Cell
+initial_cells cells = map (λ (i : Initial). record { type = i.type; stride = i.stride; value = initial_value i.type i.number }) cells
+
+-- and its block
+abbrev pub object_block : Variable → Block
+object_block v = record { cells = initial_cells v.cells; zero_ended = false; is_sealed = v.is_sealed }

@@ -239,10 +239,11 @@ pub struct Initial {
     pub number: i32,
 }
 
-/// The cells of a file-level variable.
+/// A file-level variable before the run: its cells, and whether no pointer leads to it.
 #[derive(Drop)]
 pub struct Object {
     pub cells: Vec<Initial>,
+    pub is_sealed: bool,
 }
 
 /// A function of a source, on its side.

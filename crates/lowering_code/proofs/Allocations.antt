@@ -16,7 +16,7 @@ use Rattle.ckc_core.specs.States.{Null, At, Cell, Block, Shape, Grows, strides, 
 use Rattle.ckc_core.specs.States as meaning
 use Rattle.ckc_core.specs.Steps.{is_char}
 use Rattle.ckc_core.specs.Bounds.{block_size}
-use Rattle.ckc_core.specs.Pointers.{counter_behind, element_size, element_cells, cells_of_elements, made_if, allocated}
+use Rattle.ckc_core.specs.Pointers.{counter_behind, element_size, element_cells, cells_of_elements, new_block, made_if, allocated}
 use Rattle.code_words.specs.Table.{Goes, Runs, push, allocate_if, is_positive}
 use Rattle.code_words.specs.Table as table
 use Rattle.code_words.specs.Runs.{spread}
@@ -182,7 +182,7 @@ zeros_split size left here low =
 module _ (g : Execution) (blocks : List Block) (kept : KeptBlocks g blocks) (n : ℕ) (element : List Initial) (is : IsElement element) (enough : grown (end_from first_offset (shapes blocks)) (n * element_size element) ≤ g.settings.trusted) where
   -- the block of so many elements
   abbrev pub made : Block
-  made = record { cells = cells_of_elements n element; zero_ended = false }
+  made = new_block n element
 
   abbrev pub after : List Block
   after = blocks ++ made ∷ []

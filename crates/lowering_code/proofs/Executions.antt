@@ -1,6 +1,6 @@
 -- A run of a program's code: how a state of the meaning stands in the code's memory.
 use Rattle.std.proofs.Common.{◌≡◌, ℕ, zero, suc, ◌+◌, ◌-◌, ◌<◌, ◌≤◌, Bool, true, false, ℤ, pos, List, [], ◌∷◌, ◌++◌, length, map, take, drop, replicate, Some, refl, sym, ap, ◌∙◌, arith, append_assoc, length-append}
-use Rattle.std.specs.Prelude.{slice_get, sum, All}
+use Rattle.std.specs.Prelude.{slice_get, sum, flat_map, All}
 use Rattle.std.specs.List.{AllByRecursion}
 use Rattle.std.proofs.Math.Seq.{take-append_seam, drop-append_seam}
 use Rattle.std.proofs.lemmas.List.{length-replicate}
@@ -14,17 +14,17 @@ use Rattle.flat_bytes.specs.Blocks.{first_offset, grown, rounded_up, is_refused,
 use Rattle.flat_bytes.specs.Blocks as flat
 use Rattle.trusted_memory.specs.Memories.{Memory}
 use Rattle.pointer_modes.specs.Types.{CType, Int, Char, Struct, Pointer}
-use Rattle.ckc_core.specs.Programs.{Initial}
+use Rattle.ckc_core.specs.Programs.{Initial, Variable}
 use Rattle.check_insertion.specs.Erased.{Erased}
-use Rattle.ckc_core.specs.States.{Value, Null, Cell, Block, Shape, Local, Grows, strides, shape, shapes, has_type, initial_value, object_block}
+use Rattle.ckc_core.specs.States.{Value, Null, Cell, Block, Shape, Local, Grows, strides, shape, shapes, has_type, initial_value, initial_cells, object_block}
 use Rattle.ckc_core.specs.States as meaning
 use Rattle.ckc_core.specs.Steps.{is_char}
 use Rattle.code_words.specs.Table.{Caller, Control, State}
 use Rattle.code_words.specs.Table as table
 use Rattle.code_words.specs.Runs.{spread, counter_behind}
 use Rattle.code_words.specs.declared.image.Image.{Image}
-use Rattle.lowering_code.specs.Images.{width_if, word_bytes_if, padded, object_bytes, image_of}
-use Rattle.lowering_code.specs.Correct.{size_of, offset_from, block_bytes, shown_from, counted_from, IsCell, IsLowerable, SameEnd}
+use Rattle.lowering_code.specs.Images.{width_if, word_bytes_if, padded, cell_bytes, object_bytes, image_of}
+use Rattle.lowering_code.specs.Correct.{size_of, offset_from, bytes_of, block_bytes, shown_from, counted_from, IsCell, IsLowerable, SameEnd}
 use Rattle.lowering_code.specs.Correct as correct
 use Rattle.act_words.specs.Shown.{Shown}
 use Rattle.lowering_code.proofs.Shapes.{sum_cons, end_from, end_least, IsKeptBy, word_grows, kept_grows}
@@ -119,12 +119,8 @@ locals_grow before after (x ∷ locals) grows kept = (kept_grows before after x.
 -- ---- the file-level variables before the run
 
 -- each cell of a variable is one, and there is one
-abbrev pub IsObject : List Initial → Type 0
-IsObject cells = All IsCell cells × (0 < length cells)
-
--- the cells of a variable
-abbrev pub object_cells : List Initial → List Cell
-object_cells cells = (object_block cells).cells
+abbrev pub IsObject : Variable → Type 0
+IsObject v = All IsCell v.cells × (0 < length v.cells)
 
 initial_word : (base : ℕ) (all : List Shape) (type : CType) (number : ℤ) → (initial_value type number ≡ Null → number ≡ pos 0) → correct.word_of base all (initial_value type number) ≡ word number
 initial_word base all Int number null = refl
@@ -132,74 +128,74 @@ initial_word base all Char number null = refl
 initial_word base all (Struct n) number null = ap word (sym (null refl))
 initial_word base all (Pointer mode kind target) number null = ap word (sym (null refl))
 
-pub strides_of : (cells : List Initial) → strides (object_cells cells) ≡ map (λ (i : Initial). i.stride) cells
+pub strides_of : (cells : List Initial) → strides (initial_cells cells) ≡ map (λ (i : Initial). i.stride) cells
 strides_of [] = refl
 strides_of (i ∷ cells) = ap (λ l. i.stride ∷ l) (strides_of cells)
 
-content_of : (base : ℕ) (all : List Shape) (cells : List Initial) → AllByRecursion IsCell cells → block_bytes base all (object_block cells) ≡ object_bytes cells
+content_of : (base : ℕ) (all : List Shape) (cells : List Initial) → AllByRecursion IsCell cells → flat_map (bytes_of base all) (initial_cells cells) ≡ flat_map cell_bytes cells
 content_of base all [] is = refl
 content_of base all (i ∷ cells) is =
     let here = ap (λ w. padded i.stride (word_bytes_if (is_char i.type) w)) (initial_word base all i.type i.number is.0.null) in
     let rest = content_of base all cells is.1 in
     cc
 
-pub contents_of : (base : ℕ) (all : List Shape) (objects : List (List Initial)) → AllByRecursion IsObject objects → map (block_bytes base all) (map object_block objects) ≡ map object_bytes objects
+pub contents_of : (base : ℕ) (all : List Shape) (objects : List Variable) → AllByRecursion IsObject objects → map (block_bytes base all) (map object_block objects) ≡ map object_bytes objects
 contents_of base all [] is = refl
-contents_of base all (cells ∷ objects) is =
-    let here = content_of base all cells (recursion_from_All IsCell cells is.0.0) in
+contents_of base all (v ∷ objects) is =
+    let here = content_of base all v.cells (recursion_from_All IsCell v.cells is.0.0) in
     let rest = contents_of base all objects is.1 in
     cc
 
-rooms_of : (cells : List Initial) → AllByRecursion IsCell cells → AllByRecursion HasRoom (object_cells cells)
+rooms_of : (cells : List Initial) → AllByRecursion IsCell cells → AllByRecursion HasRoom (initial_cells cells)
 rooms_of [] is = tt
 rooms_of (i ∷ cells) is = (is.0.room, rooms_of cells is.1)
 
 -- a variable's bytes are those of its cells
-pub object_size : (cells : List Initial) → IsObject cells → length (object_bytes cells) ≡ size_of (shape (object_block cells))
-object_size cells is =
-    let each = recursion_from_All IsCell cells is.0 in
-    ap length (sym (content_of 0 [] cells each)) ∙ length_block 0 [] (object_block cells) (rooms_of cells each)
+pub object_size : (v : Variable) → IsObject v → length (object_bytes v) ≡ size_of (shape (object_block v))
+object_size v is =
+    let each = recursion_from_All IsCell v.cells is.0 in
+    ap length (sym (content_of 0 [] v.cells each)) ∙ length_block 0 [] (object_block v) (rooms_of v.cells each)
 
 width_above : (char : Bool) → 1 ≤ width_if char
 width_above true = omega arith
 width_above false = omega arith
 
-cells_above : (cells : List Initial) → AllByRecursion IsCell cells → 0 < length cells → 1 ≤ sum (strides (object_cells cells))
+cells_above : (cells : List Initial) → AllByRecursion IsCell cells → 0 < length cells → 1 ≤ sum (strides (initial_cells cells))
 cells_above [] is some = absurd (omega arith)
-cells_above (i ∷ cells) is some = omega (arith, sum_cons i.stride (strides (object_cells cells)), width_above (is_char i.type), is.0.room)
+cells_above (i ∷ cells) is some = omega (arith, sum_cons i.stride (strides (initial_cells cells)), width_above (is_char i.type), is.0.room)
 
 -- no variable is empty
-pub object_above : (cells : List Initial) → IsObject cells → 1 ≤ size_of (shape (object_block cells))
-object_above cells is = cells_above cells (recursion_from_All IsCell cells is.0) is.1
+pub object_above : (v : Variable) → IsObject v → 1 ≤ size_of (shape (object_block v))
+object_above v is = cells_above v.cells (recursion_from_All IsCell v.cells is.0) is.1
 
 -- where the code finds a variable
-offset_of : (offset : ℕ) (objects : List (List Initial)) (k : ℕ) (s : Shape) → AllByRecursion IsObject objects → slice_get (shapes (map object_block objects)) k ≡ Some s → table.offset_from offset (map object_bytes objects) k ≡ Some (offset_from offset (shapes (map object_block objects)) k)
+offset_of : (offset : ℕ) (objects : List Variable) (k : ℕ) (s : Shape) → AllByRecursion IsObject objects → slice_get (shapes (map object_block objects)) k ≡ Some s → table.offset_from offset (map object_bytes objects) k ≡ Some (offset_from offset (shapes (map object_block objects)) k)
 offset_of offset [] k s is h = absurd (cc)
-offset_of offset (cells ∷ objects) zero s is h = refl
-offset_of offset (cells ∷ objects) (suc k) s is h =
-    ap (λ n. table.offset_from (grown offset n) (map object_bytes objects) k) (object_size cells is.0)
-    ∙ offset_of (grown offset (size_of (shape (object_block cells)))) objects k s is.1 h
+offset_of offset (v ∷ objects) zero s is h = refl
+offset_of offset (v ∷ objects) (suc k) s is h =
+    ap (λ n. table.offset_from (grown offset n) (map object_bytes objects) k) (object_size v is.0)
+    ∙ offset_of (grown offset (size_of (shape (object_block v)))) objects k s is.1 h
 
-pub end_of : (offset : ℕ) (objects : List (List Initial)) → end_from offset (shapes (map object_block objects)) ≡ counted_from offset objects
+pub end_of : (offset : ℕ) (objects : List Variable) → end_from offset (shapes (map object_block objects)) ≡ counted_from offset objects
 end_of offset [] = refl
-end_of offset (cells ∷ objects) =
-    end_of (grown offset (size_of (shape (object_block cells)))) objects ∙ ap (λ l. counted_from (grown offset (sum l)) objects) (strides_of cells)
+end_of offset (v ∷ objects) =
+    end_of (grown offset (size_of (shape (object_block v)))) objects ∙ ap (λ l. counted_from (grown offset (sum l)) objects) (strides_of v.cells)
 
 -- the machine's counter behind the variables
-pub counter_of : (offset : ℕ) (objects : List (List Initial)) → AllByRecursion IsObject objects → counter_behind offset (map object_bytes objects) ≡ end_from offset (shapes (map object_block objects))
+pub counter_of : (offset : ℕ) (objects : List Variable) → AllByRecursion IsObject objects → counter_behind offset (map object_bytes objects) ≡ end_from offset (shapes (map object_block objects))
 counter_of offset [] is = refl
-counter_of offset (cells ∷ objects) is =
-    ap (λ n. counter_behind (grown offset n) (map object_bytes objects)) (object_size cells is.0)
-    ∙ counter_of (grown offset (size_of (shape (object_block cells)))) objects is.1
+counter_of offset (v ∷ objects) is =
+    ap (λ n. counter_behind (grown offset n) (map object_bytes objects)) (object_size v is.0)
+    ∙ counter_of (grown offset (size_of (shape (object_block v)))) objects is.1
 
 -- and its blocks
-pub listed_of : (size offset : ℕ) (objects : List (List Initial)) → AllByRecursion IsObject objects → end_from offset (shapes (map object_block objects)) ≤ size → blocks_from size offset (map length (map object_bytes objects)) ≡ listed_from offset (shapes (map object_block objects))
+pub listed_of : (size offset : ℕ) (objects : List Variable) → AllByRecursion IsObject objects → end_from offset (shapes (map object_block objects)) ≤ size → blocks_from size offset (map length (map object_bytes objects)) ≡ listed_from offset (shapes (map object_block objects))
 listed_of size offset [] is within = refl
-listed_of size offset (cells ∷ objects) is within =
-    let n = size_of (shape (object_block cells)) in
-    let kept : is_refused size offset n ≡ false = let far = end_least (grown offset n) (shapes (map object_block objects)) in let some = object_above cells is.0 in grind (arith, nat_tests) in
+listed_of size offset (v ∷ objects) is within =
+    let n = size_of (shape (object_block v)) in
+    let kept : is_refused size offset n ≡ false = let far = end_least (grown offset n) (shapes (map object_block objects)) in let some = object_above v is.0 in grind (arith, nat_tests) in
     let later = listed_of size (grown offset n) objects is.1 within in
-    ap (λ k. blocks_from size offset (k ∷ map length (map object_bytes objects))) (object_size cells is.0) ∙ rw kept (ap (λ l. (record { offset = offset; bytes = n }) ∷ l) later)
+    ap (λ k. blocks_from size offset (k ∷ map length (map object_bytes objects))) (object_size v is.0) ∙ rw kept (ap (λ l. (record { offset = offset; bytes = n }) ∷ l) later)
 
 module _ (g : Execution) where
   pub all_objects : AllByRecursion IsObject g.program.objects

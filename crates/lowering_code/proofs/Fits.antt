@@ -6,7 +6,7 @@ use Rattle.act_words.specs.declared.settings.Settings.{Settings}
 use Rattle.act_words.specs.Limits.{AreAllowed}
 use Rattle.flat_bytes.specs.Blocks.{first_offset}
 use Rattle.ckc_text.specs.Names.{IsName}
-use Rattle.ckc_core.specs.Programs.{Initial, Import}
+use Rattle.ckc_core.specs.Programs.{Variable, Import}
 use Rattle.check_insertion.specs.Erased.{Erased, Function}
 use Rattle.code_words.specs.Fitting.{Fits}
 use Rattle.code_words.specs.Formats.{HasSmallFrame, IsFunc, Follow, KeepsFormat}
@@ -19,9 +19,9 @@ use Rattle.lowering_code.proofs.Steps.{function_there}
 use Rattle.lowering_code.proofs.Programs.{keeps_meaning}
 use Rattle.lowering_code.proofs.Paces.{function_paced, function_sized, paced_functions, sized_functions}
 
-not_empty : (objects : List (List Initial)) → AllByRecursion IsObject objects → AllByRecursion (λ (block : List ℕ). 0 < length block) (map object_bytes objects)
+not_empty : (objects : List Variable) → AllByRecursion IsObject objects → AllByRecursion (λ (block : List ℕ). 0 < length block) (map object_bytes objects)
 not_empty [] all = tt
-not_empty (cells ∷ objects) all = (omega (arith, object_size cells all.0, object_above cells all.0), not_empty objects all.1)
+not_empty (v ∷ objects) all = (omega (arith, object_size v all.0, object_above v all.0), not_empty objects all.1)
 
 frame : (number : ℕ) (f : Function) → IsFunction f → HasSmallFrame (function_code number f)
 frame number f is = record { words = is.frame; arguments = is.parameters; held = omega (arith, is.held) }

@@ -15,9 +15,9 @@ use Rattle.act_words.specs.World.{new_world}
 use Rattle.flat_bytes.specs.Blocks.{first_offset, blocks_of}
 use Rattle.flat_bytes.specs.Blocks as flat
 use Rattle.pointer_modes.specs.Types.{CType, Int, Char, Struct, Pointer}
-use Rattle.ckc_core.specs.Programs.{Initial}
+use Rattle.ckc_core.specs.Programs.{Initial, Variable}
 use Rattle.check_insertion.specs.Erased.{Erased, Function}
-use Rattle.ckc_core.specs.States.{Value, Number, Null, At, Shape, shapes, zero_of, initial_value, object_block}
+use Rattle.ckc_core.specs.States.{Value, Number, Null, At, Shape, shapes, zero_of, initial_value, initial_cells, object_block}
 use Rattle.ckc_core.specs.States as meaning
 use Rattle.ckc_core.specs.Steps.{Flow, Next, Broke, Continued, Returned, fits_result, answer_if, answer, back, fit, parameters_of, default_result, exit, initial, locals_for}
 use Rattle.check_insertion.specs.ErasedMeaning.{body_if, body_of, effects, knot}
@@ -32,7 +32,7 @@ use Rattle.ckc_core.proofs.Numbers.{IsNumber, signed-word}
 use Rattle.ckc_core.proofs.Elements.{of_element}
 use Rattle.lowering_code.proofs.Shapes.{end_from, IsKeptBy, grows_none}
 use Rattle.lowering_code.proofs.Worlds.{KeptWorld}
-use Rattle.lowering_code.proofs.Executions.{Execution, image, variables, word_by, slots_by, listed_from, state, IsKept, AreKeptBy, KeptCell, KeptCells, KeptBlocks, IsObject, object_cells, contents_of, counter_of, listed_of, all_objects, variables_end, same_end}
+use Rattle.lowering_code.proofs.Executions.{Execution, image, variables, word_by, slots_by, listed_from, state, IsKept, AreKeptBy, KeptCell, KeptCells, KeptBlocks, IsObject, contents_of, counter_of, listed_of, all_objects, variables_end, same_end}
 use Rattle.lowering_code.proofs.Steps.{HasAt, has_front, has_back, has_all, Leads, leads_on, Reached, Finishes, last_move, Layout, code, Kept, Here, function_found, pushes}
 use Rattle.lowering_code.proofs.Sizes.{length_statements}
 use Rattle.lowering_code.proofs.Calls.{entered, Leaves, Returns, FlowsTo, ArePlaces, KnotRuns}
@@ -189,13 +189,13 @@ module _ (all : List Shape) where
   initial_kept (Struct n) number h = tt
   initial_kept (Pointer mode kind target) number h = tt
 
-  cells_kept : (cells : List Initial) → AllByRecursion IsCell cells → AllByRecursion (KeptCell all) (object_cells cells)
+  cells_kept : (cells : List Initial) → AllByRecursion IsCell cells → AllByRecursion (KeptCell all) (initial_cells cells)
   cells_kept [] is = tt
   cells_kept (i ∷ cells) is = (record { room = is.0.room; typed = is.0.typed; value = initial_kept i.type i.number is.0.word }, cells_kept cells is.1)
 
-  objects_kept : (objects : List (List Initial)) → AllByRecursion IsObject objects → AllByRecursion (KeptCells all) (map object_block objects)
+  objects_kept : (objects : List Variable) → AllByRecursion IsObject objects → AllByRecursion (KeptCells all) (map object_block objects)
   objects_kept [] is = tt
-  objects_kept (cells ∷ objects) is = (cells_kept cells (recursion_from_All IsCell cells is.0.0), objects_kept objects is.1)
+  objects_kept (v ∷ objects) is = (cells_kept v.cells (recursion_from_All IsCell v.cells is.0.0), objects_kept objects is.1)
 
 module _ (program : Erased) (lowerable : IsLowerable program) (settings : Settings) (allowed : AreAllowed settings) (inputs : List ℤ) (acts : List Act) where
   abbrev run : Execution

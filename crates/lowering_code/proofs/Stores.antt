@@ -88,15 +88,15 @@ same_typed (Pointer m k e) (Pointer m' k' e') (At block cell) h t = refl
 
 -- ---- blocks with another value in a cell
 
-abbrev shaped : List CType → List ℕ → Bool → Shape
-shaped types strides zero_ended = record { types = types; strides = strides; zero_ended = zero_ended }
+abbrev shaped : Block → List CType → List ℕ → Shape
+shaped b types strides = record { types = types; strides = strides; zero_ended = b.zero_ended; is_sealed = b.is_sealed }
 
 -- the block keeps its shape
 shape_set : (b : Block) (number : ℕ) (c : Cell) (v : Value) → slice_get b.cells number ≡ Some c → shape (with_cell b number c v) ≡ shape b
 shape_set b number c v h =
     let new : Cell = record c { value = v } in
-    ap (λ types. shaped types (strides (slice_set b.cells number new)) b.zero_ended) (map_set (λ (x : Cell). x.type) b.cells number c new h refl)
-    ∙ ap (λ row. shaped (map (λ (x : Cell). x.type) b.cells) row b.zero_ended) (map_set (λ (x : Cell). x.stride) b.cells number c new h refl)
+    ap (λ types. shaped b types (strides (slice_set b.cells number new))) (map_set (λ (x : Cell). x.type) b.cells number c new h refl)
+    ∙ ap (shaped b (map (λ (x : Cell). x.type) b.cells)) (map_set (λ (x : Cell). x.stride) b.cells number c new h refl)
 
 -- and all blocks keep theirs
 shapes_stored : (blocks : List Block) (block byte : ℕ) (c : Cell) (v : Value) → Found blocks block byte c → shapes (meaning.stored blocks block byte v) ≡ shapes blocks

@@ -12,7 +12,7 @@ use Rattle.act_words.specs.Numbers.{word}
 use Rattle.act_words.specs.Shown.{Shown}
 use Rattle.act_words.specs.View.{output_of, releases_of, view_of}
 use Rattle.flat_bytes.specs.Blocks.{first_offset, grown}
-use Rattle.ckc_core.specs.Programs.{Initial, Import}
+use Rattle.ckc_core.specs.Programs.{Initial, Variable, Import}
 use Rattle.check_insertion.specs.Erased.{Erased, Function}
 use Rattle.ckc_core.specs.States.{Value, Number, Null, At, Cell, Block, Shape, shape, shapes, has_type, initial_value}
 use Rattle.ckc_core.specs.States as meaning_states
@@ -92,13 +92,13 @@ pub record IsFunction (f : Function) : Type 0 where
   pub sized : SizedStatements (length f.locals) f.body
 
 -- how many bytes static blocks take, from an offset on
-abbrev pub counted_from : ℕ → List (List Initial) → ℕ
+abbrev pub counted_from : ℕ → List Variable → ℕ
 counted_from offset [] = offset
-counted_from offset (cells ∷ objects) = counted_from (grown offset (sum (map (λ (i : Initial). i.stride) cells))) objects
+counted_from offset (v ∷ objects) = counted_from (grown offset (sum (map (λ (i : Initial). i.stride) v.cells))) objects
 
 -- the program is small enough to be lowered, and its numbers have 32 bits
 pub record IsLowerable (program : Erased) : Type 0 where
-  pub cells : All (λ cells. All IsCell cells × (0 < length cells)) program.objects
+  pub cells : All (λ (v : Variable). All IsCell v.cells × (0 < length v.cells)) program.objects
   pub objects : counted_from first_offset program.objects ≤ 65536
   -- no tainted function has more parameters than can be passed, and none gives a pointer back
   pub imports : All (λ (i : Import). i.parameters ≤ 16) program.imports

@@ -2,7 +2,7 @@
 use Rattle.std.specs.Prelude.{ℕ, suc, ◌+◌, ◌-◌, Bool, true, false, List, [], ◌∷◌, ◌++◌, length, flat_map, map, replicate, Some}
 use Rattle.std.specs.Int.{to_le_bytes, w8, w32}
 use Rattle.act_words.specs.Numbers.{word}
-use Rattle.ckc_core.specs.Programs.{Initial}
+use Rattle.ckc_core.specs.Programs.{Initial, Variable}
 use Rattle.ckc_core.specs.Programs as programs
 use Rattle.check_insertion.specs.Erased.{Erased, Function}
 use Rattle.ckc_core.specs.Steps.{is_char}
@@ -29,8 +29,8 @@ abbrev pub cell_bytes : Initial → List ℕ
 cell_bytes i = padded i.stride (word_bytes_if (is_char i.type) (word i.number))
 
 -- the bytes of a file-level variable
-abbrev pub object_bytes : List Initial → List ℕ
-object_bytes cells = flat_map cell_bytes cells
+abbrev pub object_bytes : Variable → List ℕ
+object_bytes v = flat_map cell_bytes v.cells
 
 -- a function, with three slots behind its locals
 abbrev pub function_code : ℕ → Function → Func

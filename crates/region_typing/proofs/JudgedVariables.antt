@@ -7,7 +7,7 @@ use Rattle.ckc_tree.specs.Types.{TypeTree, type_span}
 use Rattle.ckc_tree.specs.Items as i
 use Rattle.ckc_tree.specs.Statements.{Declarator}
 use Rattle.pointer_modes.specs.Types.{CType}
-use Rattle.ckc_core.specs.Programs.{Initial}
+use Rattle.ckc_core.specs.Programs.{Initial, open_variable}
 use Rattle.region_typing_rules.specs.Verdicts.{Stop, Broken, Verdict, Passes, Stops, passing, needs}
 use Rattle.region_typing_rules.specs.Types.{base_type, without_stars}
 use Rattle.region_typing_rules.specs.Expressions.{Places}
@@ -26,12 +26,12 @@ abbrev as_judged : Given → WalkedVariable → JudgedVariable
 as_judged given v = record { type = v.type; length = v.length; initial = judged_as given v.initial }
 
 one_by_one : (v : Verdict (List Initial)) (span : Span) (w : Walk) (next : Walk → Verdict Walk)
-    → passing v (λ cells. needs (nat_lt 0 (length cells)) E10 span (next (record w { objects = w.objects ++ cells ∷ [] })))
-    ≡ passing (passing v (λ cells. needs (nat_lt 0 (length cells)) E10 span (Passes (record w { objects = w.objects ++ cells ∷ [] })))) next
+    → passing v (λ cells. needs (nat_lt 0 (length cells)) E10 span (next (record w { objects = w.objects ++ open_variable cells ∷ [] })))
+    ≡ passing (passing v (λ cells. needs (nat_lt 0 (length cells)) E10 span (Passes (record w { objects = w.objects ++ open_variable cells ∷ [] })))) next
 one_by_one (Stops stop) span w next = refl
 one_by_one (Passes cells) span w next = by (nat_lt 0 (length cells))
   where
-    by : (b : Bool) → needs b E10 span (next (record w { objects = w.objects ++ cells ∷ [] })) ≡ passing (needs b E10 span (Passes (record w { objects = w.objects ++ cells ∷ [] }))) next
+    by : (b : Bool) → needs b E10 span (next (record w { objects = w.objects ++ open_variable cells ∷ [] })) ≡ passing (needs b E10 span (Passes (record w { objects = w.objects ++ open_variable cells ∷ [] }))) next
     by true = refl
     by false = refl
 
@@ -39,9 +39,9 @@ objects_judged : (w : Walk) (span : Span) (vs : List WalkedVariable) → with_ob
 objects_judged w span [] = refl
 objects_judged w span (v ∷ vs) =
     let rest = judged_objects span (map (as_judged w.scope.given) vs) in
-    ap (λ cells_are. passing cells_are (λ cells. needs (nat_lt 0 (length cells)) E10 span (with_objects (record w { objects = w.objects ++ cells ∷ [] }) span vs))) (cells_judged w.scope.given w.scope.structs v.type v.length v.initial span)
-    ∙ same_behind (judged_cells w.scope.structs v.type v.length (judged_as w.scope.given v.initial) span) _ (λ cells. needs (nat_lt 0 (length cells)) E10 span (rest (record w { objects = w.objects ++ cells ∷ [] })))
-    (λ cells. ap (λ x. needs (nat_lt 0 (length cells)) E10 span x) (objects_judged (record w { objects = w.objects ++ cells ∷ [] }) span vs))
+    ap (λ cells_are. passing cells_are (λ cells. needs (nat_lt 0 (length cells)) E10 span (with_objects (record w { objects = w.objects ++ open_variable cells ∷ [] }) span vs))) (cells_judged w.scope.given w.scope.structs v.type v.length v.initial span)
+    ∙ same_behind (judged_cells w.scope.structs v.type v.length (judged_as w.scope.given v.initial) span) _ (λ cells. needs (nat_lt 0 (length cells)) E10 span (rest (record w { objects = w.objects ++ open_variable cells ∷ [] })))
+    (λ cells. ap (λ x. needs (nat_lt 0 (length cells)) E10 span x) (objects_judged (record w { objects = w.objects ++ open_variable cells ∷ [] }) span vs))
     ∙ one_by_one (judged_cells w.scope.structs v.type v.length (judged_as w.scope.given v.initial) span) span w rest
 
 in_turn : {A B C D : Type 0} (v : Verdict A) (f : A → Verdict B) (g : A → B → C) (next : C → Verdict D) → passing (passing v (λ a. passing (f a) (λ b. Passes (g a b)))) next ≡ passing v (λ a. passing (f a) (λ b. next (g a b)))

@@ -8,7 +8,7 @@ use Rattle.ckc_tree.specs.Items.{Item}
 use Rattle.ckc_tree.specs.Statements.{Declarator}
 use Rattle.pointer_modes.specs.Types as types
 use Rattle.pointer_modes.specs.Types.{CType}
-use Rattle.ckc_core.specs.Programs.{Initial}
+use Rattle.ckc_core.specs.Programs.{Initial, open_variable}
 use Rattle.region_typing_rules.specs.Verdicts.{Verdict, Passes, picked}
 use Rattle.region_typing_rules.specs.Scopes.{Scope, Signature, WrittenBounds, function_named}
 use Rattle.region_typing_rules.specs.Types.{base_type, without_stars}
@@ -46,7 +46,7 @@ objects_outside : (w : Walk) (span : Span) (vs : List WalkedVariable) → Outsid
 objects_outside w span [] o = o
 objects_outside w span (v ∷ vs) o =
     passing_promises (λ (cells : List Initial). Unit {0}) OutsideBehind (object_cells w.scope.given w.scope.structs v.type v.length v.initial span) _ (anything_promised (object_cells w.scope.given w.scope.structs v.type v.length v.initial span))
-    (λ cells _. needs_promises OutsideBehind (nat_lt 0 (length cells)) E10 span _ (λ _. objects_outside (record w { objects = w.objects ++ cells ∷ [] }) span vs o))
+    (λ cells _. needs_promises OutsideBehind (nat_lt 0 (length cells)) E10 span _ (λ _. objects_outside (record w { objects = w.objects ++ open_variable cells ∷ [] }) span vs o))
 
 global_outside : (at : Places) (w : Walk) (d : i.Global) → Outside w.scope → Promises OutsideBehind (global at w d)
 global_outside at w d o =

@@ -9,6 +9,7 @@ use Rattle.ckc_tree.specs.Items as i
 use Rattle.ckc_tree.specs.Statements.{Initializer, Declarator, Statements}
 use Rattle.pointer_modes.specs.Types as types
 use Rattle.pointer_modes.specs.Types.{CType}
+use Rattle.ckc_core.specs.Programs.{open_variable}
 use Rattle.ckc_core.specs.Core as core
 use Rattle.ckc_core.specs.Core.{object, function}
 use Rattle.region_typing_rules.specs.Verdicts.{Verdict, Passes, passing, needs, picked}
@@ -114,7 +115,7 @@ judged_variables at base type span (d ∷ ds) x =
 -- the cells of a variable more
 abbrev pub one_object : Span → JudgedVariable → Walk → Verdict Walk
 one_object span v w = passing (judged_cells w.scope.structs v.type v.length v.initial span)
-    (λ cells. needs (nat_lt 0 (length cells)) E10 span (Passes (record w { objects = w.objects ++ cells ∷ [] })))
+    (λ cells. needs (nat_lt 0 (length cells)) E10 span (Passes (record w { objects = w.objects ++ open_variable cells ∷ [] })))
 
 abbrev pub judged_objects : Span → List JudgedVariable → Walk → Verdict Walk
 judged_objects span [] w = Passes w

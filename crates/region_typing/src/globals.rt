@@ -209,7 +209,10 @@ fn object(
 {
     let cells = cells_of(context, &walk.scope.structs, t, v.count, &v.initial, span)?;
     let filled = !cells.is_empty();
-    walk.objects.push(Object { cells })?;
+    walk.objects.push(Object {
+        cells,
+        is_sealed: false,
+    })?;
     needs(filled, Code::E10, span)
 }
 

@@ -10,7 +10,7 @@ use Rattle.ckc_tree.specs.declared.stmt.SignedConstant.{SignedConstant}
 use Rattle.pointer_modes.specs.Types.{CType, Int, Char, Struct, Pointer, Member, Structure, members_of}
 use Rattle.pointer_modes.specs.Layout.{size_of}
 use Rattle.ckc_core.specs.Programs.{Initial}
-use Rattle.ckc_core.specs.States.{Shape, number_at, shape, type_at, object_block}
+use Rattle.ckc_core.specs.States.{Shape, number_at, type_at}
 use Rattle.ckc_core.specs.Steps.{low_byte}
 use Rattle.ckc_names_rules.specs.declared.given.Given.{Given}
 use Rattle.ckc_text.specs.declared.code.Code.TheVariants.{E13}
@@ -21,10 +21,7 @@ use Rattle.bounds_flow_meaning.specs.Rows.{Slot, slots, HasRow}
 use Rattle.region_typing_rules.specs.Typed.{IsScalar, AreRows}
 use Rattle.region_typing_rules.specs.Lowerable.{cells_size, IsRoomy}
 use Rattle.region_typing_rules.proofs.Verdicts.{Promises, needs_promises, promised_so, Extends}
-use Rattle.region_typing_rules.proofs.Layouts.{IsStart, AreCellsOf, AreSmall, IsWalked, behind_cell, scalar_width, bytes_kept, row_kept, strides_whole, cells_row, whole_size, negative_fits, int_of, char_of, zero_cells, written_promises}
-
-abbrev pub shape_of : List Initial → Shape
-shape_of cells = shape (object_block cells)
+use Rattle.region_typing_rules.proofs.Layouts.{IsStart, AreCellsOf, AreSmall, IsWalked, behind_cell, shape_of, scalar_width, bytes_kept, row_kept, strides_whole, cells_row, whole_size, negative_fits, int_of, char_of, zero_cells, written_promises}
 
 -- ---- cells in front of others
 
@@ -50,7 +47,7 @@ size_append (x ∷ xs) ys = omega (arith, size_append xs ys)
 
 pub row_front : (structs : List Structure) (t : CType) (xs ys : List Initial) (byte : ℕ) → HasRow structs (shape_of xs) byte t → HasRow structs (shape_of (xs ++ ys)) byte t
 row_front structs t xs ys byte h = record {
-  stands = record { there = h.stands.there; each = λ k slot e. type_front xs ys (byte + slot.offset) slot.type (h.stands.each k slot e); open_ended = refl };
+  stands = record { there = h.stands.there; each = λ k slot e. type_front xs ys (byte + slot.offset) slot.type (h.stands.each k slot e); open_ended = refl; unsealed = refl };
   room = omega (arith, h.room, strides_whole xs, strides_whole (xs ++ ys), size_append xs ys);
 }
 
@@ -65,11 +62,11 @@ type_behind (x ∷ xs) ys byte all =
     let wide : 0 < x.stride = omega arith in
     let same : x.stride + cells_size xs + byte ≡ x.stride + (cells_size xs + byte) = omega arith in
     ap (type_at (shape_of (x ∷ (xs ++ ys)))) same
-    ∙ (behind_cell x.type (shape_of (xs ++ ys)).types x.stride (shape_of (xs ++ ys)).strides false (cells_size xs + byte) wide ∙ type_behind xs ys byte all.1)
+    ∙ (behind_cell x.type (shape_of (xs ++ ys)).types x.stride (shape_of (xs ++ ys)).strides (cells_size xs + byte) wide ∙ type_behind xs ys byte all.1)
 
 pub row_behind : (structs : List Structure) (t : CType) (xs ys : List Initial) (byte : ℕ) → AllByRecursion IsRoomy xs → HasRow structs (shape_of ys) byte t → HasRow structs (shape_of (xs ++ ys)) (cells_size xs + byte) t
 row_behind structs t xs ys byte all h = record {
-  stands = record { there = h.stands.there; each = each; open_ended = refl };
+  stands = record { there = h.stands.there; each = each; open_ended = refl; unsealed = refl };
   room = omega (arith, h.room, strides_whole ys, strides_whole (xs ++ ys), size_append xs ys);
 }
   where

@@ -504,8 +504,8 @@ module _ (g : Frame) (types : List CType) (s : Scope) where
     name_fits at Nothing h = λ site. record { has_type = rules.word refl; is_number = λ x. refl; stands = tt; scalar = refl; node = tt }
 
   member_of : {p : core.Place} {n : ℕ} → HasPlace g types s p (Struct n) → (k offset : ℕ) (t : CType) (site : Site) → slice_get (slots g.structs (Struct n)) k ≡ Some (record { type = t; offset = offset }) → IsScalar t → HasPlace g types s (member_place p offset site) t
-  member_of {n = n} (rules.direct {offset = first} {cells = is} found row) k offset t site slot scalar =
-      rules.direct found (member_row g.structs (shape (object_block is)) n first k offset t scalar row slot)
+  member_of {n = n} (rules.direct {offset = first} {v = variable} found row) k offset t site slot scalar =
+      rules.direct found (member_row g.structs (shape (object_block variable)) n first k offset t scalar row slot)
   member_of (rules.pointed {e = e} h) k offset t site slot scalar =
       let place : offset ≡ 0 + offset = omega arith in
       let here : HasPlace g types s (core.Through e core.First offset site) t = rules.member k h slot scalar in

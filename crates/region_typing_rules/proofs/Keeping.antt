@@ -19,10 +19,10 @@ use Rattle.ckc_core.specs.declared.program.Direction.TheVariants as directions
 use Rattle.ckc_core.specs.declared.program.PointerBounds.{PointerBounds}
 use Rattle.ckc_core.specs.Bounds.{Ends as EndsOf, ends_at, Pointed, with_ends, is_valid}
 use Rattle.ckc_core.specs.Core as core
-use Rattle.ckc_core.specs.States.{Value, Number, Null, At, Cell, Block, Local, State, Grows, shapes, shape, in_world, cell_at, same_type}
+use Rattle.ckc_core.specs.States.{Value, Number, Null, At, Cell, Local, State, Grows, shapes, shape, in_world, cell_at, same_type}
 use Rattle.ckc_core.specs.Steps.{variable_if, Result, given, checked, value_if, value_in, load_at, place_if, pointer_to, truth, same_place, test_given, result_of, arithmetic_of, compared, negated, complemented, low_byte_of, asked, words_of, reply_as, passed, cross, cross_if, call_tainted, takes, enter_if, called, result_given, choose, back, place_at}
 use Rattle.ckc_core.specs.Meaning.{Knot, bounds_of, Setting, audit, cast_to, cast_if, cast_within, element, element_within, number_of, place, Target, reached, site_of, sound_if, summed, value, values}
-use Rattle.ckc_core.specs.Pointers.{cells_of_elements, number_given, checked_if, distance, lies_below, lies_up_to, are_within, cell_behind, reaches, pointer_if, pointer_at, ordered_if, ordered, not_null, counter_behind, element_size, made_if, allocated}
+use Rattle.ckc_core.specs.Pointers.{new_block, number_given, checked_if, distance, lies_below, lies_up_to, are_within, cell_behind, reaches, pointer_if, pointer_at, ordered_if, ordered, not_null, counter_behind, element_size, made_if, allocated}
 use Rattle.ckc_text.specs.declared.code.Code.{Code}
 use Rattle.ckc_text.specs.declared.code.Code.TheVariants.{C2, C5}
 use Rattle.std.proofs.lemmas.List.{map-append}
@@ -171,9 +171,6 @@ module _ (r : State) (s : State) (kept : IsAfter r s) where
   made_keeps_if true n element = kept
   made_keeps_if false n element =
       (grows_on (shapes r.blocks) (shapes s.blocks) _ kept.0 (shape (new_block n element) ∷ [], map-append shape s.blocks (new_block n element ∷ [])), kept.1)
-    where
-      new_block : ℕ → List Initial → Block
-      new_block n element = record { cells = cells_of_elements n element; zero_ended = false }
 
   pub allocated_keeps : (size : ℕ) (element : List Initial) (z : ℤ) → Keeps r (allocated size element z s)
   allocated_keeps size element (negsuc n) = kept

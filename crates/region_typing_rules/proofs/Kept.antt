@@ -9,7 +9,7 @@ use Rattle.ckc_tree.specs.Items as i
 use Rattle.ckc_tree.specs.Items.{Item}
 use Rattle.pointer_modes.specs.Types as types
 use Rattle.pointer_modes.specs.Types.{CType}
-use Rattle.ckc_core.specs.Programs.{Initial}
+use Rattle.ckc_core.specs.Programs.{Initial, open_variable}
 use Rattle.region_typing_rules.specs.Verdicts.{Verdict, Passes, Stops, passing, needs, breaks, picked}
 use Rattle.region_typing_rules.specs.Scopes.{Scope, Signature, WrittenBounds, function_named}
 use Rattle.region_typing_rules.specs.Expressions.{Places, is_tainted}
@@ -73,13 +73,13 @@ module _ (P : List Signature → List Defined → Type 0) where
       variables_kept at (with_one w d taken t) base type span ds (done ++ record { type = t; length = length_of d; initial = initial } ∷ []) h)))
 
   abbrev behind_cells : Walk → Span → List WalkedVariable → List Initial → Verdict Walk
-  behind_cells w span vs cells = needs (nat_lt 0 (length cells)) E10 span (with_objects (record w { objects = w.objects ++ cells ∷ [] }) span vs)
+  behind_cells w span vs cells = needs (nat_lt 0 (length cells)) E10 span (with_objects (record w { objects = w.objects ++ open_variable cells ∷ [] }) span vs)
 
   objects_kept : (w : Walk) (span : Span) (vs : List WalkedVariable) → Keeps w → Promises Keeps (with_objects w span vs)
   objects_kept w span [] h = h
   objects_kept w span (v ∷ vs) h =
       passing_any Keeps (object_cells w.scope.given w.scope.structs v.type v.length v.initial span) (behind_cells w span vs) (λ cells.
-      needs_promises Keeps (nat_lt 0 (length cells)) E10 span (with_objects (record w { objects = w.objects ++ cells ∷ [] }) span vs) (λ e. objects_kept (record w { objects = w.objects ++ cells ∷ [] }) span vs h))
+      needs_promises Keeps (nat_lt 0 (length cells)) E10 span (with_objects (record w { objects = w.objects ++ open_variable cells ∷ [] }) span vs) (λ e. objects_kept (record w { objects = w.objects ++ open_variable cells ∷ [] }) span vs h))
 
   abbrev behind_objects : i.Global → Walk → Verdict Walk
   behind_objects g v = in_checked_region v.scope g.span v

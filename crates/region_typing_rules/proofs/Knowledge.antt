@@ -13,7 +13,7 @@ use Rattle.bounds_flow.specs.Conditions.{IsFlow}
 use Rattle.bounds_flow.specs.Flows.{held_at}
 use Rattle.pointer_modes.specs.Layout.{placed_from, member_sizes, sizes_of, end_from, size_of, cells_of, aligned_up, scalar_size}
 use Rattle.pointer_modes.proofs.Layouts.{widths, size_behind}
-use Rattle.ckc_core.specs.Programs.{Initial, Import}
+use Rattle.ckc_core.specs.Programs.{Import, Variable}
 use Rattle.ckc_core.specs.Core as core
 use Rattle.ckc_core.specs.States.{shape, object_block}
 use Rattle.region_typing_rules.specs.Verdicts.{Verdict, meant, picked}
@@ -54,17 +54,17 @@ pub record IsTainted (g : Frame) (number : ℕ) (f : Signature) : Type 0 where
 
 -- a variable of the program, and what stands at its first byte
 pub record IsObject (g : Frame) (type : CType) (number : ℕ) : Type 0 where
-  pub cells : List Initial
-  pub found : slice_get g.program.objects number ≡ Some cells
-  pub row : HasRow g.structs (shape (object_block cells)) 0 type
+  pub variable : Variable
+  pub found : slice_get g.program.objects number ≡ Some variable
+  pub row : HasRow g.structs (shape (object_block variable)) 0 type
 
 -- an array of the program, and as many values of its type in a row
 pub record IsArray (g : Frame) (type : CType) (length number : ℕ) : Type 0 where
-  pub cells : List Initial
-  pub found : slice_get g.program.objects number ≡ Some cells
+  pub variable : Variable
+  pub found : slice_get g.program.objects number ≡ Some variable
   pub some : 0 < length
   pub few : length ≤ 8192
-  pub rows : AreRows g.structs (shape (object_block cells)) type length
+  pub rows : AreRows g.structs (shape (object_block variable)) type length
 
 -- a file-level variable of a type, and of so many elements where it is an array
 abbrev pub IsVariable : Frame → CType → Option ℕ → (number : ℕ) → Type 0

@@ -14,7 +14,7 @@ use Rattle.ckc_tree.specs.Expressions as e
 use Rattle.ckc_tree.specs.Expressions.{Expression}
 use Rattle.pointer_modes.specs.Types.{CType, Int, Char, Struct, Pointer, Member, Structure, members_of}
 use Rattle.pointer_modes.specs.Layout.{placed_from, member_sizes, size_of, aligned_up, scalar_size, end_from, largest_of}
-use Rattle.ckc_core.specs.Programs.{Initial}
+use Rattle.ckc_core.specs.Programs.{Initial, open_variable}
 use Rattle.ckc_core.specs.States.{Shape, number_at, shape, type_at, initial_value, object_block}
 use Rattle.ckc_core.specs.States as states
 use Rattle.ckc_core.specs.Steps.{low_byte}
@@ -96,9 +96,17 @@ scalar_width Char = inl refl
 scalar_width (Struct n) = inr refl
 scalar_width (Pointer m k t) = inr refl
 
+-- the shape of a block that no zero ends, and that pointers may lead to
+abbrev pub open_shape : List CType → List ℕ → Shape
+open_shape types strides = record { types = types; strides = strides; zero_ended = false; is_sealed = false }
+
+-- that of a variable with these cells
+abbrev pub shape_of : List Initial → Shape
+shape_of cells = shape (object_block (open_variable cells))
+
 -- behind a cell that takes bytes the others stand as they do without it
-pub behind_cell : (t : CType) (types : List CType) (stride : ℕ) (strides : List ℕ) (zero_ended : Bool) (byte : ℕ) → 0 < stride → type_at (record { types = t ∷ types; strides = stride ∷ strides; zero_ended = zero_ended }) (stride + byte) ≡ type_at (record { types = types; strides = strides; zero_ended = zero_ended }) byte
-behind_cell t types stride strides zero_ended byte wide =
+pub behind_cell : (t : CType) (types : List CType) (stride : ℕ) (strides : List ℕ) (byte : ℕ) → 0 < stride → type_at (open_shape (t ∷ types) (stride ∷ strides)) (stride + byte) ≡ type_at (open_shape types strides) byte
+behind_cell t types stride strides byte wide =
     let not_first : (stride + byte == 0) ≡ false = grind (arith, nat_tests) in
     let not_inside : nat_lt (stride + byte) stride ≡ false = grind (arith, nat_tests) in
     let rest : stride + byte - stride ≡ byte = omega arith in
@@ -118,7 +126,7 @@ cells_from number place members end = numbered_cells number (types_of members) (
 -- the byte of a slot's cell, from the first cell on
 record HasSlot (cells : List Initial) (first : ℕ) (slot : Slot) : Type 0 where
   byte : ℕ
-  typed : type_at (shape (object_block cells)) byte ≡ Some slot.type
+  typed : type_at (shape_of cells) byte ≡ Some slot.type
   place : byte + first ≡ slot.offset
 
 slot_stands : (number : ℤ) (members : List Member) (place end k : ℕ) (slot : Slot) → slice_get (slots_from members (placed_from place (member_sizes members))) k ≡ Some slot → HasSlot (cells_from number place members end) (offset_among (placed_from place (member_sizes members)) 0) slot
@@ -140,25 +148,25 @@ slot_stands number (m ∷ next ∷ members) place end (suc k) slot h =
     let width = scalar_width m.ctype in
     let wide : 0 < stride = omega arith in
     let there = rest.place in
-    record { byte = stride + rest.byte; typed = behind_cell m.ctype _ stride _ false rest.byte wide ∙ rest.typed; place = omega arith }
+    record { byte = stride + rest.byte; typed = behind_cell m.ctype _ stride _ rest.byte wide ∙ rest.typed; place = omega arith }
 
-members_stand : (members : List Member) (number : ℤ) (end : ℕ) → 0 < length (cells_from number 0 members end) → Stands (shape (object_block (cells_from number 0 members end))) 0 (slots_from members (placed_from 0 (member_sizes members)))
+members_stand : (members : List Member) (number : ℤ) (end : ℕ) → 0 < length (cells_from number 0 members end) → Stands (shape_of (cells_from number 0 members end)) 0 (slots_from members (placed_from 0 (member_sizes members)))
 members_stand [] number end some = absurd (omega arith)
-members_stand (m ∷ members) number end some = record { there = omega arith; each = each; open_ended = refl }
+members_stand (m ∷ members) number end some = record { there = omega arith; each = each; open_ended = refl; unsealed = refl }
   where
-    each : (k : ℕ) (slot : Slot) → slice_get (slots_from (m ∷ members) (placed_from 0 (member_sizes (m ∷ members)))) k ≡ Some slot → type_at (shape (object_block (cells_from number 0 (m ∷ members) end))) (0 + slot.offset) ≡ Some slot.type
+    each : (k : ℕ) (slot : Slot) → slice_get (slots_from (m ∷ members) (placed_from 0 (member_sizes (m ∷ members)))) k ≡ Some slot → type_at (shape_of (cells_from number 0 (m ∷ members) end)) (0 + slot.offset) ≡ Some slot.type
     each k slot h =
         let here = slot_stands number (m ∷ members) 0 end k slot h in
         let zeroth = first_at_zero m.ctype in
         let place = here.place in
         let at : here.byte ≡ 0 + slot.offset = omega arith in
-        subst (λ b. type_at (shape (object_block (cells_from number 0 (m ∷ members) end))) b ≡ Some slot.type) at here.typed
+        subst (λ b. type_at (shape_of (cells_from number 0 (m ∷ members) end)) b ≡ Some slot.type) at here.typed
 
 -- the cells of a variable, where there are some
-cells_stand : (structs : List Structure) (t : CType) (number : ℤ) → 0 < length (cells_with structs t number) → Stands (shape (object_block (cells_with structs t number))) 0 (slots structs t)
-cells_stand structs Int number some = scalar_stands structs (shape (object_block (cells_with structs Int number))) 0 Int refl refl refl
-cells_stand structs Char number some = scalar_stands structs (shape (object_block (cells_with structs Char number))) 0 Char refl refl refl
-cells_stand structs (Pointer m k t) number some = scalar_stands structs (shape (object_block (cells_with structs (Pointer m k t) number))) 0 (Pointer m k t) refl refl refl
+cells_stand : (structs : List Structure) (t : CType) (number : ℤ) → 0 < length (cells_with structs t number) → Stands (shape_of (cells_with structs t number)) 0 (slots structs t)
+cells_stand structs Int number some = scalar_stands structs (shape_of (cells_with structs Int number)) 0 Int refl refl refl refl
+cells_stand structs Char number some = scalar_stands structs (shape_of (cells_with structs Char number)) 0 Char refl refl refl refl
+cells_stand structs (Pointer m k t) number some = scalar_stands structs (shape_of (cells_with structs (Pointer m k t) number)) 0 (Pointer m k t) refl refl refl refl
 cells_stand structs (Struct n) number some = members_stand (members_of structs n) number (size_of structs (Struct n)) some
 
 -- ---- values before the run
@@ -231,11 +239,11 @@ whole_size structs (Pointer m k t) number some = refl
 whole_size structs (Struct n) number some = members_size number (members_of structs n) (size_of structs (Struct n)) (struct_wide (members_of structs n)) some
 
 -- they stand in their own room
-pub strides_whole : (cells : List Initial) → sum (shape (object_block cells)).strides ≡ cells_size cells
+pub strides_whole : (cells : List Initial) → sum (shape_of cells).strides ≡ cells_size cells
 strides_whole [] = refl
-strides_whole (i ∷ cells) = sum_by-cons (λ (n : ℕ). n) i.stride (shape (object_block cells)).strides ∙ ap (λ n. i.stride + n) (strides_whole cells)
+strides_whole (i ∷ cells) = sum_by-cons (λ (n : ℕ). n) i.stride (shape_of cells).strides ∙ ap (λ n. i.stride + n) (strides_whole cells)
 
-pub cells_row : (structs : List Structure) (t : CType) (number : ℤ) → 0 < length (cells_with structs t number) → HasRow structs (shape (object_block (cells_with structs t number))) 0 t
+pub cells_row : (structs : List Structure) (t : CType) (number : ℤ) → 0 < length (cells_with structs t number) → HasRow structs (shape_of (cells_with structs t number)) 0 t
 cells_row structs t number some = record { stands = cells_stand structs t number some; room = omega (arith, strides_whole (cells_with structs t number), whole_size structs t number some) }
 
 all_roomy : (structs : List Structure) (t : CType) (number : ℤ) → AllByRecursion HasRoom (cells_with structs t number)

@@ -112,7 +112,7 @@ put_shape b None v = refl
 put_shape b (Some n) v = by (slice_get b.cells n) refl
   where
     made : List CType → List ℕ → Shape
-    made types bytes = record { types = types; strides = bytes; zero_ended = b.zero_ended }
+    made types bytes = record { types = types; strides = bytes; zero_ended = b.zero_ended; is_sealed = b.is_sealed }
 
     by : (o : Option Cell) → slice_get b.cells n ≡ o → shape (record b { cells = with_value b.cells (Some n) v }) ≡ shape b
     by None e = rw e refl

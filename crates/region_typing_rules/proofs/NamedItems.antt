@@ -27,7 +27,7 @@ use Rattle.ckc_names_rules.specs.Naming.{has_main, naming_fault_in, naming_fault
 use Rattle.flat_bytes.specs.Blocks.{rounded_up}
 use Rattle.pointer_modes.specs.Types as types
 use Rattle.pointer_modes.specs.Types.{CType, Int, Char, Struct, Pointer, Structure}
-use Rattle.ckc_core.specs.Programs.{Initial}
+use Rattle.ckc_core.specs.Programs.{Initial, open_variable}
 use Rattle.ckc_core.specs.Core as core
 use Rattle.region_typing_rules.specs.Verdicts.{Verdict, Passes, Stops, Broken, Nameless, Unnamed, passing, needs, meant, picked}
 use Rattle.region_typing_rules.specs.Scopes.{Scope, Signature, FileVariable, found_if, object_of, object_named, function_named, struct_named}
@@ -222,7 +222,7 @@ objects_named : (w : Walk) (span : Span) (vs : List WalkedVariable) → IsNamed 
 objects_named w span [] = refl
 objects_named w span (v ∷ vs) =
     then_named (λ (x : Walk). x.scope ≡ w.scope) (object_cells w.scope.given w.scope.structs v.type v.length v.initial span) _ (cells_named w.scope.given w.scope.structs v.type v.length v.initial span)
-    (λ cells. needs_named (λ (x : Walk). x.scope ≡ w.scope) (nat_lt 0 (length cells)) E10 span _ (objects_named (record w { objects = w.objects ++ cells ∷ [] }) span vs))
+    (λ cells. needs_named (λ (x : Walk). x.scope ≡ w.scope) (nat_lt 0 (length cells)) E10 span _ (objects_named (record w { objects = w.objects ++ open_variable cells ∷ [] }) span vs))
 
 variables_named : (of : Numbers) (at : Places) (ds : List Declarator) (n m : Scopes) (w : Walk) (base : TypeTree) (type : CType) (span : Span) (done : List WalkedVariable) → File of n w → HasTags n.tags base → list_all built_variable ds ≡ true
     → all_mentioned (flat_map declarator_mentions ds) n ≡ Ok m → IsNamed (λ (r : Walk × List WalkedVariable). File of m r.0) (variables at w (number_type of base) type span (map (number_declarator of) ds) done)

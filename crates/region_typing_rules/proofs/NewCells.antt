@@ -1,19 +1,19 @@
 -- The cells of an element in new memory: they begin with zeros, and elements of them hold a value each of the element's type.
-use Rattle.std.proofs.Common.{◌≡◌, ℕ, zero, suc, ◌+◌, ◌*◌, ◌<◌, false, pos, List, [], ◌∷◌, ◌++◌, map, length, refl, sym, ap, ◌∙◌, subst, append_assoc, arith}
+use Rattle.std.proofs.Common.{◌≡◌, ℕ, zero, suc, ◌+◌, ◌*◌, ◌<◌, pos, List, [], ◌∷◌, ◌++◌, map, length, refl, sym, ap, ◌∙◌, subst, append_assoc, arith}
 use Rattle.std.specs.List.{AllByRecursion}
 use Rattle.std.proofs.lemmas.List.Sums.{sum_by-cons}
 use Rattle.pointer_modes.specs.Types.{CType, Int, Char, Struct, Pointer, Member, Structure, members_of}
 use Rattle.pointer_modes.specs.Layout.{size_of}
 use Rattle.ckc_core.specs.Programs.{Initial}
-use Rattle.ckc_core.specs.States.{Cell, shape, strides}
+use Rattle.ckc_core.specs.States.{Cell, strides}
 use Rattle.ckc_core.specs.Pointers.{element_size, element_cells, cells_of_elements}
 use Rattle.bounds_flow_meaning.specs.Rows.{HasRow, AreCellsOf}
 use Rattle.region_typing_rules.specs.Cells.{cells_with}
 use Rattle.region_typing_rules.specs.Typed.{IsScalar, IsInitial}
 use Rattle.region_typing_rules.specs.Lowerable.{cells_size, IsRoomy}
 use Rattle.region_typing_rules.proofs.Verdicts.{Extends}
-use Rattle.region_typing_rules.proofs.Layouts.{IsStart, bytes_kept, row_kept, cells_row, whole_size, zero_cells}
-use Rattle.region_typing_rules.proofs.Copies.{shape_of, size_append, row_front, row_behind, all_beside}
+use Rattle.region_typing_rules.proofs.Layouts.{IsStart, open_shape, shape_of, bytes_kept, row_kept, cells_row, whole_size, zero_cells}
+use Rattle.region_typing_rules.proofs.Copies.{size_append, row_front, row_behind, all_beside}
 
 -- ---- cells of a block, and those before a run that stand as they do
 
@@ -46,10 +46,10 @@ elements_alike zero element cells initials h = h
 elements_alike (suc n) element cells initials h =
     rw (append_assoc, append_assoc) (element_alike element (cells_of_elements n element ++ cells) (repeated n element ++ initials) (elements_alike n element cells initials h))
 
-alike_row : (structs : List Structure) (t : CType) (byte : ℕ) (cells : List Cell) (initials : List Initial) → StandAlike cells initials → HasRow structs (shape_of initials) byte t → HasRow structs (shape (record { cells = cells; zero_ended = false })) byte t
+alike_row : (structs : List Structure) (t : CType) (byte : ℕ) (cells : List Cell) (initials : List Initial) → StandAlike cells initials → HasRow structs (shape_of initials) byte t → HasRow structs (open_shape (map (λ (c : Cell). c.type) cells) (strides cells)) byte t
 alike_row structs t byte cells initials alike h =
-    let by_types = subst (λ (ts : List CType). HasRow structs (record { types = ts; strides = (shape_of initials).strides; zero_ended = false }) byte t) (sym alike.types) h in
-    subst (λ (ss : List ℕ). HasRow structs (record { types = map (λ (c : Cell). c.type) cells; strides = ss; zero_ended = false }) byte t) (sym alike.strides) by_types
+    let by_types = subst (λ (ts : List CType). HasRow structs (open_shape ts (shape_of initials).strides) byte t) (sym alike.types) h in
+    subst (λ (ss : List ℕ). HasRow structs (open_shape (map (λ (c : Cell). c.type) cells) ss) byte t) (sym alike.strides) by_types
 
 -- ---- sizes
 

@@ -14,7 +14,7 @@ use Rattle.ckc_names_rules.specs.declared.given.Given.{Given}
 use Rattle.flat_bytes.specs.Blocks.{rounded_up}
 use Rattle.pointer_modes.specs.Layout.{size_of}
 use Rattle.pointer_modes.specs.Types.{CType, Int, Char, Struct, Pointer, Member, Structure}
-use Rattle.ckc_core.specs.Programs.{Initial}
+use Rattle.ckc_core.specs.Programs.{Initial, Variable, open_variable}
 use Rattle.region_typing_rules.specs.Verdicts.{Verdict, Passes, Stops, passing, meant, needs}
 use Rattle.region_typing_rules.specs.Scopes.{Scope, struct_named, FileVariable}
 use Rattle.region_typing_rules.specs.Types.{base_type, without_stars, type_named}
@@ -161,9 +161,9 @@ module _ (height : ℕ) where
   waiting_more structs [] v = omega arith
   waiting_more structs (u ∷ vs) v = omega (arith, waiting_more structs vs v)
 
-  objects_more : (objects : List (List Initial)) (cells : List Initial) → objects_size (objects ++ cells ∷ []) ≡ objects_size objects + (rounded_up (cells_size cells) + 16)
-  objects_more [] cells = omega arith
-  objects_more (o ∷ objects) cells = omega (arith, objects_more objects cells)
+  objects_more : (objects : List Variable) (new : Variable) → objects_size (objects ++ new ∷ []) ≡ objects_size objects + (rounded_up (cells_size new.cells) + 16)
+  objects_more [] new = omega arith
+  objects_more (o ∷ objects) new = omega (arith, objects_more objects new)
 
   -- a walk in which some variables wait
   record Waits (a : Walk) (x : Walk × List WalkedVariable) : Type 0 where
@@ -278,24 +278,24 @@ module _ (height : ℕ) where
       (sized_later w.scope d.name.number t (length_of d) base type sized)
       (with_variable_waits a w walked d.name.number t (length_of d) initial taken (subst (IsKnown w.scope.structs) (sym plain.1) known) room.some room.few (taken_by w base type t d taken sized room plain.0 plain.1) room.within h is))))
 
-  settled_append : (structs : List Structure) (vs : List FileVariable) (objects : List (List Initial)) (v : FileVariable) (cells : List Initial) → AreSettled structs vs objects → IsSettled structs v cells → AreSettled structs (vs ++ v ∷ []) (objects ++ cells ∷ [])
-  settled_append structs [] [] v cells h is = (is, tt)
-  settled_append structs [] (o ∷ objects) v cells h is = absurd h
-  settled_append structs (u ∷ vs) [] v cells h is = absurd h
-  settled_append structs (u ∷ vs) (o ∷ objects) v cells h is = (h.0, settled_append structs vs objects v cells h.1 is)
+  settled_append : (structs : List Structure) (vs : List FileVariable) (objects : List Variable) (v : FileVariable) (new : Variable) → AreSettled structs vs objects → IsSettled structs v new → AreSettled structs (vs ++ v ∷ []) (objects ++ new ∷ [])
+  settled_append structs [] [] v new h is = (is, tt)
+  settled_append structs [] (o ∷ objects) v new h is = absurd h
+  settled_append structs (u ∷ vs) [] v new h is = absurd h
+  settled_append structs (u ∷ vs) (o ∷ objects) v new h is = (h.0, settled_append structs vs objects v new h.1 is)
 
   -- the cells of the first one that waits
-  with_cells : (a w : Walk) (x : WalkedVariable) (walked : List WalkedVariable) (cells : List Initial) → Waits a (w, x ∷ walked) → Copies w.scope.structs x.type (count_of x.length) cells → 0 < length cells → Waits a (record w { objects = w.objects ++ cells ∷ [] }, walked)
+  with_cells : (a w : Walk) (x : WalkedVariable) (walked : List WalkedVariable) (cells : List Initial) → Waits a (w, x ∷ walked) → Copies w.scope.structs x.type (count_of x.length) cells → 0 < length cells → Waits a (record w { objects = w.objects ++ open_variable cells ∷ [] }, walked)
   with_cells a w x walked cells h copies some = by h.waiting_ones h.all h.waiting h.bytes
     where
       -- as many values as the variable has
       copies_of : (v : FileVariable) → IsWaiting v x → Copies w.scope.structs v.type (count_of v.length) cells
       copies_of v is = subst (λ t. Copies w.scope.structs t (count_of v.length) cells) (sym is.type) (subst (λ o. Copies w.scope.structs x.type (count_of o) cells) (sym is.length) copies)
 
-      taken : (v : FileVariable) → IsWaiting v x → objects_size (w.objects ++ cells ∷ []) ≡ objects_size w.objects + gapped w.scope.structs v.type v.length
-      taken v is = objects_more w.objects cells ∙ ap (λ n. objects_size w.objects + (rounded_up n + 16)) (copies_size w.scope.structs v.type (count_of v.length) cells (copies_of v is) some)
+      taken : (v : FileVariable) → IsWaiting v x → objects_size (w.objects ++ open_variable cells ∷ []) ≡ objects_size w.objects + gapped w.scope.structs v.type v.length
+      taken v is = objects_more w.objects (open_variable cells) ∙ ap (λ n. objects_size w.objects + (rounded_up n + 16)) (copies_size w.scope.structs v.type (count_of v.length) cells (copies_of v is) some)
 
-      by : (vs : List FileVariable) → w.scope.variables ≡ h.settled_ones ++ vs → AreWaiting vs (x ∷ walked) → objects_size w.objects + waiting_size w.scope.structs vs ≤ w.taken → Waits a (record w { objects = w.objects ++ cells ∷ [] }, walked)
+      by : (vs : List FileVariable) → w.scope.variables ≡ h.settled_ones ++ vs → AreWaiting vs (x ∷ walked) → objects_size w.objects + waiting_size w.scope.structs vs ≤ w.taken → Waits a (record w { objects = w.objects ++ open_variable cells ∷ [] }, walked)
       by [] all waiting bytes = absurd waiting
       by (v ∷ vs) all waiting bytes =
           let here = copies_of v waiting.0 in
@@ -307,15 +307,15 @@ module _ (height : ℕ) where
               closed = h.well.closed;
               few = h.well.few;
               scalars = h.well.scalars;
-              start = all_append (AllByRecursion IsStart) w.objects cells h.well.start (copies_start w.scope.structs v.type (count_of v.length) cells here);
+              start = all_append (λ (o : Variable). AllByRecursion IsStart o.cells) w.objects (open_variable cells) h.well.start (copies_start w.scope.structs v.type (count_of v.length) cells here);
               declared = h.well.declared;
               named = h.well.named;
               bodies = h.well.bodies;
-              roomy = all_append (λ (o : List Initial). AllByRecursion IsRoomy o × (0 < length o)) w.objects cells h.well.roomy (copies_roomy w.scope.structs v.type (count_of v.length) cells here, some);
+              roomy = all_append (λ (o : Variable). AllByRecursion IsRoomy o.cells × (0 < length o.cells)) w.objects (open_variable cells) h.well.roomy (copies_roomy w.scope.structs v.type (count_of v.length) cells here, some);
               bytes = omega (arith, bytes, taken v waiting.0);
               room = h.well.room;
             };
-            settled = settled_append w.scope.structs h.settled_ones w.objects v cells h.settled (record { some = waiting.0.some; few = waiting.0.few; rows = copies_rows w.scope.structs v.type (count_of v.length) cells here some });
+            settled = settled_append w.scope.structs h.settled_ones w.objects v (open_variable cells) h.settled (record { some = waiting.0.some; few = waiting.0.few; rows = copies_rows w.scope.structs v.type (count_of v.length) cells here some });
             waiting = waiting.1;
             grows = h.grows;
             bytes = omega (arith, bytes, taken v waiting.0);
@@ -337,7 +337,7 @@ module _ (height : ℕ) where
       passing_promises (Copies w.scope.structs x.type (count_of x.length)) (Follows a) (object_cells w.scope.given w.scope.structs x.type x.length x.initial span) _
       (object_promises w.scope.structs h.well.scalars w.scope.given x.type x.length x.initial span (first_walked h.waiting_ones h.waiting))
       (λ cells copies. needs_promises (Follows a) (nat_lt 0 (length cells)) E10 span _
-      (λ some. with_objects_promises a (record w { objects = w.objects ++ cells ∷ [] }) span walked (with_cells a w x walked cells h copies (ltb-true 0 (length cells) some))))
+      (λ some. with_objects_promises a (record w { objects = w.objects ++ open_variable cells ∷ [] }) span walked (with_cells a w x walked cells h copies (ltb-true 0 (length cells) some))))
     where
       first_walked : (vs : List FileVariable) → AreWaiting vs (x ∷ walked) → IsWalked x.initial
       first_walked [] waiting = absurd waiting

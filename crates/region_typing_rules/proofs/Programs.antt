@@ -16,7 +16,7 @@ use Rattle.act_words.specs.Touches.{Crossed, until_return}
 use Rattle.pointer_modes.specs.Types.{CType, Int, Char, Struct, Pointer, Structure}
 use Rattle.ckc_core.specs.Core as core
 use Rattle.ckc_core.specs.States.{Value, Number, Null, At, Local, Grows, Shape, State, initial_value, object_block, shapes}
-use Rattle.ckc_core.specs.Programs.{Initial, parted}
+use Rattle.ckc_core.specs.Programs.{Initial, Variable, open_variable, parted}
 use Rattle.ckc_core.specs.Audits.{Agrees}
 use Rattle.ckc_core.specs.Steps.{Result, crossed, Flow, Next, Broke, Continued, Returned, parameters_of, fits_result, answer_if, answer, default_result, locals_for, back, exit, initial}
 use Rattle.ckc_core.specs.Meaning.{Setting, knot, body_if, body_of, effects, meaning, audited_meaning}
@@ -247,13 +247,13 @@ module _ (g : Frame) (budget : ℕ) where
 
 -- the variables before the run, among blocks of any shapes
 module _ (structs : List Structure) (b : List Shape) where
-  start_cells : (is : List Initial) → AllByRecursion (IsInitial structs) is → HoldsValues structs b (object_block is)
+  start_cells : (is : List Initial) → AllByRecursion (IsInitial structs) is → HoldsValues structs b (object_block (open_variable is))
   start_cells [] all = tt
   start_cells (i ∷ is) all = (value_grown structs [] b (b, refl) i.type (initial_value i.type i.number) all.0, start_cells is all.1)
 
-  start_blocks : (objects : List (List Initial)) → AllByRecursion (AllByRecursion (IsInitial structs)) objects → AllByRecursion (HoldsValues structs b) (map object_block objects)
+  start_blocks : (objects : List Variable) → AllByRecursion (λ (v : Variable). AllByRecursion (IsInitial structs) v.cells) objects → AllByRecursion (HoldsValues structs b) (map object_block objects)
   start_blocks [] all = tt
-  start_blocks (is ∷ objects) all = (start_cells is all.0, start_blocks objects all.1)
+  start_blocks (v ∷ objects) all = (start_cells v.cells all.0, start_blocks objects all.1)
 
 nothing_there : (x : ℕ) (c : CType) → slice_get [] x ≡ Some c → ⊥
 nothing_there x c h = absurd (cc)

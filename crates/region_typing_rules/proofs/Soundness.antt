@@ -30,15 +30,15 @@ use Rattle.pointer_modes.specs.declared.ctype.Kind.{Kind}
 use Rattle.pointer_modes.specs.declared.ctype.Kind.TheVariants as kinds
 use Rattle.pointer_modes.specs.Types.{CType, Int, Char, Struct, Pointer, Structure}
 use Rattle.ckc_core.specs.Core as core
-use Rattle.ckc_core.specs.States.{Value, Number, Null, At, Block, Cell, Local, cell_at, Shape, Grows, State, in_world, shape, shapes, stored, same_type, has_type, object_block}
+use Rattle.ckc_core.specs.States.{Value, Number, Null, At, Cell, Local, cell_at, Shape, Grows, State, in_world, shape, shapes, stored, same_type, has_type, object_block}
 use Rattle.ckc_core.specs.declared.program.PointerBounds.{PointerBounds}
-use Rattle.ckc_core.specs.Programs.{Import, Initial}
+use Rattle.ckc_core.specs.Programs.{Import, Initial, Variable}
 use Rattle.ckc_core.specs.declared.program.Direction.{Direction}
 use Rattle.ckc_core.specs.declared.program.Direction.TheVariants as directions
 use Rattle.bounds_exprs.specs.declared.term.Bounds.{Bounds}
 use Rattle.ckc_core.specs.Bounds.{Ends as EndsOf, Pointed, base_byte, ends_at, term_value, with_ends}
 use Rattle.flat_bytes.specs.Blocks.{first_offset, is_refused}
-use Rattle.ckc_core.specs.Pointers.{allocated, are_within, cells_of_elements, counter_behind, element_size, made_if, not_null, ordered, ordered_if, number_given, checked_if, distance, lies_below, lies_up_to, cell_behind, pointer_at, pointer_if}
+use Rattle.ckc_core.specs.Pointers.{allocated, are_within, new_block, counter_behind, element_size, made_if, not_null, ordered, ordered_if, number_given, checked_if, distance, lies_below, lies_up_to, cell_behind, pointer_at, pointer_if}
 use Rattle.ckc_core.specs.Steps.{Result, Flow, locals_for, Next, Broke, Continued, Returned, given, checked, value_if, value_in, place_if, place_at, variable_if, variable_at, load_at, pointer_to, truth, number_of_test, same_place, test_given, result_of, arithmetic_of, compared, negated, complemented, low_byte_of, asked, words_of, reply_as, back, passed, cross, cross_if, call_tainted, takes, parameters_of, enter_if, call_trusted, result_given, choose, leaves_zero, store_if, store_over, store_at, set_if, set_over, set_local, kept_if, is_char, printed, put, no_result, called}
 use Rattle.ckc_core.specs.Meaning.{Knot, Setting, audit, bounds_of, cast_if, cast_to, cast_within, site_of, Target, element, element_within, summed, without_ends, value, values, place, target_of, sound_if, effect}
 use Rattle.region_typing_rules.specs.Types.{is_number}
@@ -390,13 +390,13 @@ module _ (g : Frame) (budget n : ℕ) where
         let c = some_cell g.structs s.blocks t block byte place in
         subst (λ o. Goes low types s (IsPlaced g t) (place_if o site block byte s)) (sym c.1) (place, after_here s, kept)
 
-    pub direct_goes : (s : State) (t : CType) (object offset : ℕ) (is : List Initial) → slice_get g.program.objects object ≡ Some is → HasRow g.structs (shape (object_block is)) offset t → IsKept low types s
+    pub direct_goes : (s : State) (t : CType) (object offset : ℕ) (variable : Variable) → slice_get g.program.objects object ≡ Some variable → HasRow g.structs (shape (object_block variable)) offset t → IsKept low types s
         → Goes low types s (IsPlaced g t) (place_at None object offset s)
-    direct_goes s t object offset is found row kept =
+    direct_goes s t object offset variable found row kept =
         let blocks = map object_block g.program.objects in
         let start : IsPlace g.structs (shapes blocks) t object offset = record {
-          shape = shape (object_block is);
-          found = mapped_there shape blocks object (object_block is) (mapped_there object_block g.program.objects object is found);
+          shape = shape (object_block variable);
+          found = mapped_there shape blocks object (object_block variable) (mapped_there object_block g.program.objects object variable found);
           row = row;
         } in
         placed_goes s None t object offset (place_grown g.structs (shapes blocks) (shaped s) kept.grown t object offset start) kept
@@ -406,12 +406,12 @@ module _ (g : Frame) (budget n : ℕ) where
     variable_goes_if false e s t object offset h = absurd (cc)
 
     -- a place in a variable of the program
-    pub variable_goes : (s : State) (t : CType) (object offset : ℕ) (is : List Initial) → slice_get g.program.objects object ≡ Some is → HasRow g.structs (shape (object_block is)) offset t → IsKept low types s
+    pub variable_goes : (s : State) (t : CType) (object offset : ℕ) (variable : Variable) → slice_get g.program.objects object ≡ Some variable → HasRow g.structs (shape (object_block variable)) offset t → IsKept low types s
         → Goes low types s (IsPlaced g t) (variable_if (nat_lt object (length g.program.objects)) object offset s)
-    variable_goes s t object offset is found row kept =
-        let within = slice_get_within g.program.objects object is found in
+    variable_goes s t object offset variable found row kept =
+        let within = slice_get_within g.program.objects object variable found in
         let test : nat_lt object (length g.program.objects) ≡ true = grind (arith, nat_tests) in
-        variable_goes_if (nat_lt object (length g.program.objects)) test s t object offset (direct_goes s t object offset is found row kept)
+        variable_goes_if (nat_lt object (length g.program.objects)) test s t object offset (direct_goes s t object offset variable found row kept)
 
     -- and it is that place
     variable_same : (test : Bool) (object offset : ℕ) (s : State) → WhereGiven (λ (at : ℕ × ℕ) (u : State). at ≡ (object, offset)) (variable_if test object offset s)
@@ -423,21 +423,21 @@ module _ (g : Frame) (budget n : ℕ) where
         by (Some c) = refl
 
     -- the first element of an array
-    first_goes : (s : State) (t : CType) (object n : ℕ) (is : List Initial) → slice_get g.program.objects object ≡ Some is → 0 < n → AreRows g.structs (shape (object_block is)) t n → IsKept low types s
+    first_goes : (s : State) (t : CType) (object n : ℕ) (variable : Variable) → slice_get g.program.objects object ≡ Some variable → 0 < n → AreRows g.structs (shape (object_block variable)) t n → IsKept low types s
         → Goes low types s (λ (at : ℕ × ℕ) (u : State). at ≡ (object, 0)) (variable_if (nat_lt object (length g.program.objects)) object 0 s)
-    first_goes s t object n is found some rows kept =
+    first_goes s t object n variable found some rows kept =
         let at_start : 0 * size_of g.structs t ≡ 0 = omega arith in
-        let row = subst (λ byte. HasRow g.structs (shape (object_block is)) byte t) at_start (rows 0 some) in
+        let row = subst (λ byte. HasRow g.structs (shape (object_block variable)) byte t) at_start (rows 0 some) in
         let o = variable_if (nat_lt object (length g.program.objects)) object 0 s in
         sure_further (λ at u. (IsPlaced g t at u × IsAfter s u × IsKept low types u) × (at ≡ (object, 0))) (λ (at : ℕ × ℕ) (u : State). (at ≡ (object, 0)) × IsAfter s u × IsKept low types u) o
-        (sure_both (λ at u. IsPlaced g t at u × IsAfter s u × IsKept low types u) (λ (at : ℕ × ℕ) (u : State). at ≡ (object, 0)) o (variable_goes s t object 0 is found row kept) (variable_same (nat_lt object (length g.program.objects)) object 0 s))
+        (sure_both (λ at u. IsPlaced g t at u × IsAfter s u × IsKept low types u) (λ (at : ℕ × ℕ) (u : State). at ≡ (object, 0)) o (variable_goes s t object 0 variable found row kept) (variable_same (nat_lt object (length g.program.objects)) object 0 s))
         (λ at u x. (x.1, x.0.1, x.0.2))
 
     -- the block of a variable
-    object_there : (s : State) (object : ℕ) (is : List Initial) → slice_get g.program.objects object ≡ Some is → IsKept low types s → slice_get (shaped s) object ≡ Some (shape (object_block is))
-    object_there s object is found kept =
+    object_there : (s : State) (object : ℕ) (variable : Variable) → slice_get g.program.objects object ≡ Some variable → IsKept low types s → slice_get (shaped s) object ≡ Some (shape (object_block variable))
+    object_there s object variable found kept =
         let blocks = map object_block g.program.objects in
-        ap (λ x. slice_get x object) kept.grown.1 ∙ still_there (shapes blocks) kept.grown.0 object (shape (object_block is)) (mapped_there shape blocks object (object_block is) (mapped_there object_block g.program.objects object is found))
+        ap (λ x. slice_get x object) kept.grown.1 ∙ still_there (shapes blocks) kept.grown.0 object (shape (object_block variable)) (mapped_there shape blocks object (object_block variable) (mapped_there object_block g.program.objects object variable found))
 
     pub pointed_goes : (s : State) (m : Mode) (t : CType) (site : Site) (v : Value) → OfType g (Pointer m kinds.One t) v s → IsKept low types s → Goes low types s (IsPlaced g t) (element 0 site v s)
     pointed_goes s m t site (Number z) h kept = absurd h
@@ -562,17 +562,14 @@ module _ (g : Frame) (budget n : ℕ) where
   -- ---- new memory
 
   module _ (low : ℕ) (types : List CType) (t : CType) (element : List Initial) (sized : element_size element ≡ size_of g.structs t) (cells : AreCellsOf g.structs t element) (initials : AllByRecursion (IsInitial g.structs) element) where
-    abbrev new_block : ℕ → Block
-    new_block count = record { cells = cells_of_elements count element; zero_ended = false }
-
     -- a state with a block more
-    made_kept : (s : State) (count : ℕ) → IsKept low types s → IsKept low types (record s { blocks = s.blocks ++ new_block count ∷ [] })
+    made_kept : (s : State) (count : ℕ) → IsKept low types s → IsKept low types (record s { blocks = s.blocks ++ new_block count element ∷ [] })
     made_kept s count kept =
-        let after = shapes (s.blocks ++ new_block count ∷ []) in
-        let more : Grows (shaped s) after = grows_by s.blocks (new_block count) in
+        let after = shapes (s.blocks ++ new_block count element ∷ []) in
+        let more : Grows (shaped s) after = grows_by s.blocks (new_block count element) in
         record {
           grown = grows_on (shapes (map object_block g.program.objects)) (shaped s) after kept.grown more;
-          cells = held_behind g.structs (shaped s) after more s.blocks (new_block count) kept.cells (elements_held g.structs after count element initials);
+          cells = held_behind g.structs (shaped s) after more s.blocks (new_block count element) kept.cells (elements_held g.structs after count element initials);
           locals = locals_grown g.structs (shaped s) after more types s.locals kept.locals;
           world = kept.world;
           enough = kept.enough;
@@ -580,7 +577,7 @@ module _ (g : Frame) (budget n : ℕ) where
 
     made_goes : (s : State) (count : ℕ) (test : Bool) → IsKept low types s → Goes low types s (OfType g (Pointer modes.Checked kinds.Array t)) (made_if test count element s)
     made_goes s count true kept = (tt, after_here s, kept)
-    made_goes s count false kept = (tt, (grows_by s.blocks (new_block count), refl), made_kept s count kept)
+    made_goes s count false kept = (tt, (grows_by s.blocks (new_block count element), refl), made_kept s count kept)
 
     -- an allocation gives null, or a pointer to a block more
     allocated_goes : (s : State) (room : ℕ) (z : ℤ) → IsKept low types s → Goes low types s (OfType g (Pointer modes.Checked kinds.Array t)) (allocated room element z s)
@@ -1019,12 +1016,12 @@ module _ (g : Frame) (budget n : ℕ) where
       target_is : (m' m : Mode) (d : Kind) (t t' : CType) → Pointer m' kinds.Array t' ≡ Pointer m d t → t' ≡ t
       target_is m' m d t t' same = cc
 
-      array_given : (m : Mode) (t t' : CType) (n object : ℕ) (is : List Initial) (p : PointerBounds) → 0 < n → t' ≡ t → AreRows g.structs (shape (object_block is)) t' n → p.bounds ≡ row_of n → (v : Value) (u : State) → v ≡ At object 0 → slice_get (shaped u) object ≡ Some (shape (object_block is))
+      array_given : (m : Mode) (t t' : CType) (n object : ℕ) (variable : Variable) (p : PointerBounds) → 0 < n → t' ≡ t → AreRows g.structs (shape (object_block variable)) t' n → p.bounds ≡ row_of n → (v : Value) (u : State) → v ≡ At object 0 → slice_get (shaped u) object ≡ Some (shape (object_block variable))
           → GivenTo (core.AddressOf (core.Direct object 0) (Some p)) m t v u
-      array_given m t t' n object is p some target rows bounds v u at found w alike = (
+      array_given m t t' n object variable p some target rows bounds v u at found w alike = (
         (
           subst (λ v. IsValid g.structs (Some p.bounds) (pointing m t v) w) (sym at)
-              (array_valid g.structs m t n object (shape (object_block is)) w (subst (λ b. slice_get (shapes b) object ≡ Some (shape (object_block is))) (sym alike.blocks) found) some (subst (λ t. AreRows g.structs (shape (object_block is)) t n) target rows) p bounds),
+              (array_valid g.structs m t n object (shape (object_block variable)) w (subst (λ b. slice_get (shapes b) object ≡ Some (shape (object_block variable))) (sym alike.blocks) found) some (subst (λ t. AreRows g.structs (shape (object_block variable)) t n) target rows) p bounds),
           λ q c e there. absurd (let none : p.bounds.base ≡ None = ap (λ (b : Bounds). b.base) bounds in let k : None ≡ Some q = sym none ∙ e in cc),
         ),
         tt,
@@ -1364,13 +1361,13 @@ module _ (g : Frame) (budget n : ℕ) where
             with_none low types here flow reaches (core.AddressOf p b) (Pointer m kinds.One t) s (λ v u. tt)
             (audited_goes low types s (Pointer m kinds.One t) b (and_then (place true setting k p s) pointer_to) bounds
             (goes_on low types s (IsPlaced g t) (OfType g (Pointer m kinds.One t)) (place true setting k p s) pointer_to (place_goes here flow tracked reaches h s here') (λ at u _ placed u_kept. (placed, after_here u, u_kept))))
-        value_goes here flow tracked reaches (typed.array {object = object} {n = n} {t = t} {p = p} {cells = is} found some few rows bounds size) s here' =
+        value_goes here flow tracked reaches (typed.array {object = object} {n = n} {t = t} {p = p} {v = variable} found some few rows bounds size) s here' =
             goes_on low types s (λ (v : Value) (u : State). v ≡ At object 0) (OfNode g (core.AddressOf (core.Direct object 0) (Some p)) (Pointer modes.Checked kinds.Array t)) (and_then (variable_at setting object 0 s) pointer_to) (audit true (Some p))
-            (goes_on low types s (λ (at : ℕ × ℕ) (u : State). at ≡ (object, 0)) (λ (v : Value) (u : State). v ≡ At object 0) (variable_at setting object 0 s) pointer_to (first_goes low types s t object n is found some rows here'.1)
+            (goes_on low types s (λ (at : ℕ × ℕ) (u : State). at ≡ (object, 0)) (λ (v : Value) (u : State). v ≡ At object 0) (variable_at setting object 0 s) pointer_to (first_goes low types s t object n variable found some rows here'.1)
             (λ at u _ same u_kept. (ap (λ (at : ℕ × ℕ). At at.0 at.1) same, after_here u, u_kept)))
             (λ v u _ same u_kept. subst (λ v. Goes low types u (OfNode g (core.AddressOf (core.Direct object 0) (Some p)) (Pointer modes.Checked kinds.Array t)) (audit true (Some p) v u)) (sym same)
             (bounded_goes low types u modes.Checked t (Some p) (At object 0) size tt
-            (array_valid g.structs modes.Checked t n object (shape (object_block is)) u (object_there low types u object is found u_kept) some rows p bounds) u_kept))
+            (array_valid g.structs modes.Checked t n object (shape (object_block variable)) u (object_there low types u object variable found u_kept) some rows p bounds) u_kept))
         value_goes here flow tracked reaches (typed.sum {e = e} {i = i} {mode = m} {t = t} {direction = direction} {site = site} {p = p} {b = b} h elements hi bounds) s here' =
             goes_on low types s (IsSummed low types here flow reaches e i m t direction p (GivenTo low types here flow reaches e m t)) (OfNode g (core.Sum e direction i site b) (Pointer m kinds.Array t)) _ (audit true b)
             (sum_goes low types here flow reaches e i m t direction p site elements (GivenTo low types here flow reaches e m t) s here' (given_stays low types here flow reaches e m t) (with_given low types here flow reaches e m t s (value_goes here flow tracked reaches h s here') (given_so here flow tracked reaches h m kinds.Array t refl s here' (value_goes here flow tracked reaches h s here'))) (λ u stands. typed_alone low types here flow reaches i Int u (value_goes here flow tracked reaches hi u stands)))
@@ -1461,13 +1458,13 @@ module _ (g : Frame) (budget n : ℕ) where
             plainly_given low types here flow reaches (core.Load c p b) m d t s (subst (λ c. HasBounds g.structs c b) same bounds) refl (subst (λ x. Goes low types s (OfNode g (core.Load c p b) x) (value true setting k (core.Load c p b) s)) same goes)
         given_so here flow tracked reaches (typed.address_of {mode = m'} {t = t'} {p = p} {b = b} h bounds) m d t same s here' goes =
             plainly_given low types here flow reaches (core.AddressOf p b) m d t s (subst (λ c. HasBounds g.structs c b) same bounds) refl (subst (λ x. Goes low types s (OfNode g (core.AddressOf p b) x) (value true setting k (core.AddressOf p b) s)) same goes)
-        given_so here flow tracked reaches (typed.array {object = object} {n = n} {t = t'} {p = p} {cells = is} found some few rows bounds size) m d t same s here' goes =
+        given_so here flow tracked reaches (typed.array {object = object} {n = n} {t = t'} {p = p} {v = variable} found some few rows bounds size) m d t same s here' goes =
             so_on (λ (v : Value) (u : State). (v ≡ At object 0) × IsAfter s u × IsKept low types u) (GivenTo low types here flow reaches (core.AddressOf (core.Direct object 0) (Some p)) m t) (and_then (variable_at setting object 0 s) pointer_to) (audit true (Some p))
             (sure_given (λ (v : Value) (u : State). (v ≡ At object 0) × IsAfter s u × IsKept low types u) (and_then (variable_at setting object 0 s) pointer_to)
-            (goes_on low types s (λ (at : ℕ × ℕ) (u : State). at ≡ (object, 0)) (λ (v : Value) (u : State). v ≡ At object 0) (variable_at setting object 0 s) pointer_to (first_goes low types s t' object n is found some rows here'.1)
+            (goes_on low types s (λ (at : ℕ × ℕ) (u : State). at ≡ (object, 0)) (λ (v : Value) (u : State). v ≡ At object 0) (variable_at setting object 0 s) pointer_to (first_goes low types s t' object n variable found some rows here'.1)
             (λ at u _ at_start u_kept. (ap (λ (at : ℕ × ℕ). At at.0 at.1) at_start, after_here u, u_kept))))
             (λ v u x. audited_so (GivenTo low types here flow reaches (core.AddressOf (core.Direct object 0) (Some p)) m t) true (Some p) v u
-            (array_given low types here flow reaches m t t' n object is p some (element_is low types here flow reaches m d t t' same) rows bounds v u x.0 (object_there low types u object is found x.2)))
+            (array_given low types here flow reaches m t t' n object variable p some (element_is low types here flow reaches m d t t' same) rows bounds v u x.0 (object_there low types u object variable found x.2)))
         given_so here flow tracked reaches (typed.sum {e = e} {i = i} {mode = m'} {t = t'} {direction = direction} {site = site} {p = p} {b = b} h elements hi bounds) m d t same s here' goes =
             subst (λ m. WhereGiven (GivenTo low types here flow reaches (core.Sum e direction i site b) m t) (value true setting k (core.Sum e direction i site b) s)) (mode_is low types here flow reaches m' m d t t' same)
             (subst (λ t. WhereGiven (GivenTo low types here flow reaches (core.Sum e direction i site b) m' t) (value true setting k (core.Sum e direction i site b) s)) (target_is low types here flow reaches m' m d t t' same)
@@ -1515,7 +1512,7 @@ module _ (g : Frame) (budget n : ℕ) where
             (λ vs w grown y w_kept. (((value_grown g.structs (shaped u) (shaped w) grown.0 t v x.0, y.0), (passed_later g.structs (length here.locals) here.locals t e v u w grown x.1, y.1)), after_here w, w_kept)))
 
         pub place_goes : (here : Scope) (flow : IsFlow here.flow) (tracked : length here.locals ≤ here.flow.vars) (reaches : Extends here.locals types) {p : core.Place} {t : CType} → HasPlace g types here p t → (s : State) → IsHere low types here flow reaches s → Goes low types s (IsPlaced g t) (place true setting k p s)
-        place_goes here flow tracked reaches (typed.direct {object = object} {offset = offset} {t = t} {cells = is} found row) s h = variable_goes low types s t object offset is found row h.1
+        place_goes here flow tracked reaches (typed.direct {object = object} {offset = offset} {t = t} {v = variable} found row) s h = variable_goes low types s t object offset variable found row h.1
         place_goes here flow tracked reaches (typed.pointed {mode = m} {e = e} {t = t} {site = site} h) s here' =
             goes_on low types s (OfType g (Pointer m kinds.One t)) (IsPlaced g t) (value true setting k e s) _ (typed_alone low types here flow reaches e (Pointer m kinds.One t) s (value_goes here flow tracked reaches h s here'))
             (λ v u _ typed u_kept. pointed_goes low types u m t site _ (same_pointer (λ v. OfType g (Pointer m kinds.One t) v u) (bounds_of e) v u typed) u_kept)
@@ -1756,11 +1753,11 @@ module _ (g : Frame) (budget n : ℕ) where
 
         -- a place whose pointer was worked out before the value
         pointed_store : {p : core.Place} {t : CType} → HasPlace g types here p t → IsScalar t → {e : core.Expression} → HasType g types here e t → (s : State) → Stands s → Runs low types IsNext (effect true setting k (core.Store t p e) s)
-        pointed_store {t = t} (typed.direct {object = object} {offset = offset} {cells = is} found row) scalar {e = e} h s stands =
+        pointed_store {t = t} (typed.direct {object = object} {offset = offset} {v = variable} found row) scalar {e = e} h s stands =
             runs_on low types s (λ (q : Target) (u : State). Unit {0}) IsNext (target_of true setting k (core.Direct object offset) s) _
-            (goes_on low types s (IsPlaced g t) (λ (q : Target) (u : State). Unit {0}) (variable_at setting object offset s) (λ at u. Gives (without_ends at) u) (variable_goes low types s t object offset is found row stands.1) (λ at u _ placed u_kept. (tt, after_here u, u_kept)))
+            (goes_on low types s (IsPlaced g t) (λ (q : Target) (u : State). Unit {0}) (variable_at setting object offset s) (λ at u. Gives (without_ends at) u) (variable_goes low types s t object offset variable found row stands.1) (λ at u _ placed u_kept. (tt, after_here u, u_kept)))
             (λ q u after _ u_kept. value_then _ h u (standing_later s u after stands u_kept)
-            (λ v w _ typed w_kept. placed_store w t None v (place_at None object offset w) scalar typed (direct_goes low types w t object offset is found row w_kept)))
+            (λ v w _ typed w_kept. placed_store w t None v (place_at None object offset w) scalar typed (direct_goes low types w t object offset variable found row w_kept)))
         pointed_store {t = t} (typed.pointed {mode = m} {e = p} {site = site} hp) scalar {e = e} h s stands =
             runs_on low types s (λ (q : Target) (u : State). OfType g (Pointer m kinds.One t) q.pointer.value u) IsNext (target_of true setting k (core.Through p core.First 0 site) s) _ (single_target m t p s (typed_goes hp s stands))
             (λ q u after pointer u_kept. value_then _ h u (standing_later s u after stands u_kept)

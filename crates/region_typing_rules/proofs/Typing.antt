@@ -19,7 +19,7 @@ use Rattle.ckc_names_rules.specs.Given.{main, number_in, given_in}
 use Rattle.ckc_names_rules.specs.Mentions.{tree_mentions}
 use Rattle.ckc_names_rules.specs.Scopes.{Scopes, all_mentioned, at_file_level}
 use Rattle.ckc_names_rules.specs.Naming.{is_int, takes_nothing, is_main, has_main, naming_fault, names_of, named_of}
-use Rattle.ckc_core.specs.Programs.{Initial, Import, parted}
+use Rattle.ckc_core.specs.Programs.{Variable, Import, parted}
 use Rattle.ckc_core.specs.Core as core
 use Rattle.ckc_core.specs.Core.{Core}
 use Rattle.region_typing_rules.specs.Verdicts.{Verdict, Passes, Stops, passing}
@@ -145,13 +145,13 @@ typed at t c h = (safe at t c h).typed
 
 -- ---- what can be lowered
 
-abbrev pub AreRoomy : List Initial → Type 0
-AreRoomy cells = AllByRecursion IsRoomy cells × (0 < length cells)
+abbrev pub AreRoomy : Variable → Type 0
+AreRoomy v = AllByRecursion IsRoomy v.cells × (0 < length v.cells)
 
 -- the same of elements one by one, and of more words
-roomy_each : (objects : List (List Initial)) → AllByRecursion AreRoomy objects → AllByRecursion (λ (cells : List Initial). All IsRoomy cells × (0 < length cells)) objects
+roomy_each : (objects : List Variable) → AllByRecursion AreRoomy objects → AllByRecursion (λ (v : Variable). All IsRoomy v.cells × (0 < length v.cells)) objects
 roomy_each [] all = tt
-roomy_each (o ∷ objects) all = ((All-from_recursion IsRoomy o all.0.0, all.0.1), roomy_each objects all.1)
+roomy_each (o ∷ objects) all = ((All-from_recursion IsRoomy o.cells all.0.0, all.0.1), roomy_each objects all.1)
 
 small_more : (n m : ℕ) → n ≤ m → (functions : List core.Function) → AllByRecursion (IsSmall n) functions → AllByRecursion (IsSmall m) functions
 small_more n m le [] all = tt
@@ -163,7 +163,7 @@ small_walk h le entry a w passed =
     let main = (safe_walk h entry a w passed).typed.main in
     let functions = functions_small h entry w well passed.follows.settled w.scope.functions well.declared in
     record {
-      cells = All-from_recursion (λ (cells : List Initial). All IsRoomy cells × (0 < length cells)) w.objects (roomy_each w.objects well.roomy);
+      cells = All-from_recursion (λ (v : Variable). All IsRoomy v.cells × (0 < length v.cells)) w.objects (roomy_each w.objects well.roomy);
       objects = omega (arith, well.bytes, well.room);
       imports = All-from_recursion (λ (x : Import). x.parameters ≤ 16) (sides_of entry w).imports (imports_small h entry w well passed.follows.settled w.scope.functions well.declared);
       functions = All-from_recursion (IsSmall 3400) (sides_of entry w).functions (small_more (17 * h) 3400 (omega arith) (sides_of entry w).functions functions);

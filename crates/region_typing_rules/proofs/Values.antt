@@ -115,7 +115,7 @@ module _ (blocks : List Block) (block byte : ℕ) (t : CType) (c : HasCell block
 
   new_shape : (v : Value) → shape (new_block v) ≡ shape c.held
   new_shape v =
-      let made : List CType → List ℕ → Shape = λ types bytes. record { types = types; strides = bytes; zero_ended = c.held.zero_ended } in
+      let made : List CType → List ℕ → Shape = λ types bytes. record { types = types; strides = bytes; zero_ended = c.held.zero_ended; is_sealed = c.held.is_sealed } in
       ap (λ types. made types (strides (new_block v).cells)) (map_set (λ (x : Cell). x.type) c.held.cells c.number c.cell (new_cell v) c.found refl)
       ∙ ap (made (shape c.held).types) (map_set (λ (x : Cell). x.stride) c.held.cells c.number c.cell (new_cell v) c.found refl)
 
@@ -157,8 +157,8 @@ module _ (structs : List Structure) where
   -- ---- places
 
   -- a scalar that stands at a byte
-  pub scalar_stands : (s : Shape) (byte : ℕ) (t : CType) → IsScalar t → type_at s byte ≡ Some t → s.zero_ended ≡ false → Stands s byte (slots structs t)
-  scalar_stands s byte t scalar typed ended = subst (λ row. Stands s byte row) (sym (scalar_slots t scalar)) (record { there = omega arith; each = each; open_ended = ended })
+  pub scalar_stands : (s : Shape) (byte : ℕ) (t : CType) → IsScalar t → type_at s byte ≡ Some t → s.zero_ended ≡ false → s.is_sealed ≡ false → Stands s byte (slots structs t)
+  scalar_stands s byte t scalar typed ended unsealed = subst (λ row. Stands s byte row) (sym (scalar_slots t scalar)) (record { there = omega arith; each = each; open_ended = ended; unsealed = unsealed })
     where
       each : (k : ℕ) (slot : Slot) → slice_get (record { type = t; offset = 0 } ∷ []) k ≡ Some slot → type_at s (byte + slot.offset) ≡ Some slot.type
       each zero slot h =
@@ -208,7 +208,7 @@ module _ (structs : List Structure) where
       let typed = h.stands.each k (record { type = t; offset = offset }) found in
       let within = member_within n k offset t scalar found in
       let room = h.room in
-      record { stands = scalar_stands s (first + offset) t scalar typed h.stands.open_ended; room = omega (arith, within, room) }
+      record { stands = scalar_stands s (first + offset) t scalar typed h.stands.open_ended h.stands.unsealed; room = omega (arith, within, room) }
 
   -- and at a place
   pub member_place : (b : List Shape) (n block first k offset : ℕ) (t : CType) → IsScalar t → IsPlace structs b (Struct n) block first → slice_get (slots structs (Struct n)) k ≡ Some (record { type = t; offset = offset }) → IsPlace structs b t block (first + offset)

@@ -5,7 +5,7 @@ use Rattle.std.specs.List.{AllByRecursion}
 use Rattle.std.proofs.Math.Seq.{take-length}
 use Rattle.pointer_modes.specs.Types.{Member, Structure, members_of}
 use Rattle.pointer_modes.specs.Layout.{size_of}
-use Rattle.ckc_core.specs.Programs.{Initial, Import}
+use Rattle.ckc_core.specs.Programs.{Initial, Variable, Import}
 use Rattle.ckc_core.specs.Core as core
 use Rattle.ckc_core.specs.States.{shape, object_block}
 use Rattle.ckc_core.specs.Stacks.{statements_stack}
@@ -64,13 +64,13 @@ known_before g a b closed h known = record {
 -- ---- walks
 
 -- the cells of a variable are those of as many values of its type as it has
-pub record IsSettled (structs : List Structure) (v : FileVariable) (cells : List Initial) : Type 0 where
+pub record IsSettled (structs : List Structure) (v : FileVariable) (object : Variable) : Type 0 where
   pub some : 0 < count_of v.length
   pub few : count_of v.length ≤ 8192
-  pub rows : AreRows structs (shape (object_block cells)) v.type (count_of v.length)
+  pub rows : AreRows structs (shape (object_block object)) v.type (count_of v.length)
 
 -- and so are those of each variable
-abbrev pub AreSettled : List Structure → List FileVariable → List (List Initial) → Type 0
+abbrev pub AreSettled : List Structure → List FileVariable → List Variable → Type 0
 AreSettled structs [] [] = Unit {0}
 AreSettled structs [] (o ∷ objects) = ⊥
 AreSettled structs (v ∷ variables) [] = ⊥
@@ -96,15 +96,15 @@ pub record IsWell (height : ℕ) (w : Walk) : Type 0 where
   pub closed : IsClosed w.scope
   pub few : (n : ℕ) → length (members_of w.scope.structs n) ≤ 64
   pub scalars : (n : ℕ) → AllByRecursion (λ (m : Member). IsScalar m.ctype) (members_of w.scope.structs n)
-  pub start : AllByRecursion (AllByRecursion IsStart) w.objects
+  pub start : AllByRecursion (λ (o : Variable). AllByRecursion IsStart o.cells) w.objects
   pub declared : AllByRecursion IsDeclared w.scope.functions
   pub named : AllByRecursion (IsNamed w.scope.functions) w.scope.functions
   pub bodies : AllByRecursion (IsBody height w.scope) w.bodies
-  pub roomy : AllByRecursion (λ (o : List Initial). AllByRecursion IsRoomy o × (0 < length o)) w.objects
+  pub roomy : AllByRecursion (λ (o : Variable). AllByRecursion IsRoomy o.cells × (0 < length o.cells)) w.objects
   pub bytes : objects_size w.objects ≤ w.taken
   pub room : w.taken ≤ 32768
 
-pub settled_later : (a b : List Structure) (variables : List FileVariable) (objects : List (List Initial)) → Extends a b → AreSettled a variables objects → AreSettled b variables objects
+pub settled_later : (a b : List Structure) (variables : List FileVariable) (objects : List Variable) → Extends a b → AreSettled a variables objects → AreSettled b variables objects
 settled_later a b [] [] ext h = tt
 settled_later a b [] (o ∷ objects) ext h = absurd h
 settled_later a b (v ∷ variables) [] ext h = absurd h
@@ -126,21 +126,21 @@ all_append P (y ∷ xs) x all h = (all.0, all_append P xs x all.1 h)
 
 -- ---- the program behind the whole walk
 
-settled_there : (structs : List Structure) (variables : List FileVariable) (objects : List (List Initial)) (k : ℕ) (v : FileVariable) → AreSettled structs variables objects → slice_get variables k ≡ Some v → (cells : List Initial) × (slice_get objects k ≡ Some cells) × IsSettled structs v cells
+settled_there : (structs : List Structure) (variables : List FileVariable) (objects : List Variable) (k : ℕ) (v : FileVariable) → AreSettled structs variables objects → slice_get variables k ≡ Some v → (o : Variable) × (slice_get objects k ≡ Some o) × IsSettled structs v o
 settled_there structs [] objects k v h e = absurd (cc)
 settled_there structs (x ∷ variables) [] k v h e = absurd h
 settled_there structs (x ∷ variables) (o ∷ objects) zero v h e = let same : x ≡ v = cc in (o, refl, subst (λ (y : FileVariable). IsSettled structs y o) same h.0)
 settled_there structs (x ∷ variables) (o ∷ objects) (suc k) v h e = settled_there structs variables objects k v h.1 e
 
 -- the object of a variable is there
-variable_there : (g : Frame) (number : ℕ) (v : FileVariable) (cells : List Initial) → slice_get g.program.objects number ≡ Some cells → IsSettled g.structs v cells → IsVariable g v.type v.length number
-variable_there g number v cells found settled = by v.length settled.some settled.few settled.rows
+variable_there : (g : Frame) (number : ℕ) (v : FileVariable) (object : Variable) → slice_get g.program.objects number ≡ Some object → IsSettled g.structs v object → IsVariable g v.type v.length number
+variable_there g number v object found settled = by v.length settled.some settled.few settled.rows
   where
-    by : (length : Option ℕ) → 0 < count_of length → count_of length ≤ 8192 → AreRows g.structs (shape (object_block cells)) v.type (count_of length) → IsVariable g v.type length number
+    by : (length : Option ℕ) → 0 < count_of length → count_of length ≤ 8192 → AreRows g.structs (shape (object_block object)) v.type (count_of length) → IsVariable g v.type length number
     by None some few rows =
         let first : 0 * size_of g.structs v.type ≡ 0 = omega arith in
-        record { cells = cells; found = found; row = subst (λ byte. HasRow g.structs (shape (object_block cells)) byte v.type) first (rows 0 (omega arith)) }
-    by (Some n) some few rows = record { cells = cells; found = found; some = some; few = few; rows = rows }
+        record { variable = object; found = found; row = subst (λ byte. HasRow g.structs (shape (object_block object)) byte v.type) first (rows 0 (omega arith)) }
+    by (Some n) some few rows = record { variable = object; found = found; some = some; few = few; rows = rows }
 
 -- the body that is found is one of the function
 pub record Suits (b : core.Function) (f : Signature) : Type 0 where
@@ -244,9 +244,9 @@ module _ (height entry : ℕ) (w : Walk) (well : IsWell height w) (settled : Are
   start_typed [] all = tt
   start_typed (i ∷ is) all = (all.0 w.scope.structs, start_typed is all.1)
 
-  pub objects_typed : (objects : List (List Initial)) → AllByRecursion (AllByRecursion IsStart) objects → AllByRecursion (AllByRecursion (IsInitial w.scope.structs)) objects
+  pub objects_typed : (objects : List Variable) → AllByRecursion (λ (o : Variable). AllByRecursion IsStart o.cells) objects → AllByRecursion (λ (o : Variable). AllByRecursion (IsInitial w.scope.structs) o.cells) objects
   objects_typed [] all = tt
-  objects_typed (o ∷ objects) all = (start_typed o all.0, objects_typed objects all.1)
+  objects_typed (o ∷ objects) all = (start_typed o.cells all.0, objects_typed objects all.1)
 
   -- each function is small enough to be lowered, and each import to be called
   body_small : (bodies : List Defined) (f : Signature) → AllByRecursion (IsBody height w.scope) bodies → IsDeclared f → IsSmall (17 * height) (body_of bodies f)

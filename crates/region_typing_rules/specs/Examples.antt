@@ -24,7 +24,7 @@ use Rattle.bounds_exprs.specs.Normal.{constant}
 use Rattle.pointer_modes.specs.declared.ctype.Mode.TheVariants as modes
 use Rattle.pointer_modes.specs.declared.ctype.Kind.TheVariants as kinds
 use Rattle.pointer_modes.specs.Types.{Int, Pointer}
-use Rattle.ckc_core.specs.Programs.{Trusted}
+use Rattle.ckc_core.specs.Programs.{Trusted, open_variable}
 use Rattle.ckc_core.specs.declared.program.Site.{Site}
 use Rattle.act_words.specs.declared.operator.ArithmeticOperator.TheVariants as arithmetics
 use Rattle.act_words.specs.declared.operator.Operator.TheVariants as operators
@@ -110,7 +110,7 @@ abbrev pub first_run : Type 0
 first_run =
     becomes (checked at (named_of small_program))
     (record {
-      objects = (record { type = Int; stride = 4; number = pos 1 } ∷ []) ∷ [];
+      objects = open_variable (record { type = Int; stride = 4; number = pos 1 } ∷ []) ∷ [];
       definitions = Trusted (record {
         name = codes "main";
         parameters = 0;

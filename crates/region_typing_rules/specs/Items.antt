@@ -31,7 +31,7 @@ use Rattle.bounds_flow.specs.Flows.{Knowledge, at_entry, entered}
 use Rattle.pointer_modes.specs.Types as types
 use Rattle.pointer_modes.specs.Types.{CType, Int, Char, Struct, Pointer, Structure, members_of}
 use Rattle.pointer_modes.specs.Layout.{size_of}
-use Rattle.ckc_core.specs.Programs.{Initial}
+use Rattle.ckc_core.specs.Programs.{Initial, Variable, open_variable}
 use Rattle.ckc_core.specs.Core as core
 use Rattle.ckc_core.specs.States.{same_type}
 use Rattle.ckc_core.specs.Steps.{low_byte}
@@ -54,7 +54,7 @@ pub record Defined : Type 0 where
 
 pub record Walk : Type 0 where
   pub scope : Scope
-  pub objects : List (List Initial)
+  pub objects : List Variable
   pub taken : ℕ
   pub bodies : List Defined
 
@@ -266,7 +266,7 @@ abbrev pub with_objects : Walk → Span → List WalkedVariable → Verdict Walk
 with_objects w span [] = Passes w
 with_objects w span (v ∷ vs) =
     passing (object_cells w.scope.given w.scope.structs v.type v.length v.initial span) (λ cells.
-    needs (nat_lt 0 (length cells)) E10 span (with_objects (record w { objects = w.objects ++ cells ∷ [] }) span vs))
+    needs (nat_lt 0 (length cells)) E10 span (with_objects (record w { objects = w.objects ++ open_variable cells ∷ [] }) span vs))
 
 abbrev pub global : Places → Walk → i.Global → Verdict Walk
 global at w g =

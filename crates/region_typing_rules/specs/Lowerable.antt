@@ -3,7 +3,7 @@ use Rattle.std.specs.Prelude.{◌≡◌, ℕ, ◌+◌, ◌<◌, ◌≤◌, true,
 use Rattle.flat_bytes.specs.Blocks.{rounded_up}
 use Rattle.act_words.specs.Checks.{is_word_number}
 use Rattle.pointer_modes.specs.Layout.{scalar_size}
-use Rattle.ckc_core.specs.Programs.{Initial, Import}
+use Rattle.ckc_core.specs.Programs.{Initial, Variable, Import}
 use Rattle.ckc_core.specs.Core.{Function, Parted}
 use Rattle.ckc_core.specs.States.{Null, has_type, initial_value}
 use Rattle.ckc_core.specs.Stacks.{statements_stack}
@@ -14,9 +14,9 @@ cells_size [] = 0
 cells_size (i ∷ is) = i.stride + cells_size is
 
 -- the bytes that file-level variables take with the gaps behind them
-abbrev pub objects_size : List (List Initial) → ℕ
+abbrev pub objects_size : List Variable → ℕ
 objects_size [] = 0
-objects_size (cells ∷ objects) = rounded_up (cells_size cells) + 16 + objects_size objects
+objects_size (v ∷ objects) = rounded_up (cells_size v.cells) + 16 + objects_size objects
 
 -- a cell has room for a scalar of its type, and its number has 32 bits and is one of its type
 pub record IsRoomy (i : Initial) : Type 0 where
@@ -35,7 +35,7 @@ pub record IsSmall (words : ℕ) (f : Function) : Type 0 where
 -- the whole program: each variable has cells, and all of them take few bytes; tainted functions take few parameters; the body of
 -- each trusted one leaves room in its frame; and `main` is there and takes nothing
 pub record IsSmallCore (c : Parted) : Type 0 where
-  pub cells : All (λ (cells : List Initial). All IsRoomy cells × (0 < length cells)) c.objects
+  pub cells : All (λ (v : Variable). All IsRoomy v.cells × (0 < length v.cells)) c.objects
   pub objects : objects_size c.objects ≤ 32768
   pub imports : All (λ (i : Import). i.parameters ≤ 16) c.imports
   pub functions : All (IsSmall 3400) c.functions

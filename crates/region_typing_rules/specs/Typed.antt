@@ -22,7 +22,7 @@ use Rattle.act_words.specs.declared.operator.Comparison.{Comparison}
 use Rattle.ckc_core.specs.declared.program.Callee.{Callee}
 use Rattle.ckc_core.specs.declared.program.Callee.TheVariants as callees
 use Rattle.ckc_core.specs.declared.program.PointerBounds.{PointerBounds}
-use Rattle.ckc_core.specs.Programs.{Initial, Import}
+use Rattle.ckc_core.specs.Programs.{Initial, Variable, Import}
 use Rattle.ckc_core.specs.Core as core
 use Rattle.ckc_core.specs.Core.{Parted, Function, Expression, Arguments, Place, Statement, Statements}
 use Rattle.ckc_core.specs.declared.program.Direction.{Direction}
@@ -254,8 +254,8 @@ mutual
     address_of : {here : Scope} {mode : Mode} {t : CType} {p : Place} {b : Option PointerBounds} → HasPlace g locals here p t
         → HasBounds g.structs (Pointer mode kinds.One t) b → HasType g locals here (core.AddressOf p b) (Pointer mode kinds.One t)
     -- an array of 1 to 8,192 elements
-    array : {here : Scope} {object n : ℕ} {t : CType} {p : PointerBounds} {cells : List Initial} → slice_get g.program.objects object ≡ Some cells
-        → 0 < n → n ≤ 8192 → AreRows g.structs (shape (object_block cells)) t n → p.bounds ≡ row_of n → p.size ≡ size_of g.structs t
+    array : {here : Scope} {object n : ℕ} {t : CType} {p : PointerBounds} {v : Variable} → slice_get g.program.objects object ≡ Some v
+        → 0 < n → n ≤ 8192 → AreRows g.structs (shape (object_block v)) t n → p.bounds ≡ row_of n → p.size ≡ size_of g.structs t
         → HasType g locals here (core.AddressOf (core.Direct object 0) (Some p)) (Pointer modes.Checked kinds.Array t)
     sum : {here : Scope} {e i : Expression} {mode : Mode} {t : CType} {direction : Direction} {site : Site} {p : PointerBounds} {b : Option PointerBounds}
         → HasType g locals here e (Pointer mode kinds.Array t) → HasElements g.structs e t p → HasType g locals here i Int
@@ -310,8 +310,8 @@ mutual
 
   -- a place, and the type of what stands there: in a variable, behind a pointer or at an element, or at a member of the struct there
   pub data HasPlace (g : Frame) (locals : List CType) : Scope → Place → CType → Type 0 where
-    direct : {here : Scope} {object offset : ℕ} {t : CType} {cells : List Initial} → slice_get g.program.objects object ≡ Some cells
-        → HasRow g.structs (shape (object_block cells)) offset t → HasPlace g locals here (core.Direct object offset) t
+    direct : {here : Scope} {object offset : ℕ} {t : CType} {v : Variable} → slice_get g.program.objects object ≡ Some v
+        → HasRow g.structs (shape (object_block v)) offset t → HasPlace g locals here (core.Direct object offset) t
     pointed : {here : Scope} {mode : Mode} {e : Expression} {t : CType} {site : Site} → HasType g locals here e (Pointer mode kinds.One t)
         → HasPlace g locals here (core.Through e core.First 0 site) t
     member : {here : Scope} {mode : Mode} {e : Expression} {n offset : ℕ} {t : CType} {site : Site} (k : ℕ)
@@ -397,7 +397,7 @@ pub record IsTyped (program : Parted) : Type 0 where
   pub structs : List Structure
   pub bounds : List (List (Option Bounds))
   pub result_bounds : List (Option Bounds)
-  pub objects : AllByRecursion (AllByRecursion (IsInitial structs)) program.objects
+  pub objects : AllByRecursion (λ (v : Variable). AllByRecursion (IsInitial structs) v.cells) program.objects
   pub functions : AllByRecursion (IsFunction (record { program = program; structs = structs; bounds = bounds; result_bounds = result_bounds }))
       program.functions
   pub main : (f : Function) × (slice_get program.functions program.main ≡ Some f) × (f.parameters ≡ 0) × (f.result ≡ Some Int)
