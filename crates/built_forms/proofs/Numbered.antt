@@ -10,7 +10,7 @@ use Rattle.ckc_tree.specs.Statements as s
 use Rattle.ckc_tree.specs.Statements.{Initializer, Declarator, Declaration, Assignment, ForInitial, Statement, Statements}
 use Rattle.ckc_tree.specs.Items as i
 use Rattle.ckc_tree.specs.Items.{Member, ResultForm, Parameters, Body, Function, Item, Tree}
-use Rattle.built_forms.specs.Built.{built_type, is_number_type, built_expression, built_expressions, built_bounds, optional, built_initializer, built_declarator, built_variable, built_declaration, built_assignment, built_initial, built_statement, built_statements, built_member, built_parameter, is_number_parameter, built_parameters, built_result, is_number_result, built_body, built_result_bounds, built_of_kind, built_item, is_built}
+use Rattle.built_forms.specs.Built.{built_type, is_number_type, built_expression, built_expressions, built_bounds, optional, built_initializer, built_declarator, built_declaration, built_assignment, built_initial, built_statement, built_statements, built_member, built_parameter, is_number_parameter, built_parameters, built_result, is_number_result, built_body, built_result_bounds, built_of_kind, built_item, is_built}
 use Rattle.ckc_tree.specs.declared.item.FunctionKind.{FunctionKind}
 use Rattle.ckc_tree.specs.declared.item.FunctionKind.TheVariants as function_kinds
 use Rattle.ckc_tree.specs.Numbers.{Numbers, number_type, number_expression, number_expressions, number_bounds, number_initializer, number_declarator, number_declaration, number_assignment, number_initial, number_statement, number_statements, number_member, number_result, number_parameters, number_body, number_function, number_item, numbered}
@@ -70,10 +70,6 @@ module _ (of : Numbers) where
   declarators_same : (ds : List Declarator) → list_all built_declarator (map (number_declarator of) ds) ≡ list_all built_declarator ds
   declarators_same [] = refl
   declarators_same (d ∷ ds) = rw (optional_bounds_same d.bounds, initializer_same d.initializer, declarators_same ds) refl
-
-  variables_same : (ds : List Declarator) → list_all built_variable (map (number_declarator of) ds) ≡ list_all built_variable ds
-  variables_same [] = refl
-  variables_same (d ∷ ds) = rw (is_none_same (number_bounds of) d.bounds, initializer_same d.initializer, variables_same ds) refl
 
   declaration_same : (d : Declaration) → built_declaration (number_declaration of d) ≡ built_declaration d
   declaration_same d = rw (type_same d.base, declarators_same d.declarators) refl
@@ -168,7 +164,7 @@ module _ (of : Numbers) where
   item_same : (x : Item) → built_item (number_item of x) ≡ built_item x
   item_same (i.RegionItem region span) = refl
   item_same (i.StructureItem d) = rw (members_same d.members) refl
-  item_same (i.GlobalItem g) = rw (type_same g.base, variables_same g.declarators) refl
+  item_same (i.GlobalItem g) = rw (type_same g.base, declarators_same g.declarators) refl
   item_same (i.FunctionItem f) = rw (result_bounds_same f.kind f.bounds, kind_same f.kind f) refl
 
   items_same : (xs : List Item) → list_all built_item (map (number_item of) xs) ≡ list_all built_item xs

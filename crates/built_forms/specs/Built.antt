@@ -106,7 +106,7 @@ is_checked_array arrays.NullTerminated = false
 abbrev pub built_array : ArrayForm → Bool
 built_array a = is_checked_array a.kind
 
--- a local may be an array, and may have bounds
+-- a variable may be an array, and may have bounds
 abbrev pub built_declarator : Declarator → Bool
 built_declarator d = optional built_array d.array && (optional built_bounds d.bounds && optional built_initializer d.initializer)
 
@@ -145,10 +145,6 @@ abbrev mutual
   built_statements (s.Then first others) = built_statement first && built_statements others
 
 -- ---- items
-
--- a file-level variable may be an array, and has no bounds
-abbrev pub built_variable : Declarator → Bool
-built_variable d = optional built_array d.array && (is_none d.bounds && optional built_initializer d.initializer)
 
 abbrev pub built_member : Member → Bool
 built_member m = built_type m.type.base && is_none m.bounds
@@ -194,7 +190,7 @@ built_function f = built_result_bounds f.kind f.bounds && built_of_kind f.kind f
 abbrev pub built_item : Item → Bool
 built_item (i.RegionItem region span) = true
 built_item (i.StructureItem x) = not x.tainted && list_all built_member x.members
-built_item (i.GlobalItem g) = not g.tainted && (built_type g.base && list_all built_variable g.declarators)
+built_item (i.GlobalItem g) = not g.tainted && (built_type g.base && list_all built_declarator g.declarators)
 built_item (i.FunctionItem f) = built_function f
 
 -- the tree has only forms that are built

@@ -8,7 +8,7 @@ ghost use Rattle.ckc_tree.specs.Items.{member, parameter, parameters as paramete
 ghost use Rattle.built_forms.specs.Built as built;
 
 use crate::expressions::{built_type, is_number_type};
-use crate::statements::{built_block, built_optional_bounds, built_variables};
+use crate::statements::{built_block, built_declarators, built_optional_bounds};
 use ckc_tree::expr::BoundsText;
 use ckc_tree::item::{
     Function, FunctionKind, Global, Item, Member, Parameter, Parameters, Program, ResultForm,
@@ -154,7 +154,7 @@ fn built_global(written: &Global) -> bool
     if written.tainted || !built_type(&written.base) {
         return false;
     }
-    built_variables(written.declarators.as_slice())
+    built_declarators(written.declarators.as_slice())
 }
 
 fn built_item(written: &Item) -> bool

@@ -53,29 +53,13 @@ fn built_array(written: &Option<ArrayForm>) -> bool
     }
 }
 
-// Whether a local has only forms that are built: no null-terminated array, and it may have bounds.
+// Whether a variable has only forms that are built: no null-terminated array, and it may have bounds.
 fn built_declarator(written: &Declarator) -> bool
     ensures { result ≡ built.built_declarator (declarator written.now) }
 {
     built_array(&written.array)
         && built_optional_bounds(&written.bounds)
         && built_optional_initializer(&written.initializer)
-}
-
-// Whether a file-level variable has only forms that are built: no null-terminated array, and no bounds.
-fn built_variable(written: &Declarator) -> bool
-    ensures { result ≡ built.built_variable (declarator written.now) }
-{
-    built_array(&written.array)
-        && written.bounds.is_none()
-        && built_optional_initializer(&written.initializer)
-}
-
-/// Whether file-level variables have only forms that are built.
-pub fn built_variables(declarators: &[Declarator]) -> bool
-    ensures { result ≡ list_all (λ d. built.built_variable (declarator d)) declarators.now }
-{
-    declarators.iter().all(|d| built_variable(d))
 }
 
 /// Whether variables have only forms that are built.

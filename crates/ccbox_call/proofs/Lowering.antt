@@ -55,7 +55,7 @@ small_is_lowerable c rules small few light = record {
   cells = λ k d lt. let here = small.cells k d lt in ((λ j e less. cell_is _ (here.0 j e less)), here.1);
   objects = omega (arith, counted_is c.objects first_offset, small.objects);
   imports = small.imports;
-  functions = All-map IsFunction function c.functions (λ k d lt. function_is (record { program = c; structs = rules.structs; bounds = rules.bounds; result_bounds = rules.result_bounds }) _ (All-from_recursion (typed.IsFunction (record { program = c; structs = rules.structs; bounds = rules.bounds; result_bounds = rules.result_bounds })) c.functions rules.functions k d lt) (small.functions k d lt) (light k d lt));
+  functions = All-map IsFunction function c.functions (λ k d lt. function_is (record { program = c; structs = rules.structs; bounds = rules.bounds; result_bounds = rules.result_bounds; object_bounds = rules.object_bounds }) _ (All-from_recursion (typed.IsFunction (record { program = c; structs = rules.structs; bounds = rules.bounds; result_bounds = rules.result_bounds; object_bounds = rules.object_bounds })) c.functions rules.functions k d lt) (small.functions k d lt) (light k d lt));
   few_functions = omega (arith, few.functions, length-map c.functions function);
   few_imports = few.imports;
   main = main_is c small.main;

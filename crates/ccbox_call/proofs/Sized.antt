@@ -1,5 +1,5 @@
 -- The elements of what is accepted have sizes: each check asks for a pointer that isn't null, or for an element within bounds.
-use Rattle.std.proofs.Common.{◌<◌, ◌^◌, length, ◌≡◌, ℕ, zero, ◌≤◌, ℤ, pos, ◌+ℤ◌, Bool, true, false, cond, List, [], ◌∷◌, Option, Some, None, is_some, refl, sym, ap, subst, arith}
+use Rattle.std.proofs.Common.{◌<◌, ◌^◌, length, ◌≡◌, ℕ, zero, ◌≤◌, ℤ, pos, ◌+ℤ◌, Bool, true, false, cond, List, [], ◌∷◌, Option, Some, None, is_some, refl, sym, ap, subst, arith, ◌∙◌}
 use Rattle.std.specs.Prelude.{All, slice_get, neg_ℤ}
 use Rattle.std.specs.List.{AllByRecursion}
 use Rattle.std.specs.Int.Signed.{le_z}
@@ -40,7 +40,7 @@ use Rattle.region_typing_rules.specs.Readings.{against, from_base, based_bounds}
 use Rattle.region_typing_rules.specs.Verdicts.{picked}
 use Rattle.region_typing_rules.specs.Scopes.{Scope}
 use Rattle.region_typing_rules.specs.Typed as typed
-use Rattle.region_typing_rules.specs.Typed.{Frame, AreNamed, AreNewBounds, IsBaseOf, IsNewElement, HasBounds, HasCallBounds, HasElements, AreSumBounds, HasType, HaveTypes, HasPlace, terms_of, IsSimple, IsStatement, AreStatements}
+use Rattle.region_typing_rules.specs.Typed.{Frame, AreConstant, AreNamed, AreNewBounds, IsBaseOf, IsNewElement, HasBounds, HasCallBounds, HasElements, AreSumBounds, HasType, HaveTypes, HasPlace, terms_of, IsSimple, IsStatement, AreStatements}
 
 -- ---- the bounds at nodes
 
@@ -155,6 +155,7 @@ beside_readable _ d (typed.single e elements leads) based = beside_readable _ d 
 beside_readable _ d (typed.row e bounds) based = beside_readable _ d e based
 beside_readable _ d (typed.ended_row e none) based = beside_readable _ d e based
 beside_readable _ d (typed.load scalar place told) based = absurd (cc)
+beside_readable _ d (typed.bounded_object is size) based = absurd (cc)
 beside_readable _ d (typed.address_of place told) based = absurd (cc)
 beside_readable _ d (typed.array found some few rows bounds size) based = absurd (cc)
 beside_readable _ d (typed.sum pointer elements number bounds) based = beside_readable _ d pointer based
@@ -189,6 +190,16 @@ call_read structs locals terms t declared b (typed.by_type told) = noted_read lo
 call_read structs locals terms _ _ _ (typed.by_result at size some limited none ints) =
     record { within = record { low = limited.low; high = limited.high }; named = record { ints = ints; base = λ q from. absurd (cc) } }
 
+-- the bounds that are declared for a file-level pointer
+object_readable : (types : List CType) {b : Bounds} → AreLimited b → AreConstant b → AreReadable types b
+object_readable types limited constant = record {
+  within = record { low = limited.low; high = limited.high };
+  named = record {
+    ints = record { lo = subst (IsInt types) (sym constant.lo) tt; hi = subst (IsInt types) (sym constant.hi) tt };
+    base = λ q from. absurd (let none : None ≡ Some q = sym constant.base ∙ from in cc);
+  };
+}
+
 -- the bounds at a node of an expression
 bounds_read : {g : Frame} {locals : List CType} {here : Scope} {t : CType} (e : core.Expression) → HasType g locals here e t → AreRead here.locals (bounds_of e)
 bounds_read _ (typed.word ok) = tt
@@ -201,6 +212,7 @@ bounds_read _ (typed.single e elements leads) = bounds_read _ e
 bounds_read _ (typed.row e bounds) = bounds_read _ e
 bounds_read _ (typed.ended_row e none) = bounds_read _ e
 bounds_read {g = g} {here = here} {t = t} (core.Load type p b) (typed.load scalar place told) = noted_read here.locals g.structs t b told
+bounds_read {here = here} _ (typed.bounded_object is size) = object_readable here.locals is.limited is.constant
 bounds_read {g = g} {here = here} (core.AddressOf p b) (typed.address_of {mode = m} {t = t} place told) = noted_read here.locals g.structs (Pointer m kinds.One t) b told
 bounds_read {here = here} _ (typed.array {n = n} {p = p} found some few rows bounds size) =
     subst (AreReadable here.locals) (sym bounds) (constant_readable here.locals (pos 0) (pos n) refl (few_within n few))
@@ -327,6 +339,7 @@ mutual
   sized_expression n held _ (typed.row e bounds) = sized_expression n held _ e
   sized_expression n held _ (typed.ended_row e none) = sized_expression n held _ e
   sized_expression n held _ (typed.load scalar p told) = sized_place n held _ p
+  sized_expression n held _ (typed.bounded_object is size) = tt
   sized_expression n held _ (typed.address_of p told) = sized_place n held _ p
   sized_expression n held _ (typed.array found some few rows bounds size) = tt
   sized_expression n held {here = here} (core.Sum e direction i site b) (typed.sum {t = t} {p = p} pointer elements number bounds) =
@@ -370,6 +383,7 @@ sized_simple : (n : ℕ) {g : Frame} {locals : List CType} (held : length locals
 sized_simple n held _ typed.nothing = tt
 sized_simple n held _ (typed.set_local found e) = sized_expression n held _ e
 sized_simple n held _ (typed.store scalar p e) = (sized_place n held _ p, sized_expression n held _ e)
+sized_simple n held _ (typed.store_bounded is e asked) = (tt, sized_expression n held _ e)
 sized_simple n held _ (typed.update_local found number char e) = sized_expression n held _ e
 sized_simple n held _ (typed.update number p e) = (sized_place n held _ p, sized_expression n held _ e)
 sized_simple n held _ (typed.evaluate e) = sized_expression n held _ e

@@ -712,9 +712,7 @@ const PROGRAMS: &str =
 
 // Forms around bounds that can't be run.
 const NOT_BUILT: &str =
-    "[refused E09 1:1 not built yet]@array_ptr<int> p : count(1); int main(void) { return 0; }
-[refused E09 1:1 not built yet]@array_ptr<int> p : bounds(unknown); int main(void) { return 0; }
-[refused E09 1:1 not built yet]@struct s { array_ptr<int> p : count(1); }; int main(void) { return 0; }
+    "[refused E09 1:1 not built yet]@struct s { array_ptr<int> p : count(1); }; int main(void) { return 0; }
 [refused E09 1:1 not built yet]@int main(void) { int a _Nt_checked[2] : count(1); return 0; }
 [refused E09 1:1 not built yet]@nt_array_ptr<char> p; int main(void) { return 0; }
 [refused E09 1:1 not built yet]@int main(void) { array_ptr<nt_array_ptr<char>> p; return 0; }

@@ -22,6 +22,8 @@ mod exec;
 #[cfg(test)]
 mod facts;
 #[cfg(test)]
+mod file_level;
+#[cfg(test)]
 mod files;
 #[cfg(test)]
 mod flows;

@@ -644,7 +644,6 @@ const NOT_BUILT: &str =
 [refused E09 1:1 not built yet]@int f(array_ptr<char> p : count(strlen(p))) { return 0; } int main(void) { return 0; }
 [refused E09 1:1 not built yet]@int f(array_ptr<int> p : count(sizeof(nt_array_ptr<char>))) { return 0; } int main(void) { return 0; }
 [refused E09 1:1 not built yet]@int f(array_ptr<int> p : count(-1), nt_array_ptr<char> s) { return 0; } int main(void) { return 0; }
-[refused E09 1:1 not built yet]@array_ptr<int> p : count(1); int f(array_ptr<int> p : count(1)) { return 0; } int main(void) { return 0; }
 [refused E09 1:1 not built yet]@int f(array_ptr<int> p : count(n), int n) { int b _Nt_checked[2]; return 0; } int main(void) { return 0; }
 [refused E09 1:1 not built yet]@int f(array_ptr<int> p : count(n), int n) { _Bundled { p = NULL; n = 3; } return 0; } int main(void) { return 0; }
 [refused E09 1:1 not built yet]@int f(array_ptr<int> p : count(zz)) { return 0; } _Tainted int g; int main(void) { return 0; }";

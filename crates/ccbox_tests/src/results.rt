@@ -691,8 +691,7 @@ const NOT_BUILT: &str =
 [refused E09 1:1 not built yet]@array_ptr<int> f(int n) : count(n) { return nt_calloc<int>(n, sizeof(int)); } int main(void) { return 0; }
 [refused E09 1:1 not built yet]@array_ptr<int> f(int n) : count(n) { _Bundled { n = 1; } return NULL; } int main(void) { return 0; }
 [refused E09 1:1 not built yet]@array_ptr<int> f(int n) : count(n) { int b _Nt_checked[2]; return NULL; } int main(void) { return 0; }
-[refused E09 1:1 not built yet]@array_ptr<int> f(void) : count(zz) { return 0; } _Tainted int g; int main(void) { return 0; }
-[refused E09 1:1 not built yet]@array_ptr<int> p : count(1); array_ptr<int> f(void) : count(1) { return NULL; } int main(void) { return 0; }"#;
+[refused E09 1:1 not built yet]@array_ptr<int> f(void) : count(zz) { return 0; } _Tainted int g; int main(void) { return 0; }"#;
 
 // The last bytes of what was stored through results.
 const DUMPS: &str =

@@ -38,7 +38,6 @@ const FORMS: &str =
 [refused E09 1:1 not built yet]@_Tainted int t(int x : count(1)); int main(void) { return 0; }
 [refused E09 1:1 not built yet]@struct s { array_ptr<int> p : count(1); }; int main(void) { return 0; }
 [refused E09 1:1 not built yet]@char g _Nt_checked[3]; int main(void) { return 0; }
-[refused E09 1:1 not built yet]@int g _Checked[3] : count(3); int main(void) { return 0; }
 [refused E09 1:1 not built yet]@nt_array_ptr<char> f(void); int main(void) { return 0; }
 [refused E09 1:1 not built yet]@_Tainted int t(void) : count(1); int main(void) { return 0; }";
 

@@ -6,6 +6,7 @@ use crate::bounded::bounded;
 use crate::corners::{corners, large_inputs};
 use crate::exec::{large_listings, runs_of_listings, runs_of_printed};
 use crate::facts::entailment;
+use crate::file_level::file_level;
 use crate::files::files_and_outputs;
 use crate::flows::flows;
 use crate::limits::limits;
@@ -44,6 +45,7 @@ fn programs(rt: HostRuntime) -> Result<(), Fail> {
     arrays(alloc)?;
     local_arrays(alloc)?;
     bounded(alloc)?;
+    file_level(alloc)?;
     memory(alloc)?;
     limits(alloc)?;
     options(alloc)

@@ -9,7 +9,6 @@ use Rattle.ckc_tree.specs.Items as i
 use Rattle.ckc_tree.specs.Statements.{Initializer, Declarator, Statements}
 use Rattle.pointer_modes.specs.Types as types
 use Rattle.pointer_modes.specs.Types.{CType}
-use Rattle.ckc_core.specs.Programs.{open_variable}
 use Rattle.ckc_core.specs.Core as core
 use Rattle.ckc_core.specs.Core.{object, function}
 use Rattle.region_typing_rules.specs.Verdicts.{Verdict, Passes, passing, needs, picked}
@@ -18,7 +17,8 @@ use Rattle.region_typing_rules.specs.Types.{type_named, without_stars}
 use Rattle.region_typing_rules.specs.Expressions.{Places, is_tainted}
 use Rattle.region_typing_rules.specs.DeclaredBounds.{declared_bounds}
 use Rattle.region_typing_rules.specs.Statements.{length_of, statements, is_unchecked}
-use Rattle.region_typing_rules.specs.Items.{Parameter, Defined, Walk, among_parameters, written_as, with_variable, room_for, initializer, inside, core_function, function_body}
+use Rattle.region_typing_rules.specs.Items.{Parameter, Defined, Walk, among_parameters, written_as, object_bounds, variable_of, with_variable}
+use Rattle.region_typing_rules.specs.Items.{room_for, initializer, inside, core_function, function_body}
 use Rattle.region_typing_rules.specs.Items.{parameter_types, type_of_result, bounds_of_result, names, first_changed_in, without_change}
 use Rattle.region_typing_rules.specs.KeptParameters.{all_changed}
 use Rattle.region_typing_rules.specs.Items.{with_function, agrees, all_scalar, scalar_result, is_defined, in_checked_region}
@@ -86,14 +86,15 @@ heading_of g all result bounds = passing (parameter_types g all all []) (λ ps. 
 pub record JudgedVariable : Type 0 where
   pub type : CType
   pub length : Option ℕ
+  pub bounds : Option Ends
   pub initial : Judged
 
 abbrev pub judged_variable : CType → code_variable.WalkedVariable → JudgedVariable
-judged_variable t v = record { type = t; length = v.count; initial = judged v.initial }
+judged_variable t v = record { type = t; length = v.count; bounds = v.bounds; initial = judged v.initial }
 
 -- a variable more, with the bytes that are taken then
-abbrev pub with_one : ℕ → CType → Option ℕ → ℕ → Walk → Walk
-with_one name t count taken w = record w { scope = with_variable name t count w.scope; taken = taken }
+abbrev pub with_one : ℕ → CType → Option ℕ → Option Ends → ℕ → Walk → Walk
+with_one name t count bounds taken w = record w { scope = with_variable name t count bounds w.scope; taken = taken }
 
 -- what a variable is initialised with, where it is known
 abbrev pub judged_initializer : Places → Scope → Option Initializer → Verdict Judged
@@ -103,8 +104,9 @@ judged_initializer at g written = passing (initializer at g written) (λ x. Pass
 abbrev pub one_variable : Places → Walk → TypeTree → CType → Span → Declarator → Verdict (Walk × JudgedVariable)
 one_variable at w base type span d =
     passing (room_for w base span d) (λ taken. passing (without_stars base d.stars type) (λ t.
-    passing (judged_initializer at (with_variable d.name.number t (length_of d) w.scope) d.initializer)
-    (λ initial. Passes (with_one d.name.number t (length_of d) taken w, record { type = t; length = length_of d; initial = initial }))))
+    passing (object_bounds w.scope d t) (λ bounds.
+    passing (judged_initializer at (with_variable d.name.number t (length_of d) bounds w.scope) d.initializer) (λ initial.
+    Passes (with_one d.name.number t (length_of d) bounds taken w, record { type = t; length = length_of d; bounds = bounds; initial = initial })))))
 
 -- the variables of a declaration
 abbrev pub judged_variables : Places → TypeTree → CType → Span → List Declarator → Walk × List JudgedVariable → Verdict (Walk × List JudgedVariable)
@@ -115,7 +117,7 @@ judged_variables at base type span (d ∷ ds) x =
 -- the cells of a variable more
 abbrev pub one_object : Span → JudgedVariable → Walk → Verdict Walk
 one_object span v w = passing (judged_cells w.scope.structs v.type v.length v.initial span)
-    (λ cells. needs (nat_lt 0 (length cells)) E10 span (Passes (record w { objects = w.objects ++ open_variable cells ∷ [] })))
+    (λ cells. needs (nat_lt 0 (length cells)) E10 span (Passes (record w { objects = w.objects ++ variable_of v.bounds cells ∷ [] })))
 
 abbrev pub judged_objects : Span → List JudgedVariable → Walk → Verdict Walk
 judged_objects span [] w = Passes w

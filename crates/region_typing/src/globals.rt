@@ -9,7 +9,7 @@ ghost use Rattle.ckc_tree.specs.Items.{global as global_tree};
 ghost use Rattle.pointer_modes.specs.Types.{ctype as ctype_of};
 ghost use Rattle.flat_bytes.specs.Blocks.{rounded_up};
 ghost use Rattle.region_typing_rules.specs.Cells.{is_length as is_length_of};
-ghost use Rattle.region_typing_rules.specs.Items.{count_of as count_in, written_size as written_size_of, room_for as room_in, room_for_first as first_room_in, global as global_of};
+ghost use Rattle.region_typing_rules.specs.Items.{count_of as count_in, object_bounds as object_bounds_of, written_size as written_size_of, room_for as room_in, room_for_first as first_room_in, global as global_of};
 ghost use Rattle.region_typing_scope.specs.Answering.{Answers};
 ghost use Rattle.region_typing_scope.specs.Views.{scope as scope_of};
 ghost use Rattle.region_typing.specs.Initials.{judged as judged_view};
@@ -17,6 +17,7 @@ ghost use Rattle.region_typing.specs.Items.{walk as walk_of, with_one, judged_in
 
 use crate::initials::{Judged, cells_of, judged_list, judged_value};
 use crate::walk::Walk;
+use bounds_exprs::term::Bounds;
 use ckc_core::program::Object;
 use ckc_text::code::Code;
 use ckc_text::fault::NoMemory;
@@ -25,13 +26,17 @@ use ckc_tree::item::Global as Declaration;
 use ckc_tree::stmt::{Declarator, Initializer};
 use ckc_tree::type_form::TypeForm;
 use pointer_modes::ctype::CType;
+use region_typing_bounds::declared::bounds_at;
+use region_typing_bounds::place::Place;
 use region_typing_expressions::expressions::typed;
 use region_typing_scope::context::Context;
 use region_typing_scope::initial_cells::is_length;
 use region_typing_scope::refusals::{CheckError, meant, needs};
 use region_typing_scope::scope::Scope;
 use region_typing_scope::types::{base_type, copied};
+use region_typing_scope::visible::Visible;
 use region_typing_statements::local_arrays::length_of;
+use std::slice;
 
 /// How many file-level variables a program may have.
 const MOST_VARIABLES: usize = 4096;
@@ -134,6 +139,30 @@ fn initializer(
     }
 }
 
+// The bounds of a variable of a type, which may name no other one, so that their ends are constants.
+fn object_bounds(
+    context: &Context,
+    scope: &Scope,
+    t: &CType,
+    d: &Declarator,
+) -> Result<Option<Bounds>, CheckError>
+    ensures { Answers (λ b. b) (object_bounds_of (scope_of scope.now) (declarator_tree d.now) (ctype_of t.now)) result }
+{
+    let own = Visible {
+        name: d.name.number,
+        local: 0,
+    };
+    let place = Place {
+        scope,
+        locals: slice::from_ref(t),
+        visible: slice::from_ref(&own),
+    };
+    match length_of(d) {
+        None => bounds_at(context, &place, t, 0, &d.bounds),
+        Some(_) => bounds_at(context, &place, &CType::Int, 0, &d.bounds),
+    }
+}
+
 // A variable more.
 fn add_variable(
     context: &Context,
@@ -141,21 +170,25 @@ fn add_variable(
     name: usize,
     t: &CType,
     count: Option<u32>,
+    bounds: Option<Bounds>,
     taken: u32,
 ) -> Result<(), NoMemory>
     requires few { length walk.old.scope.variables.items < 4096 }
     requires room { taken ≤ 32768 }
-    ensures { OnOk result (walk_of walk.new ≡ with_one name (ctype_of t.now) count taken (walk_of walk.old)) }
+    ensures { OnOk result (walk_of walk.new ≡ with_one name (ctype_of t.now) count bounds taken (walk_of walk.old)) }
 {
-    walk.scope.add_variable(name, copied(context, t)?, count)?;
+    let t = copied(context, t)?;
+    walk.scope.add_variable(name, t, count, bounds)?;
     walk.taken = taken;
     Ok(())
 }
 
-/// What a variable of a declaration is initialised with, and how many elements it has where it is an array.
+/// What a variable of a declaration is initialised with, how many elements it has where it is an array, and the bounds that are
+/// declared for it.
 #[derive(Drop)]
 pub struct WalkedVariable {
     pub count: Option<u32>,
+    pub bounds: Option<Bounds>,
     pub initial: Judged,
 }
 
@@ -172,10 +205,15 @@ fn variable(
 {
     let taken = room_for(walk, base, span, d)?;
     needs(d.stars == 0, Code::E15, base.span())?;
+    let bounds = object_bounds(context, &walk.scope, t, d)?;
     let count = length_of(d);
-    add_variable(context, walk, d.name.number, t, count, taken)?;
+    add_variable(context, walk, d.name.number, t, count, bounds, taken)?;
     let initial = initializer(context, &walk.scope, &d.initializer)?;
-    Ok(WalkedVariable { count, initial })
+    Ok(WalkedVariable {
+        count,
+        bounds,
+        initial,
+    })
 }
 
 // The variables of a declaration, and what each is initialised with.
@@ -197,7 +235,7 @@ fn variables(
     Ok(walked)
 }
 
-// The cells of a variable.
+// The cells of a variable: no place leads to a pointer for which bounds are declared.
 fn object(
     context: &Context,
     walk: &mut Walk,
@@ -211,7 +249,7 @@ fn object(
     let filled = !cells.is_empty();
     walk.objects.push(Object {
         cells,
-        is_sealed: false,
+        is_sealed: v.bounds.is_some(),
     })?;
     needs(filled, Code::E10, span)
 }

@@ -15,12 +15,12 @@ use Rattle.region_typing_rules.specs.Scopes.{Scope, Signature, WrittenBounds, bo
 use Rattle.region_typing_rules.specs.Types.{is_number, is_single, is_row}
 use Rattle.region_typing_rules.specs.Expressions.{Places, Typed, Value, AStruct, ForNothing, ForArray, For, GivesNothing, number_of, converted, site_at, first_of, writes}
 use Rattle.region_typing_rules.specs.Expressions.{is_single_value, lacks_bounds, argument_meets, arguments_as, arguments_met, call_of, declared_callee, pointers_for, terms_for}
-use Rattle.region_typing_rules.specs.Statements.{updated, set_to, store}
+use Rattle.region_typing_rules.specs.Statements.{declared_for, updated, set_to, store}
 use Rattle.region_typing_expressions.specs.ArgumentBounds.{first_unmet, first_unmet_of, result_bounds_of, unless_unmet}
 use Rattle.region_typing_expressions.specs.Calls.{only_number, converted_call}
 use Rattle.region_typing_expressions.specs.Targets.{target_of, updated_target}
 use Rattle.region_typing_scope.specs.Entailing.{fitted}
-use Rattle.region_typing_scope.proofs.Entailing.{needs_then, converted_then, fitted_then}
+use Rattle.region_typing_scope.proofs.Entailing.{needs_then, converted_then, fits_then}
 
 pub number_then : {A : Type 0} (t : Typed) (span : Span) (next : core.Expression → Verdict A) → number_of t span next ≡ passing (number_of t span Passes) next
 number_then (Value type null value place) span next = needs_then (is_number type) _ span value next
@@ -58,10 +58,10 @@ writes_parts of (a ∷ []) span = rw (converted_then a.0 Int a.1) (one_value (co
 writes_parts of (a ∷ b ∷ others) span = grind arith
 
 -- a store as one of its target
-pub set_parts : (f : Knowledge) (left right : Typed) (span : Span) → set_to f left right span ≡ passing (target_of left span) (λ t. passing (fitted f right t.type span) (λ value. Passes (store t.place t.type value)))
+pub set_parts : (f : Knowledge) (left right : Typed) (span : Span) → set_to f left right span ≡ passing (target_of left span) (λ t. passing (fitted f (declared_for t.place) right t.type span) (λ value. Passes (store t.place t.type value)))
 set_parts f (Value type null value ForNothing) right span = refl
 set_parts f (Value type null value ForArray) right span = refl
-set_parts f (Value type null value (For place)) right span = fitted_then f right type span _
+set_parts f (Value type null value (For place)) right span = fits_then f (declared_for place) right type span _
 set_parts f (AStruct struct place) right span = refl
 
 -- ---- arguments whose bounds are met

@@ -1,5 +1,5 @@
 -- Inside: the bounds that the arguments of a call are asked for, as the code asks for them, and those of its result.
-use Rattle.std.specs.Prelude.{ℕ, Bool, true, ◌||◌, List, [], ◌∷◌, Option, Some, None}
+use Rattle.std.specs.Prelude.{ℕ, List, [], ◌∷◌, Option, Some, None}
 use Rattle.ckc_text.specs.declared.place.Span.{Span}
 use Rattle.ckc_text.specs.declared.code.Code.TheVariants.{E17}
 use Rattle.bounds_exprs.specs.declared.term.Bounds.{Bounds}
@@ -8,7 +8,7 @@ use Rattle.bounds_flow.specs.Flows.{Knowledge}
 use Rattle.pointer_modes.specs.Types.{CType, Int, Char, Struct, Pointer}
 use Rattle.region_typing_rules.specs.Verdicts.{Verdict, Passes, breaks, picked}
 use Rattle.region_typing_rules.specs.Scopes.{Scope, Signature, WrittenBounds, bounds_in}
-use Rattle.region_typing_rules.specs.Readings.{is_null, pointer_local, term}
+use Rattle.region_typing_rules.specs.Readings.{pointer_local, term}
 use Rattle.region_typing_rules.specs.Expressions.{Typed, Value, AStruct, argument_meets, pointers_for, result_at, terms_for}
 
 -- the term of an argument, and that of one for a parameter of a type
@@ -26,11 +26,6 @@ term_for locals t (Pointer mode kind target) = None
 abbrev pub pointer_for : List CType → Typed → Option ℕ
 pointer_for locals (Value type zero value place) = pointer_local locals value
 pointer_for locals (AStruct number place) = None
-
--- null is asked for no bounds, nor is a struct
-abbrev pub is_unasked : Typed → Bool
-is_unasked (Value type zero value place) = zero || is_null value
-is_unasked (AStruct number place) = true
 
 -- the bounds of the first parameter, and what is written for the others
 abbrev pub first_bounds : List WrittenBounds → Option Bounds

@@ -1,8 +1,10 @@
 -- Inside: what an assignment stores in, as the code holds it.
-use Rattle.std.specs.Prelude.{Box, not, ◌&&◌, ◌||◌, Option, is_none}
+use Rattle.std.specs.Prelude.{ℕ, Box, not, ◌&&◌, ◌||◌, Option, Some, is_none}
 use Rattle.std.proofs.Common.{Global, Bool}
 use Rattle.ckc_text.specs.declared.place.Span.{Span}
-use Rattle.ckc_text.specs.declared.code.Code.TheVariants.{E12, E13, E18, E19}
+use Rattle.ckc_text.specs.declared.code.Code.TheVariants.{E12, E13, E17, E18, E19}
+use Rattle.bounds_exprs.specs.declared.term.Bounds.{Bounds}
+use Rattle.bounds_flow.specs.Flows.{Knowledge}
 use Rattle.pointer_modes.specs.Types.{CType, ctype}
 use Rattle.ckc_core.specs.declared.program.Site.{Site}
 use Rattle.ckc_core.specs.declared.program.PointerBounds.{PointerBounds}
@@ -13,8 +15,8 @@ use Rattle.ckc_core.specs.Core.{place}
 use Rattle.region_typing_rules.specs.Verdicts.{Verdict, Passes, passing, needs, breaks, picked}
 use Rattle.region_typing_rules.specs.Scopes.{Scope}
 use Rattle.region_typing_rules.specs.Types.{is_scalar, is_pointer, is_single, is_row}
-use Rattle.region_typing_rules.specs.Expressions.{Typed, Value, AStruct, ForNothing, ForArray, For, Lvalue, OfLocal, OfCell, number_of}
-use Rattle.region_typing_rules.specs.Expressions.{is_single_value, lacks_bounds, operator_along, sum_node}
+use Rattle.region_typing_rules.specs.Expressions.{Typed, Value, AStruct, ForNothing, ForArray, For, Lvalue, OfLocal, OfCell, OfBounded, number_of}
+use Rattle.region_typing_rules.specs.Expressions.{is_single_value, lacks_bounds, meets, operator_along, sum_node}
 use Rattle.region_typing_rules.specs.Statements.{update, moved}
 use Rattle.region_typing_expressions.specs.declared.assignments.Lvalue as code
 use Rattle.region_typing_expressions.specs.declared.assignments.Lvalue.TheVariants as lvalues
@@ -23,11 +25,13 @@ use Rattle.region_typing_expressions.specs.declared.assignments.Target as code_t
 abbrev pub lvalue : code.Lvalue → Lvalue
 lvalue (lvalues.Local local) = OfLocal local
 lvalue (lvalues.Cell cell) = OfCell (place cell)
+lvalue (lvalues.Bounded object declared) = OfBounded object declared
 
 -- what a place of a type holds, with bounds at its node
 abbrev pub held : CType → code.Lvalue → Option PointerBounds → core.Expression
 held type (lvalues.Local local) bounds = core.Local local bounds
 held type (lvalues.Cell cell) bounds = core.Load type (place cell) bounds
+held type (lvalues.Bounded object declared) bounds = core.Load type (core.Direct object 0) bounds
 
 -- a place, its type, and what it holds
 pub record Target : Type 0 where
@@ -59,9 +63,14 @@ may_update t right span =
     needs (not (is_single t.type || is_single_value right)) E19 span
     (needs (not (is_unbounded t || lacks_bounds right)) E18 span (needs (is_scalar t.type) E13 span (Passes tt)))
 
--- a pointer that becomes a sum of it (E18)
+-- a file-level pointer that becomes a sum of it (E17)
+abbrev pub bounded_sum : Knowledge → ℕ → Bounds → CType → core.Expression → Span → Verdict core.Statement
+bounded_sum f object bounds type sum span = needs (meets f sum (Some bounds)) E17 span (Passes (core.Store type (core.Direct object 0) sum))
+
+-- a pointer that becomes a sum of it (E17, E18)
 abbrev pub moved_target : Scope → Direction → Target → core.Expression → Site → Span → Verdict core.Statement
-moved_target s direction t value site span = moved t.place (core.Sum t.value direction value site (sum_node s.locals direction t.value value site)) span
+moved_target s direction t value site span =
+    moved s.flow t.place t.type (core.Sum t.value direction value site (sum_node s.locals direction t.value value site)) span
 
 -- a pointer is moved, and a number is updated in its place
 abbrev pub update_by : Scope → Direction → Target → core.Expression → Site → Span → Verdict core.Statement

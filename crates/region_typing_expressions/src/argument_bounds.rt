@@ -8,7 +8,7 @@ ghost use Rattle.region_typing_scope.specs.Typed.{typed as inline_typed};
 ghost use Rattle.region_typing_scope.specs.Points.{point as point_of};
 ghost use Rattle.region_typing_scope.specs.Views.{signature};
 ghost use Rattle.region_typing_expressions.specs.Calls.{argument};
-ghost use Rattle.region_typing_expressions.specs.ArgumentBounds.{first_unmet as first_unmet_in, first_unmet_of, result_bounds_of, is_unasked as is_unasked_in, pointer_for as pointer_for_in, term_for as term_for_in, term_of as term_of_in, unless_unmet as unless_unmet_at};
+ghost use Rattle.region_typing_expressions.specs.ArgumentBounds.{first_unmet as first_unmet_in, first_unmet_of, result_bounds_of, pointer_for as pointer_for_in, term_for as term_for_in, term_of as term_of_in, unless_unmet as unless_unmet_at};
 
 use crate::calls::Argument;
 use bounds_exprs::term::{Bounds, Term};
@@ -17,10 +17,9 @@ use ckc_text::code::Code;
 use ckc_text::fault::NoMemory;
 use ckc_text::place::Span;
 use pointer_modes::ctype::CType;
-use region_typing_flow::conditions::is_null;
 use region_typing_flow::readings::{local_term, pointer, pointer_local, term};
 use region_typing_scope::context::Context;
-use region_typing_scope::entailment::{has_bounds, is_met};
+use region_typing_scope::entailment::{has_bounds, is_met, is_unasked};
 use region_typing_scope::point::Point;
 use region_typing_scope::refusals::{CheckError, refusal};
 use region_typing_scope::signature::{Signature, bounds_in};
@@ -48,7 +47,8 @@ fn term_of(locals: &[CType], t: &Typed) -> Option<Term>
     match t {
         Typed::Value { value, .. } => term(locals, value),
         Typed::Local { local, .. } => local_term(locals, *local),
-        Typed::Cell { .. } | Typed::Array { .. } | Typed::Struct { .. } => None,
+        Typed::Cell { .. } | Typed::Bounded { .. } | Typed::Array { .. } | Typed::Struct { .. } =>
+            None,
     }
 }
 
@@ -69,7 +69,8 @@ fn pointer_for(locals: &[CType], t: &Typed) -> Option<u32>
     match t {
         Typed::Value { value, .. } => pointer_local(locals, value),
         Typed::Local { local, .. } => pointer(locals, *local),
-        Typed::Cell { .. } | Typed::Array { .. } | Typed::Struct { .. } => None,
+        Typed::Cell { .. } | Typed::Bounded { .. } | Typed::Array { .. } | Typed::Struct { .. } =>
+            None,
     }
 }
 
@@ -131,17 +132,6 @@ fn at_call(passed: &Passed, b: &Bounds) -> Option<Bounds>
             }),
             _ => None,
         },
-    }
-}
-
-/// Whether what is given is asked for no bounds: null isn't, nor is a struct.
-pub fn is_unasked(t: &Typed) -> bool
-    ensures { result ≡ is_unasked_in (inline_typed t.now) }
-{
-    match t {
-        Typed::Value { zero, value, .. } => *zero || is_null(value),
-        Typed::Local { .. } | Typed::Cell { .. } | Typed::Array { .. } => false,
-        Typed::Struct { .. } => true,
     }
 }
 

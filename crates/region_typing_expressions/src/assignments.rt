@@ -5,19 +5,20 @@ ghost use Rattle.ckc_text.specs.Places.{place_at};
 ghost use Rattle.ckc_tree.specs.Expressions.{expression as expression_tree};
 ghost use Rattle.ckc_tree.specs.Statements.{assignment as assignment_tree};
 ghost use Rattle.pointer_modes.specs.Types.{ctype as ctype_of};
-ghost use Rattle.ckc_core.specs.Core.{expression, statement, place as place_of};
+ghost use Rattle.ckc_core.specs.Core.{Direct, Store, expression, statement, place as place_of};
 ghost use Rattle.region_typing_rules.specs.Verdicts.{Passes};
-ghost use Rattle.region_typing_rules.specs.Statements.{store as store_of, update as update_with, updated_place as updated_at, set_to as set_to_of, updated as updated_of, stored as stored_of, step_of as step_from, one as one_of, assignment as assignment_of, condition as condition_of};
+ghost use Rattle.region_typing_rules.specs.Statements.{declared_for as declared_for_place, store as store_of, update as update_with, updated_place as updated_at, set_to as set_to_of, updated as updated_of, stored as stored_of, step_of as step_from, one as one_of, assignment as assignment_of, condition as condition_of};
 ghost use Rattle.region_typing_scope.specs.Answering.{Answers};
 ghost use Rattle.region_typing_scope.specs.Views.{scope as scope_of};
 ghost use Rattle.region_typing_scope.specs.Typed.{typed as inline_typed};
 ghost use Rattle.region_typing_scope.specs.OnHeap.{typed as typed_view, expression as expression_on_heap, statement as statement_on_heap};
-ghost use Rattle.region_typing_expressions.specs.Targets.{target as target_view, target_on_heap, lvalue, target_of as target_in, is_unbounded as is_unbounded_in, may_update as may_update_in, moved_target as moved_to, update_by as update_in, updated_target};
+ghost use Rattle.region_typing_expressions.specs.Targets.{target as target_view, target_on_heap, lvalue, target_of as target_in, is_unbounded as is_unbounded_in, may_update as may_update_in, bounded_sum, moved_target as moved_to, update_by as update_in, updated_target};
 
 use crate::expressions::typed;
 use crate::operand_tests::{is_row, is_single, is_single_value, lacks_bounds};
 use crate::operators::{operator_along, pointer_sum};
 use act_words::operator::Operator;
+use bounds_exprs::term::Bounds;
 use ckc_core::char_cells::has_one_byte;
 use ckc_core::program;
 use ckc_core::program::{CellPlace, Direction, PointerBounds, Site, Stmt};
@@ -29,17 +30,19 @@ use ckc_tree::stmt::{Assignment, StepOperator, StoreOperator};
 use pointer_modes::ctype::CType;
 use region_typing_scope::context::Context;
 use region_typing_scope::conversions::fitted;
+use region_typing_scope::entailment::value_meets;
 use region_typing_scope::operands::{number, scalar};
 use region_typing_scope::refusals::{CheckError, needs, refusal};
 use region_typing_scope::scope::Scope;
 use region_typing_scope::typed::{Typed, plain};
-use region_typing_scope::types::{is_pointer, is_scalar};
+use region_typing_scope::types::{copied, is_pointer, is_scalar};
 
-/// Where a value may be stored.
+/// Where a value may be stored: a local, a cell, or a file-level pointer for which these bounds are declared.
 #[derive(Drop)]
 pub enum Lvalue {
     Local(u32),
     Cell(CellPlace),
+    Bounded { object: u32, declared: Bounds },
 }
 
 /// A place that a value may be stored in, its type, and the bounds of what it holds.
@@ -84,6 +87,12 @@ fn target_of(context: &Context, t: Box<Typed>, span: Span) -> Result<Box<Target>
             place,
             bounds,
         } => target_at(context, ctype, Lvalue::Cell(place), bounds),
+        Typed::Bounded {
+            ctype,
+            object,
+            declared,
+            bounds,
+        } => target_at(context, ctype, Lvalue::Bounded { object, declared }, bounds),
         Typed::Struct { .. } => Err(refusal(Code::E13, span)),
     }
 }
@@ -96,6 +105,28 @@ fn store(target: Target, value: program::Expr) -> Stmt
     match place {
         Lvalue::Local(local) => Stmt::SetLocal { local, value },
         Lvalue::Cell(cell) => Stmt::Store { ctype, cell, value },
+        Lvalue::Bounded { object, .. } => store_bounded(object, ctype, value),
+    }
+}
+
+// A store in a file-level pointer.
+fn store_bounded(object: u32, ctype: CType, value: program::Expr) -> Stmt
+    ensures { statement result ≡ Store (ctype_of ctype) (Direct object 0) (expression value) }
+{
+    Stmt::Store {
+        ctype,
+        cell: CellPlace::Direct { object, offset: 0 },
+        value,
+    }
+}
+
+// The bounds that are declared for where a value goes, which it is asked for at once.
+fn declared_for(place: &Lvalue) -> Option<Bounds>
+    ensures { result ≡ declared_for_place (lvalue place.now) }
+{
+    match place {
+        Lvalue::Local(_) | Lvalue::Cell(_) => None,
+        Lvalue::Bounded { declared, .. } => Some(*declared),
     }
 }
 
@@ -110,7 +141,8 @@ fn set_to(
     ensures { Answers statement_on_heap (set_to_of (scope_of scope.now).flow (typed_view left) (typed_view right) span) result }
 {
     let target = target_of(context, left, span)?;
-    let value = fitted(context, scope, right, &target.ctype, span)?;
+    let declared = declared_for(&target.place);
+    let value = fitted(context, scope, &declared, right, &target.ctype, span)?;
     Ok(context.boxed(store(Box::into_inner(target), value))?)
 }
 
@@ -154,6 +186,13 @@ fn update(target: Target, operator: Operator, value: program::Expr, site: Site) 
             value,
             site,
         },
+        Lvalue::Bounded { object, .. } => Stmt::Update {
+            ctype,
+            cell: CellPlace::Direct { object, offset: 0 },
+            operator,
+            value,
+            site,
+        },
     }
 }
 
@@ -175,6 +214,22 @@ fn may_update(target: &Target, right: &Typed, span: Span) -> Result<(), CheckErr
     needs(is_scalar(&target.ctype), Code::E13, span)
 }
 
+// A sum that is stored in a file-level pointer, whose bounds it meets.
+fn store_sum(
+    scope: &Scope,
+    object: u32,
+    declared: &Bounds,
+    ctype: CType,
+    sum: program::Expr,
+    span: Span,
+) -> Result<Stmt, CheckError>
+    ensures { Answers statement (bounded_sum (scope_of scope.now).flow object declared.now (ctype_of ctype) (expression sum) span) result }
+{
+    let met = value_meets(&scope.flow, &sum, declared)?;
+    needs(met, Code::E17, span)?;
+    Ok(store_bounded(object, ctype, sum))
+}
+
 // A pointer in a place becomes a sum of it; in a cell it has no bounds, so it has no sums.
 fn moved(
     context: &Context,
@@ -187,7 +242,11 @@ fn moved(
 ) -> Result<Stmt, CheckError>
     ensures { Answers statement (moved_to (scope_of scope.now) direction (target_view target) (expression number.value) site span) result }
 {
-    let Target { place, bounds, .. } = target;
+    let Target {
+        ctype,
+        place,
+        bounds,
+    } = target;
     match place {
         Lvalue::Local(local) => {
             let pointer = context.boxed(program::Expr::Local { local, bounds })?;
@@ -195,6 +254,16 @@ fn moved(
             Ok(Stmt::SetLocal { local, value })
         }
         Lvalue::Cell(_) => Err(refusal(Code::E18, span)),
+        Lvalue::Bounded { object, declared } => {
+            let held = program::Expr::Load {
+                ctype: copied(context, &ctype)?,
+                cell: CellPlace::Direct { object, offset: 0 },
+                bounds,
+            };
+            let pointer = context.boxed(held)?;
+            let sum = pointer_sum(scope, direction, pointer, number, site);
+            store_sum(scope, object, &declared, ctype, sum, span)
+        }
     }
 }
 

@@ -216,6 +216,7 @@ fn is_checked_argument(t: &Typed) -> bool
         Typed::Value { ctype, .. }
         | Typed::Local { ctype, .. }
         | Typed::Cell { ctype, .. }
+        | Typed::Bounded { ctype, .. }
         | Typed::Array { ctype, .. } => is_checked_pointer(ctype),
         Typed::Struct { .. } => false,
     }

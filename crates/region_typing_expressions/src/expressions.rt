@@ -4,14 +4,13 @@ ghost use Rattle.std.specs.Prelude.{◌≡◌, IfOk, map, false};
 ghost use Rattle.ckc_text.specs.Places.{place_at};
 ghost use Rattle.ckc_tree.specs.Types.{type_name as type_name_of};
 ghost use Rattle.ckc_tree.specs.Expressions.{expression as expression_of, bounds as bounds_tree, Call, Cast, BoundedCast, Malloc, Name, Index, Dot, Arrow, Unary};
-ghost use Rattle.pointer_modes.specs.Types.{Int, ctype as ctype_of};
+ghost use Rattle.pointer_modes.specs.Types.{Int};
 ghost use Rattle.ckc_core.specs.Core.{Number};
 ghost use Rattle.region_typing_rules.specs.Verdicts.{Passes};
-ghost use Rattle.region_typing_rules.specs.Scopes.{object_of};
 ghost use Rattle.region_typing_rules.specs.Expressions.{beside, constant_typed, Value, ForNothing, site_at, typed as typed_of, name_typed, all_typed as all_typed_of, call_typed as call_typed_of};
 ghost use Rattle.region_typing_scope.specs.Answering.{Answers};
 ghost use Rattle.region_typing_scope.specs.Points.{point as point_of};
-ghost use Rattle.region_typing_scope.specs.Views.{scope as scope_of};
+ghost use Rattle.region_typing_scope.specs.Views.{scope as scope_of, known_object};
 ghost use Rattle.region_typing_scope.specs.OnHeap.{typed as typed_view};
 ghost use Rattle.region_typing_scope.specs.Typed.{number_typed, size_typed, typed as inline_typed};
 ghost use Rattle.region_typing_expressions.specs.Calls.{argument, called as called_as, called_with};
@@ -40,7 +39,7 @@ use region_typing_scope::point::Point;
 use region_typing_scope::refusals::{CheckError, refusal};
 use region_typing_scope::right_operands::{left_truth, told_by};
 use region_typing_scope::scope::Scope;
-use region_typing_scope::typed::{Base, Typed, at_base, at_local};
+use region_typing_scope::typed::{Typed, at_local, at_object};
 use region_typing_scope::types::{copied, type_named};
 
 // A constant, which is 0 or not.
@@ -88,12 +87,14 @@ fn object_value(
     object: &KnownObject,
     site: Site,
 ) -> Result<Box<Typed>, NoMemory>
-    ensures { IfOk result (λ t. typed_view t ≡ name_typed (scope_of scope.now) (object_of object.now.number (ctype_of object.now.ctype.now) object.now.length) site) }
+    ensures { IfOk result (λ t. typed_view t ≡ name_typed (scope_of scope.now) (known_object object.now) site) }
 {
-    let ctype = copied(context, object.ctype)?;
-    let value = match object.length {
-        None => at_base(ctype, Base::Object(object.number)),
-        Some(length) => array(context, &scope.structs, object.number, ctype, length, site)?,
+    let variable = object.variable;
+    let ctype = copied(context, &variable.ctype)?;
+    let structs = &scope.structs;
+    let value = match variable.length {
+        None => at_object(structs, ctype, object.number, variable.bounds, site),
+        Some(length) => array(context, structs, object.number, ctype, length, site)?,
     };
     context.boxed(value)
 }

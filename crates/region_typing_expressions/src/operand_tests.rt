@@ -26,6 +26,7 @@ pub fn is_pointer_value(t: &Typed) -> bool
         Typed::Value { ctype, .. } => is_pointer(ctype),
         Typed::Local { ctype, .. } => is_pointer(ctype),
         Typed::Cell { ctype, .. } => is_pointer(ctype),
+        Typed::Bounded { ctype, .. } => is_pointer(ctype),
         Typed::Array { ctype, .. } => is_pointer(ctype),
         Typed::Struct { .. } => false,
     }
@@ -65,6 +66,7 @@ pub fn is_single_value(t: &Typed) -> bool
         Typed::Value { ctype, .. } => is_single(ctype),
         Typed::Local { ctype, .. } => is_single(ctype),
         Typed::Cell { ctype, .. } => is_single(ctype),
+        Typed::Bounded { ctype, .. } => is_single(ctype),
         Typed::Array { ctype, .. } => is_single(ctype),
         Typed::Struct { .. } => false,
     }
@@ -78,6 +80,7 @@ pub fn lacks_bounds(t: &Typed) -> bool
         Typed::Value { ctype, value, .. } => is_row(ctype) && bounds_of(value).is_none(),
         Typed::Local { ctype, bounds, .. } => is_row(ctype) && bounds.is_none(),
         Typed::Cell { ctype, bounds, .. } => is_row(ctype) && bounds.is_none(),
+        Typed::Bounded { ctype, bounds, .. } => is_row(ctype) && bounds.is_none(),
         Typed::Array { ctype, bounds, .. } => is_row(ctype) && bounds.is_none(),
         Typed::Struct { .. } => false,
     }
@@ -101,6 +104,7 @@ pub fn is_number_value(t: &Typed) -> bool
         Typed::Value { ctype, .. } => is_number(ctype),
         Typed::Local { ctype, .. } => is_number(ctype),
         Typed::Cell { ctype, .. } => is_number(ctype),
+        Typed::Bounded { ctype, .. } => is_number(ctype),
         Typed::Array { ctype, .. } => is_number(ctype),
         Typed::Struct { .. } => false,
     }
@@ -121,6 +125,7 @@ fn is_comparable(a: &CType, right: &Typed) -> bool
         Typed::Value { ctype, .. } => are_comparable(a, ctype),
         Typed::Local { ctype, .. } => are_comparable(a, ctype),
         Typed::Cell { ctype, .. } => are_comparable(a, ctype),
+        Typed::Bounded { ctype, .. } => are_comparable(a, ctype),
         Typed::Array { ctype, .. } => are_comparable(a, ctype),
         Typed::Struct { .. } => false,
     }
@@ -134,6 +139,7 @@ pub fn are_comparable_values(left: &Typed, right: &Typed) -> bool
         Typed::Value { ctype, .. } => is_comparable(ctype, right),
         Typed::Local { ctype, .. } => is_comparable(ctype, right),
         Typed::Cell { ctype, .. } => is_comparable(ctype, right),
+        Typed::Bounded { ctype, .. } => is_comparable(ctype, right),
         Typed::Array { ctype, .. } => is_comparable(ctype, right),
         Typed::Struct { .. } => false,
     }
@@ -147,6 +153,7 @@ fn is_row_value(t: &Typed) -> bool
         Typed::Value { ctype, .. } => is_row(ctype),
         Typed::Local { ctype, .. } => is_row(ctype),
         Typed::Cell { ctype, .. } => is_row(ctype),
+        Typed::Bounded { ctype, .. } => is_row(ctype),
         Typed::Array { ctype, .. } => is_row(ctype),
         Typed::Struct { .. } => false,
     }
@@ -159,7 +166,8 @@ fn based_value(t: &Typed) -> Option<Bounds>
     match t {
         Typed::Value { value, .. } => based_bounds(value),
         Typed::Local { local, bounds, .. } => local_bounds(*local, *bounds),
-        Typed::Cell { .. } | Typed::Array { .. } | Typed::Struct { .. } => None,
+        Typed::Cell { .. } | Typed::Bounded { .. } | Typed::Array { .. } | Typed::Struct { .. } =>
+            None,
     }
 }
 

@@ -165,7 +165,9 @@ pub fn address(
 {
     match Box::into_inner(t) {
         Typed::Value { .. } => Err(refusal(Code::E12, span)),
-        Typed::Local { .. } | Typed::Array { .. } => Err(refusal(Code::E22, span)),
+        Typed::Local { .. } | Typed::Bounded { .. } | Typed::Array { .. } => {
+            Err(refusal(Code::E22, span))
+        }
         Typed::Cell { ctype, place, .. } => Ok(pointer_to(context, ctype, place, site)?),
         Typed::Struct { number, place } => match place {
             StructPlace::Local(_) => Err(refusal(Code::E22, span)),

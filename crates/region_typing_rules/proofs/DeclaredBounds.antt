@@ -1,6 +1,6 @@
 -- The bounds that are declared for a local speak of `int` locals, count from the pointer itself or from one like it, and have small
 -- constants.
-use Rattle.std.proofs.Common.{◌≡◌, ℕ, ◌≤◌, ℤ, pos, ◌≤ℤ◌, Bool, true, false, List, [], ◌∷◌, ◌++◌, length, Option, Some, None, refl, subst, arith}
+use Rattle.std.proofs.Common.{◌≡◌, ℕ, zero, suc, ◌<◌, ◌≤◌, ℤ, pos, ◌≤ℤ◌, Bool, true, false, List, [], ◌∷◌, ◌++◌, length, Option, Some, None, refl, subst, arith}
 use Rattle.std.specs.Prelude.{◌==◌, ◌&&◌, nat_lt, ◌^◌, neg_ℤ, slice_get, cond, is_none}
 use Rattle.std.specs.Int.Signed.{le_z}
 use Rattle.std.specs.Int.{int_div_euclid}
@@ -21,6 +21,7 @@ use Rattle.bounds_exprs.specs.Sums.{Sum, variables_of, constant_of, is_term, ter
 use Rattle.bounds_exprs.specs.Normal as normal
 use Rattle.bounds_exprs.specs.Normal.{How, End, constant, is_element_size, elements_in, elements_of, pointer_of, negated, end_at, end_of, is_same, bounds_within, counted, paired, bounds_of}
 use Rattle.subsumption.specs.Facts.{IsBelow}
+use Rattle.pointer_modes.specs.declared.ctype.Mode.{Mode}
 use Rattle.pointer_modes.specs.declared.ctype.Kind.{Kind}
 use Rattle.pointer_modes.specs.declared.ctype.Kind.TheVariants as kinds
 use Rattle.pointer_modes.specs.Types.{CType, Int, Char, Struct, Pointer, Structure}
@@ -36,6 +37,7 @@ use Rattle.region_typing_rules.specs.Knowing.{local_number}
 use Rattle.region_typing_rules.specs.KnownIsSo.{AreLimited}
 use Rattle.region_typing_rules.specs.DeclaredBounds.{Bounded, local_sum, name_sum, operation_sum, sum_written, all_written, parts_written, how_written, normal_bounds, bounded_of, declared_bounds}
 use Rattle.region_typing_rules.specs.DeclaredFormed.{IsFormedIf, DeclaredFormed}
+use Rattle.region_typing_rules.specs.Typed.{AreConstant}
 use Rattle.region_typing_rules.proofs.Verdicts.{Promises, passing_promises, needs_promises, anything_promised, promised_so, promise_kept}
 use Rattle.region_typing_rules.proofs.SameTypes.{mode_equal, same_equal}
 
@@ -57,9 +59,9 @@ within_more z h =
 
 -- the types of the locals, and the pointer that bounds are for
 module _ (types : List CType) (p : Bounded) where
-  -- a pointer like this one
+  -- another pointer like this one
   abbrev IsAlike : ℕ → Type 0
-  IsAlike q = (k : Kind) × (slice_get types q ≡ Some (Pointer p.mode k p.element))
+  IsAlike q = (k : Kind) × (slice_get types q ≡ Some (Pointer p.mode k p.element)) × ((q == p.own) ≡ false)
 
   abbrev IsBase : Option ℕ → Type 0
   IsBase None = Unit {0}
@@ -225,9 +227,9 @@ module _ (types : List CType) (p : Bounded) where
 
 -- ---- what is written
 
-picked_so : {A : Type 0} (P : A → Type 0) (test : Bool) (x y : A) → (test ≡ true → P x) → P y → P (picked test x y)
+picked_so : {A : Type 0} (P : A → Type 0) (test : Bool) (x y : A) → (test ≡ true → P x) → (test ≡ false → P y) → P (picked test x y)
 picked_so P true x y h k = h refl
-picked_so P false x y h k = k
+picked_so P false x y h k = k refl
 
 module _ (s : Scope) (p : Bounded) where
   abbrev IsWritten : Sum → Type 0
@@ -240,18 +242,18 @@ module _ (s : Scope) (p : Bounded) where
   local_formed local (Some (Struct number)) e = tt
   local_formed local (Some (Pointer mode kind target)) e =
       picked_so IsWritten (local == p.own) (sums.Pointer None) (picked (same_mode p.mode mode && same_type p.element target) (sums.Pointer (Some local)) sums.Other) (λ own. tt)
-      (picked_so IsWritten (same_mode p.mode mode && same_type p.element target) (sums.Pointer (Some local)) sums.Other alike tt)
+      (λ other. picked_so IsWritten (same_mode p.mode mode && same_type p.element target) (sums.Pointer (Some local)) sums.Other (alike other) (λ unlike. tt))
     where
-      alike : (same_mode p.mode mode && same_type p.element target) ≡ true → IsAlike s.locals p local
-      alike test =
+      alike : (local == p.own) ≡ false → (same_mode p.mode mode && same_type p.element target) ≡ true → IsAlike s.locals p local
+      alike other test =
           let both = both_true (same_mode p.mode mode) (same_type p.element target) test in
           let m : p.mode ≡ mode = mode_equal p.mode mode both.0 in
           let t : p.element ≡ target = same_equal p.element target both.1 in
-          (kind, rw (m, t) e)
+          (kind, rw (m, t) e, other)
 
   name_formed : (name : ℕ) (o : Option ℕ) → IsWritten (name_sum s p name o)
   name_formed name (Some local) = local_formed local (slice_get s.locals local) refl
-  name_formed name None = picked_so IsWritten (name == s.given.null) (sums.Number (pos 0)) sums.Other (λ null. tt) tt
+  name_formed name None = picked_so IsWritten (name == s.given.null) (sums.Number (pos 0)) sums.Other (λ null. tt) (λ other. tt)
 
   operation_formed : (operator : BinaryOperator) (a b : Sum) → IsWritten a → IsWritten b → IsWritten (operation_sum operator a b)
   operation_formed binary.Add a b h k = (h, k)
@@ -323,20 +325,87 @@ for_row structs types own (Pointer mode kinds.Array target) row bytes (Some b) h
   own = refl;
   some = ltb-true 0 (size_of structs target) bytes;
   ints = h.ints;
-  base = λ q e. subst (IsBase types (bounded_of own (Pointer mode kinds.Array target))) e h.base;
+  base = λ q e. (let is = subst (IsBase types (bounded_of own (Pointer mode kinds.Array target))) e h.base in (is.0, is.1));
   limited = h.limited;
 }
 
--- what is declared is formed
-pub declared_formed : (s : Scope) (t : CType) (own : ℕ) (o : Option e.Bounds) → Promises (IsFormedIf s.structs s.locals t) (declared_bounds s t own o)
-declared_formed s t own None = tt
-declared_formed s t own (Some b) =
+-- what is so of bounds that are formed for a pointer to an array is so of what is declared
+declared_promises : (P : Option Bounds → Type 0) (s : Scope) (t : CType) (own : ℕ) (o : Option e.Bounds) → P None
+    → (is_row t ≡ true → nat_lt 0 (size_of s.structs (bounded_of own t).element) ≡ true → (o : Option Bounds) → AreFormedIf s.locals (bounded_of own t) o → P o) → Promises P (declared_bounds s t own o)
+declared_promises P s t own None none more = none
+declared_promises P s t own (Some b) none more =
     let p : Bounded = bounded_of own t in
     let size : ℕ = size_of s.structs p.element in
-    passing_promises (IsHow s.locals p) (IsFormedIf s.structs s.locals t) (how_written s p b) (λ how. needs (is_row t && nat_lt 0 size) E16 (bounds_span b) (normal_bounds how size (bounds_span b))) (how_is s p b) (λ how h.
-    needs_promises (IsFormedIf s.structs s.locals t) (is_row t && nat_lt 0 size) E16 (bounds_span b) (normal_bounds how size (bounds_span b)) (λ both.
+    passing_promises (IsHow s.locals p) P (how_written s p b) (λ how. needs (is_row t && nat_lt 0 size) E16 (bounds_span b) (normal_bounds how size (bounds_span b))) (how_is s p b) (λ how h.
+    needs_promises P (is_row t && nat_lt 0 size) E16 (bounds_span b) (normal_bounds how size (bounds_span b)) (λ both.
     let parts = and_parts (is_row t) (nat_lt 0 size) both in
-    promised_so (AreFormedIf s.locals p) (IsFormedIf s.structs s.locals t) (normal_bounds how size (bounds_span b)) (bounds_formed s.locals p how size (bounds_span b) h) (for_row s.structs s.locals own t parts.0 parts.1)))
+    promised_so (AreFormedIf s.locals p) P (normal_bounds how size (bounds_span b)) (bounds_formed s.locals p how size (bounds_span b) h) (more parts.0 parts.1)))
+
+-- what is declared is formed
+pub declared_formed : (s : Scope) (t : CType) (own : ℕ) (o : Option e.Bounds) → Promises (IsFormedIf s.structs s.locals t) (declared_bounds s t own o)
+declared_formed s t own o = declared_promises (IsFormedIf s.structs s.locals t) s t own o tt (for_row s.structs s.locals own t)
+
+-- ---- bounds that name nothing but their pointer
+
+-- bounds of a pointer to an array of elements that have bytes, which count from the pointer itself, between constants
+pub record IsConstantFor (structs : List Structure) (t : CType) (b : Bounds) : Type 0 where
+  pub mode : Mode
+  pub element : CType
+  pub own : t ≡ Pointer mode kinds.Array element
+  pub some : 0 < size_of structs element
+  pub limited : AreLimited b
+  pub constant : AreConstant b
+
+abbrev pub IsConstantIf : List Structure → CType → Option Bounds → Type 0
+IsConstantIf structs t None = Unit {0}
+IsConstantIf structs t (Some b) = IsConstantFor structs t b
+
+-- a pointer is the one local
+module _ (m : Mode) (k : Kind) (target : CType) where
+  abbrev alone : List CType
+  alone = Pointer m k target ∷ []
+
+  no_int : (x : ℕ) → slice_get alone x ≡ Some Int → ⊥
+  no_int zero h = absurd (cc)
+  no_int (suc x) h = absurd (cc)
+
+  no_variable : (o : Option ℕ) → IsInt alone o → o ≡ None
+  no_variable None h = refl
+  no_variable (Some x) h = absurd (no_int x h)
+
+  no_base : (o : Option ℕ) → IsBase alone (bounded_of 0 (Pointer m k target)) o → o ≡ None
+  no_base None h = refl
+  no_base (Some zero) h = absurd (let other = h.2 in cc)
+  no_base (Some (suc q)) h = absurd (let none = h.1 in cc)
+
+for_own : (structs : List Structure) (t : CType) → is_row t ≡ true → nat_lt 0 (size_of structs (bounded_of 0 t).element) ≡ true → (o : Option Bounds) → AreFormedIf (t ∷ []) (bounded_of 0 t) o → IsConstantIf structs t o
+for_own structs t row bytes None h = tt
+for_own structs Int row bytes (Some b) h = absurd (cc)
+for_own structs Char row bytes (Some b) h = absurd (cc)
+for_own structs (Struct number) row bytes (Some b) h = absurd (cc)
+for_own structs (Pointer mode kinds.One target) row bytes (Some b) h = absurd (cc)
+for_own structs (Pointer mode kinds.Nt target) row bytes (Some b) h = absurd (cc)
+for_own structs (Pointer mode kinds.Array target) row bytes (Some b) h = record {
+  mode = mode;
+  element = target;
+  own = refl;
+  some = ltb-true 0 (size_of structs target) bytes;
+  limited = h.limited;
+  constant = record {
+    base = no_base mode kinds.Array target b.base h.base;
+    lo = no_variable mode kinds.Array target b.lo.var h.ints.lo;
+    hi = no_variable mode kinds.Array target b.hi.var h.ints.hi;
+  };
+}
+
+pub own_formed : (s : Scope) (t : CType) (o : Option e.Bounds) → s.locals ≡ t ∷ [] → Promises (IsConstantIf s.structs t) (declared_bounds s t 0 o)
+own_formed s t o alone =
+    declared_promises (IsConstantIf s.structs t) s t 0 o tt
+    (λ row bytes b h. for_own s.structs t row bytes b (subst (λ types. AreFormedIf types (bounded_of 0 t) b) alone h))
+
+-- what is no pointer has none
+pub none_formed : (s : Scope) (o : Option e.Bounds) → Promises (λ (b : Option Bounds). b ≡ None) (declared_bounds s Int 0 o)
+none_formed s o = declared_promises (λ (b : Option Bounds). b ≡ None) s Int 0 o refl (λ row bytes b h. absurd (cc))
 
 pub declared_is_formed : DeclaredFormed
 declared_is_formed s t own o b e = promise_kept (IsFormedIf s.structs s.locals t) (declared_bounds s t own o) b (declared_formed s t own o) e

@@ -37,7 +37,7 @@ use Rattle.region_typing_rules.specs.KnownIsSo.{WhereGiven, AreLimitedIf, declar
 use Rattle.region_typing_rules.proofs.DeclaredBounds.{declared_formed, formed_below}
 use Rattle.region_typing_rules.proofs.Sure.{sure_further}
 use Rattle.region_typing_rules.proofs.Terms.{formed_later, so_both}
-use Rattle.region_typing_rules.proofs.Verdicts.{Promises, passing_promises, needs_promises, both_promise, later_promises, Extends, extends_append, extends_last}
+use Rattle.region_typing_rules.proofs.Verdicts.{Promises, passing_promises, needs_promises, both_promise, later_promises, Extends, extends_append, extends_last, extends_length}
 use Rattle.region_typing_rules.proofs.Moving.{IsMovedTo, KnotMoves, effect_moves, knots_move}
 use Rattle.region_typing_rules.proofs.Alike.{fits_moved, has_alike}
 use Rattle.region_typing_rules.proofs.Between.{IsAmid, IsSettling, assigned_amid, settling_promises, settled_beside, between_settled}
@@ -52,7 +52,7 @@ use Rattle.region_typing_rules.proofs.Soundness.{IsNext, IsKept, Runs, IsKnot, h
 use Rattle.std.specs.List.{AllByRecursion}
 use Rattle.ckc_core.specs.States.{shapes}
 use Rattle.region_typing_rules.proofs.Marks.{IsAssignment, IsFirst, target_of, assignment_plain, initialised_plain}
-use Rattle.region_typing_rules.proofs.Ways.{Declares, MayCome, declares_here, declares_knowing, declares_local, declares_on, extends_length, fits_further, walk_knowing, walk_local, walk_arrays, declares_arrays}
+use Rattle.region_typing_rules.proofs.Ways.{Declares, MayCome, declares_here, declares_knowing, declares_local, declares_on, fits_further, walk_knowing, walk_local, walk_arrays, declares_arrays}
 use Rattle.region_typing_rules.proofs.LocalArrays.{memory_of, settled_array, declarator_promises}
 use Rattle.region_typing_rules.proofs.Expressions.{memory_typed}
 use Rattle.region_typing_rules.specs.Cells.{is_length}
@@ -133,6 +133,7 @@ module _ (frame : Frame) (types : List CType) (all_scalar : AllByRecursion IsSca
       same_type : (a b : CType) → Some a ≡ Some b → a ≡ b
       same_type a b q = cc
   are_moving n low knots g w reaches few (typed.store scalar place h) s at = tt
+  are_moving n low knots g w reaches few (typed.store_bounded is h asked) s at = tt
   are_moving n low knots g w reaches few (typed.update_local found number char h) s at = tt
   are_moving n low knots g w reaches few (typed.update number place h) s at = tt
   are_moving n low knots g w reaches few (typed.evaluate h) s at = tt

@@ -58,7 +58,7 @@ use Rattle.region_typing_rules.specs.Verdicts.{Verdict, Passes, Stops, passing, 
 use Rattle.region_typing_rules.specs.Scopes.{Scope, Signature, WrittenBounds, bounds_in, Named, Local, Object, Array, Nothing, named, function_named, members_named}
 use Rattle.region_typing_rules.specs.Types.{type_named, is_number, is_pointer, is_row, are_comparable, kind_converts, pointer_converts, converts}
 use Rattle.region_typing_rules.specs.Readings.{left_told, constant, against, sum_bounds, own_bounds, from_base, based_bounds, is_null, is_pointer_type, pointer_local, term}
-use Rattle.region_typing_rules.specs.Expressions.{Places, OfLocal, OfCell, Standing, ForNothing, ForArray, For, Typed, Value, AStruct, Called, Gives, GivesNothing, site_at, bounds_by, bounds_at, noted_if, with_bounds, one_element, sum_node, bounded, number, at_place, in_force, local_typed, name_typed, member_place, member_from, offset_among, member_at, dotted, with_elements, first_element, pointed_by, arrowed, pointed_at, dereferenced, checked_at, pointer_to, address, number_of, scalar_of, unary_typed, is_single_value, lacks_bounds, without_ptr, two_numbers, two_scalars, operator_along, summed, sum_typed, as_pointer, equated_values, equated, have_one_base, are_related, ordered_values, ordered, arithmetic, beside, binary_typed, element_at, indexed, is_met, in_type, asked_as, asked_of, meets, bounds_met, converted, arguments_as, arguments_met, is_import, side_number, callee_of, call_of, first_of, writes, predefined_call, called, with_result, constant_typed, typed, all_typed, call_typed, argument_meets, at_call, meets_all, pointer_for, pointers_for, term_for, terms_for, call_bounds, result_at, is_array, local_standing}
+use Rattle.region_typing_rules.specs.Expressions.{Places, OfLocal, OfCell, OfBounded, Standing, ForNothing, ForArray, For, Typed, Value, AStruct, Called, Gives, GivesNothing, site_at, bounds_by, bounds_at, noted_if, with_bounds, one_element, sum_node, bounded, number, at_place, in_force, local_typed, name_typed, pointer_typed, member_place, member_from, offset_among, member_at, dotted, with_elements, first_element, pointed_by, arrowed, pointed_at, dereferenced, checked_at, pointer_to, address, number_of, scalar_of, unary_typed, is_single_value, lacks_bounds, without_ptr, two_numbers, two_scalars, operator_along, summed, sum_typed, as_pointer, equated_values, equated, have_one_base, are_related, ordered_values, ordered, arithmetic, beside, binary_typed, element_at, indexed, is_met, in_type, asked_as, asked_of, meets, bounds_met, converted, arguments_as, arguments_met, is_import, side_number, callee_of, call_of, first_of, writes, predefined_call, called, with_result, constant_typed, typed, all_typed, call_typed, argument_meets, at_call, meets_all, pointer_for, pointers_for, term_for, terms_for, call_bounds, result_at, is_array, local_standing}
 use Rattle.region_typing_rules.specs.Expressions.{first_factor, second_factor, factor_beside, is_size, elements_in, row_counted, allocation, allocation_if, malloc_typed, calloc_typed, casts_to, takes, has_base, base_in, cast_checked, cast_typed, cast_bounds}
 use Rattle.ckc_core.specs.Steps.{is_char}
 use Rattle.bounds_flow_meaning.specs.Sums.{counted}
@@ -69,19 +69,19 @@ use Rattle.region_typing_rules.proofs.DeclaredBounds.{declared_formed, int_below
 use Rattle.region_typing_rules.proofs.NewCells.{AreNewCells, new_cells}
 use Rattle.region_typing_rules.proofs.Terms.{term_formed}
 use Rattle.region_typing_rules.specs.Typed as rules
-use Rattle.region_typing_rules.specs.Typed.{Frame, AreNewBounds, IsBaseOf, AreAsked, AreOfResult, HasCallBounds, HasResultBounds, HaveRows, IsAsked, IsAskedAt, IsCallee, IsReturned, pointers_of, term_of, terms_of, HasBounds, AreSumBounds, CountsFrom, HasElements, IsInForce, LeadsToOne, HasType, HaveTypes, HasPlace, IsSimple, IsScalar, IsScalarResult, IsNumberResult}
+use Rattle.region_typing_rules.specs.Typed.{Frame, IsBoundedObject, AreNewBounds, IsBaseOf, AreAsked, AreOfResult, HasCallBounds, HasResultBounds, HaveRows, IsAsked, IsAskedAt, IsCallee, IsReturned, pointers_of, term_of, terms_of, HasBounds, AreSumBounds, CountsFrom, HasElements, IsInForce, LeadsToOne, HasType, HaveTypes, HasPlace, IsSimple, IsScalar, IsScalarResult, IsNumberResult}
 use Rattle.region_typing_rules.proofs.Values.{member_row}
 use Rattle.region_typing_rules.proofs.Verdicts.{Promises, passing_promises, needs_promises, anything_promised, Extends}
 use Rattle.region_typing_rules.proofs.Known.{IsKnown, IsKnownResult, IsSizedResult, size_kept, bounds_kept, type_known}
 use Rattle.region_typing_rules.proofs.KnownTypes.{IsKnownTyped, typed_known}
 use Rattle.region_typing_rules.proofs.Signatures.{named_has}
-use Rattle.region_typing_rules.proofs.Knowledge.{IsNumberType, IsTrusted, IsTainted, Knows, array_sized, StandsFor, name_stands, crossing_promises, HasMember, IfMember, member_there, member_slot}
+use Rattle.region_typing_rules.proofs.Knowledge.{IsBoundedPointer, IsNumberType, IsTrusted, IsTainted, Knows, array_sized, StandsFor, name_stands, crossing_promises, HasMember, IfMember, member_there, member_slot}
 use Rattle.region_typing_rules.proofs.SameTypes.{mode_equal, same_equal}
 use Rattle.region_typing_rules.proofs.Elements.{based_has_base}
 use Rattle.region_typing_rules.proofs.Sizes.{size_fits}
 use Rattle.act_words.specs.Checks.{is_word_number}
 use Rattle.region_typing_rules.proofs.Alike.{alike_here}
-use Rattle.region_typing_rules.specs.Statements.{result_meets}
+use Rattle.region_typing_rules.specs.Statements.{meets_declared}
 use Rattle.region_typing_rules.specs.Knowing.{knowing, when}
 use Rattle.bounds_exprs.specs.Changes.{ends_filled_in}
 use Rattle.bounds_flow_meaning.specs.Holding.{AreInts}
@@ -368,6 +368,7 @@ module _ (g : Frame) (types : List CType) (s : Scope) where
   FitsPlace type ForArray = Unit {0}
   FitsPlace type (For (OfLocal k)) = slice_get types k ≡ Some type
   FitsPlace type (For (OfCell p)) = HasPlace g types s p type
+  FitsPlace type (For (OfBounded k b)) = IsBoundedPointer g type b k
 
   pub record FitsValue (type : CType) (zero : Bool) (value : core.Expression) (place : Standing) : Type 0 where
     pub has_type : HasType g types s value type
@@ -381,6 +382,7 @@ module _ (g : Frame) (types : List CType) (s : Scope) where
   Fits (Value type zero value place) = FitsValue type zero value place
   Fits (AStruct number (OfLocal k)) = ⊥
   Fits (AStruct number (OfCell p)) = HasPlace g types s p (Struct number)
+  Fits (AStruct number (OfBounded k b)) = ⊥
 
   -- what it is fits with bounds at its node, wherever it begins
   abbrev pub FitsNoted : Typed → Type 0
@@ -489,9 +491,30 @@ module _ (g : Frame) (types : List CType) (s : Scope) where
     local_fits k (Pointer m kinds.Array t) array at scalar h site = standing_fits k (Pointer m kinds.Array t) _ array (row_fits k m t at site h)
     local_fits k (Pointer m kinds.Nt t) array at scalar h site = standing_fits k (Pointer m kinds.Nt t) _ array (held_fits knows.locals (Pointer m kinds.Nt t) k site refl h)
 
+    -- a file-level pointer has the bounds that are declared for it
+    object_fits : (k : ℕ) (m : Mode) (u : CType) (b : Bounds) (at : Site) → IsBoundedObject g k m u b → IsKnown s.structs u → FitsNoted (pointer_typed s.structs k (Pointer m kinds.Array u) b at)
+    object_fits k m u b at is known site =
+        let size : size_of s.structs u ≡ size_of g.structs u = size_kept s.structs g.structs u knows.file.structs known in
+        let fits : FitsValue (Pointer m kinds.Array u) false (core.Load (Pointer m kinds.Array u) (core.Direct k 0) (Some (record { bounds = b; size = size_of s.structs u; site = at }))) (For (OfBounded k b)) = record {
+          has_type = rules.bounded_object is size;
+          is_number = λ x. absurd (cc);
+          stands = record { mode = m; element = u; own = refl; object = is };
+          scalar = refl;
+          node = record {
+            own = record { size = size; some = is.some; below = record { lo = subst (IsBelow s.flow.vars) (sym is.constant.lo) tt; hi = subst (IsBelow s.flow.vars) (sym is.constant.hi) tt } };
+            based = λ d e. absurd (cc);
+          };
+        } in
+        subst (λ o. FitsValue (Pointer m kinds.Array u) false (noted_if o (core.Load (Pointer m kinds.Array u) (core.Direct k 0) (Some (record { bounds = b; size = size_of s.structs u; site = at })))) (For (OfBounded k b))) (sym (no_row m _)) fits
+
+    bounded_pointer_fits : (k : ℕ) (t : CType) (b : Bounds) (at : Site) → IsBoundedPointer g t b k → IsKnown s.structs t → FitsNoted (pointer_typed s.structs k t b at)
+    bounded_pointer_fits k t b at is known =
+        subst (λ t. FitsNoted (pointer_typed s.structs k t b at)) (sym is.own) (object_fits k is.mode is.element b at is.object (subst (IsKnown s.structs) is.own known))
+
     name_fits : (at : Site) (n : Named) → StandsFor g s.structs s.locals n → FitsNoted (name_typed s n at)
     name_fits at (Local k t) h = local_fits k t (is_array s.arrays k) at (of_element IsScalar types k t knows.scalar (knows.locals k t h)) h
-    name_fits at (Object k t) h = at_place_fits t (core.Direct k 0) (rules.direct h.found h.row)
+    name_fits at (Object k t None) h = at_place_fits t (core.Direct k 0) (rules.direct h.0.found h.0.row)
+    name_fits at (Object k t (Some b)) h = bounded_pointer_fits k t b at h.0 h.1
     name_fits at (Array k t n) h = λ site.
         let size : size_of s.structs t ≡ size_of g.structs t = size_kept s.structs g.structs t knows.file.structs h.1 in
         record {
@@ -533,8 +556,10 @@ module _ (g : Frame) (types : List CType) (s : Scope) where
   address_promises (Value type zero value ForArray) site span h = tt
   address_promises (Value type zero value (For (OfLocal k))) site span h = tt
   address_promises (Value type zero value (For (OfCell p))) site span h = pointer_fits h.stands site
+  address_promises (Value type zero value (For (OfBounded k b))) site span h = tt
   address_promises (AStruct number (OfLocal k)) site span h = tt
   address_promises (AStruct number (OfCell p)) site span h = pointer_fits h site
+  address_promises (AStruct number (OfBounded k b)) site span h = tt
 
   -- where a pointer has bounds
   elements_promise : {A : Type 0} (Q : A → Type 0) (t : CType) (value : core.Expression) (span : Span) (next : Verdict A) → IsRow g.structs s.flow.vars t value → ((p : PointerBounds) → HasElements g.structs value t p → Promises Q next) → Promises Q (with_elements value span next)
@@ -906,11 +931,11 @@ module _ (g : Frame) (types : List CType) (s : Scope) where
     kind_typed m t kinds.Nt kinds.Array value converts h node met = rules.ended_row h node.own
     kind_typed m t kinds.Nt kinds.Nt value converts h node met = h
 
-    pointer_typed : (type : CType) (m : Mode) (k : Kind) (t : CType) (value : core.Expression) → pointer_converts type k (Pointer m k t) ≡ true → HasType g types s value type → HasNode g.structs s.flow.vars type value → meets s.flow value (asked_of type (Pointer m k t)) ≡ true → HasType g types s value (Pointer m k t)
-    pointer_typed Int m k t value converts h node met = absurd (cc)
-    pointer_typed Char m k t value converts h node met = absurd (cc)
-    pointer_typed (Struct n) m k t value converts h node met = absurd (cc)
-    pointer_typed (Pointer m' k' t') m k t value converts h node met =
+    converted_pointer : (type : CType) (m : Mode) (k : Kind) (t : CType) (value : core.Expression) → pointer_converts type k (Pointer m k t) ≡ true → HasType g types s value type → HasNode g.structs s.flow.vars type value → meets s.flow value (asked_of type (Pointer m k t)) ≡ true → HasType g types s value (Pointer m k t)
+    converted_pointer Int m k t value converts h node met = absurd (cc)
+    converted_pointer Char m k t value converts h node met = absurd (cc)
+    converted_pointer (Struct n) m k t value converts h node met = absurd (cc)
+    converted_pointer (Pointer m' k' t') m k t value converts h node met =
         let both = and_parts (same_mode m' m && same_type t' t) (kind_converts k' k) converts in
         let same = and_parts (same_mode m' m) (same_type t' t) both.0 in
         subst (λ x. HasType g types s value (Pointer x k t)) (mode_equal m' m same.0)
@@ -920,7 +945,7 @@ module _ (g : Frame) (types : List CType) (s : Scope) where
     null_or : (zero : Bool) (type : CType) (m : Mode) (k : Kind) (t : CType) (value : core.Expression) → (zero ≡ true → IsNumberType type) → converts type zero (Pointer m k t) ≡ true → HasType g types s value type → HasNode g.structs s.flow.vars type value
         → (zero || meets s.flow value (asked_of type (Pointer m k t))) ≡ true → HasType g types s (as_pointer (zero && is_number type) value) (Pointer m k t)
     null_or true type m k t value number converts h node met = rw (number refl) rules.null
-    null_or false type m k t value number converts h node met = pointer_typed type m k t value converts h node met
+    null_or false type m k t value number converts h node met = converted_pointer type m k t value converts h node met
 
     in_type_typed : (to type : CType) (zero : Bool) (value : core.Expression) → (zero ≡ true → IsNumberType type) → converts type zero to ≡ true → HasType g types s value type → HasNode g.structs s.flow.vars type value → (zero || meets s.flow value (asked_of type to)) ≡ true → HasType g types s (in_type to (zero && is_number type) value) to
     in_type_typed Int type zero value number h typed node met = as_int type value h typed
@@ -1014,7 +1039,22 @@ module _ (g : Frame) (types : List CType) (s : Scope) where
 
     -- ---- what arguments are asked
 
-    -- the bounds of a pointer that converts to one to an array
+    -- the bounds of a pointer to an array
+    row_ends : (m : Mode) (t : CType) (value : core.Expression) → HasNode g.structs s.flow.vars (Pointer m kinds.Array t) value → HasEndsBelow g.structs s knows.flow knows.few value
+    row_ends m t value node = record { own = λ b e. row_own b e; based = node.based }
+      where
+        row_own : (b : Bounds) → own_bounds value ≡ Some b → AreEndsBelow s.flow.vars b
+        row_own b e = by (bounds_of value) refl node.own
+          where
+            by : (o : Option PointerBounds) → bounds_of value ≡ o → AreCounted g.structs s.flow.vars t o → AreEndsBelow s.flow.vars b
+            by None n counted = absurd (let none = rw n at e in cc)
+            by (Some p) n counted = let found : Some p.bounds ≡ Some b = rw n at e in let same : p.bounds ≡ b = cc in subst (AreEndsBelow s.flow.vars) same counted.below
+
+    -- where it meets bounds, it is valid with them
+    pub row_asked : (m : Mode) (t : CType) (value : core.Expression) (b : Bounds) → HasNode g.structs s.flow.vars (Pointer m kinds.Array t) value → AreInts s.locals b → meets s.flow value (Some b) ≡ true → IsAsked g.structs s value b
+    row_asked m t value b node ints met = asked_so g.structs s knows.flow knows.few value b (row_ends m t value node) ints met
+
+    -- and of one that converts to it
     row_below : (type : CType) (m : Mode) (u : CType) (value : core.Expression) → pointer_converts type kinds.Array (Pointer m kinds.Array u) ≡ true → HasNode g.structs s.flow.vars type value → HasEndsBelow g.structs s knows.flow knows.few value
     row_below Int m u value c node = absurd (cc)
     row_below Char m u value c node = absurd (cc)
@@ -1027,14 +1067,7 @@ module _ (g : Frame) (types : List CType) (s : Scope) where
             by : (o : Option PointerBounds) → bounds_of value ≡ o → AreEndsBelow s.flow.vars b
             by None n = absurd (let none = rw n at e in cc)
             by (Some p) n = let found : Some p.bounds ≡ Some b = rw n at e in let same : p.bounds ≡ b = cc in subst (AreEndsBelow s.flow.vars) same (single_below g.structs s.flow.vars m' t node.own.0 p (sym node.own.1 ∙ n))
-    row_below (Pointer m' kinds.Array t) m u value c node = record { own = λ b e. row_own b e; based = node.based }
-      where
-        row_own : (b : Bounds) → own_bounds value ≡ Some b → AreEndsBelow s.flow.vars b
-        row_own b e = by (bounds_of value) refl node.own
-          where
-            by : (o : Option PointerBounds) → bounds_of value ≡ o → AreCounted g.structs s.flow.vars t o → AreEndsBelow s.flow.vars b
-            by None n counted = absurd (let none = rw n at e in cc)
-            by (Some p) n counted = let found : Some p.bounds ≡ Some b = rw n at e in let same : p.bounds ≡ b = cc in subst (AreEndsBelow s.flow.vars) same counted.below
+    row_below (Pointer m' kinds.Array t) m u value c node = row_ends m' t value node
     row_below (Pointer m' kinds.Nt t) m u value c node = record { own = λ b e. absurd (ended_none b e); based = λ b e. absurd (let none : None ≡ Some b = sym node.based ∙ e in cc) }
       where
         ended_none : (b : Bounds) → own_bounds value ≡ Some b → ⊥
@@ -1077,7 +1110,7 @@ module _ (g : Frame) (types : List CType) (s : Scope) where
     -- ---- what a call gives
 
     -- a value that is returned
-    type_met_by : (r : Option Bounds) (t : Typed) (type : CType) → result_meets s.flow r t type ≡ true → AreMet t type
+    type_met_by : (r : Option Bounds) (t : Typed) (type : CType) → meets_declared s.flow r t type ≡ true → AreMet t type
     type_met_by None (Value u zero value place) type met = met
     type_met_by (Some b) (Value u zero value place) type met = ⊎_elim (first zero) (λ both. second zero (and_parts (meets s.flow value (asked_of u type)) (meets s.flow value (Some b)) both).0) (or_cases zero (meets s.flow value (asked_of u type) && meets s.flow value (Some b)) met)
       where
@@ -1089,11 +1122,11 @@ module _ (g : Frame) (types : List CType) (s : Scope) where
         second false e = e
     type_met_by r (AStruct number place) type met = tt
 
-    pub result_type_met : (r : Option Bounds) (t : Typed) (type : CType) → result_meets s.flow r t type ≡ true → AreMet t type
+    pub result_type_met : (r : Option Bounds) (t : Typed) (type : CType) → meets_declared s.flow r t type ≡ true → AreMet t type
     result_type_met = type_met_by
 
     row_returned : (b : Bounds) (m : Mode) (u type : CType) (zero : Bool) (value v : core.Expression) (place : Standing) → AreInts s.locals b → Fits (Value type zero value place) → IsConverted (Value type zero value place) (Pointer m kinds.Array u) v
-        → result_meets s.flow (Some b) (Value type zero value place) (Pointer m kinds.Array u) ≡ true → IsAsked g.structs s v b
+        → meets_declared s.flow (Some b) (Value type zero value place) (Pointer m kinds.Array u) ≡ true → IsAsked g.structs s v b
     row_returned b m u type zero value v place ints h is met = by (zero && is_number type) refl
       where
         passed : (z : Bool) → zero ≡ z → (zero && is_number type) ≡ false → v ≡ value → IsAsked g.structs s v b
@@ -1107,7 +1140,7 @@ module _ (g : Frame) (types : List CType) (s : Scope) where
         by true e = rules.null (is.1 ∙ ap (λ test. as_pointer test value) e)
         by false e = passed zero refl e (is.1 ∙ ap (λ test. as_pointer test value) e)
 
-    pub result_asked : (r : Option Bounds) (t : Typed) (type : CType) (v : core.Expression) → ((b : Bounds) → r ≡ Some b → AreInts s.locals b) → Fits t → IsConverted t type v → result_meets s.flow r t type ≡ true → IsReturned g.structs s v type r
+    pub result_asked : (r : Option Bounds) (t : Typed) (type : CType) (v : core.Expression) → ((b : Bounds) → r ≡ Some b → AreInts s.locals b) → Fits t → IsConverted t type v → meets_declared s.flow r t type ≡ true → IsReturned g.structs s v type r
     result_asked r t Int v ints h is met = tt
     result_asked r t Char v ints h is met = tt
     result_asked r t (Struct n) v ints h is met = tt
@@ -1215,6 +1248,7 @@ module _ (g : Frame) (types : List CType) (s : Scope) where
     dotted_promises (Value type zero value place) name site span h = tt
     dotted_promises (AStruct n (OfLocal k)) name site span h = absurd h
     dotted_promises (AStruct n (OfCell p)) name site span h = member_at_promises n p name site span h
+    dotted_promises (AStruct n (OfBounded k b)) name site span h = absurd h
 
     pointed_by_promises : (type : CType) (value : core.Expression) (name : ℕ) (site : Site) (span : Span) → HasType g types s value type → HasNode g.structs s.flow.vars type value → Promises FitsNoted (pointed_by s type value name site span)
     pointed_by_promises Int value name site span h node = tt

@@ -98,7 +98,7 @@ file_known g a b h k =
       closed = h.closed k.closed;
       few_members = subst (λ x. (n : ℕ) → length (members_of x n) ≤ 64) h.structs k.few_members;
       scalar_members = subst (λ x. (n : ℕ) → AllByRecursion (λ (m : Member). IsScalar m.ctype) (members_of x n)) h.structs k.scalar_members;
-      variables = subst (λ vs. (n : ℕ) (v : FileVariable) → slice_get vs n ≡ Some v → IsVariable g v.type v.length n) h.variables k.variables;
+      variables = subst (λ vs. (n : ℕ) (v : FileVariable) → slice_get vs n ≡ Some v → IsVariable g v v.length n) h.variables k.variables;
       trusted = subst (λ fs. (name : ℕ) (f : Signature) → function_named fs name ≡ Some f → is_import f ≡ false → IsTrusted g (side_number false fs f.name 0) f) h.functions k.trusted;
       tainted = subst (λ fs. (name : ℕ) (f : Signature) → function_named fs name ≡ Some f → is_import f ≡ true → IsTainted g (side_number true fs f.name 0) f) h.functions k.tainted;
     }

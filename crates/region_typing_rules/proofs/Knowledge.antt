@@ -23,7 +23,7 @@ use Rattle.region_typing_rules.specs.Expressions.{Typed, is_checked_argument, wi
 use Rattle.bounds_flow_meaning.specs.Holding.{AreInts}
 use Rattle.bounds_flow_meaning.specs.Rows.{slots_from, slots, HasRow}
 use Rattle.region_typing_rules.specs.KnownIsSo.{AreLimited}
-use Rattle.region_typing_rules.specs.Typed.{Frame, HasResultBounds, HaveRows, AreRows, IsNumberResult, IsScalar, IsScalarResult}
+use Rattle.region_typing_rules.specs.Typed.{Frame, IsBoundedObject, HasResultBounds, HaveRows, AreRows, IsNumberResult, IsScalar, IsScalarResult}
 use Rattle.region_typing_rules.proofs.Verdicts.{Promises, needs_promises, Extends}
 use Rattle.region_typing_rules.proofs.Known.{IsKnown, IsClosed}
 
@@ -58,6 +58,13 @@ pub record IsObject (g : Frame) (type : CType) (number : ℕ) : Type 0 where
   pub found : slice_get g.program.objects number ≡ Some variable
   pub row : HasRow g.structs (shape (object_block variable)) 0 type
 
+-- a pointer of the program with the bounds that are declared for it
+pub record IsBoundedPointer (g : Frame) (type : CType) (b : Bounds) (number : ℕ) : Type 0 where
+  pub mode : Mode
+  pub element : CType
+  pub own : type ≡ Pointer mode kinds.Array element
+  pub object : IsBoundedObject g number mode element b
+
 -- an array of the program, and as many values of its type in a row
 pub record IsArray (g : Frame) (type : CType) (length number : ℕ) : Type 0 where
   pub variable : Variable
@@ -66,10 +73,14 @@ pub record IsArray (g : Frame) (type : CType) (length number : ℕ) : Type 0 whe
   pub few : length ≤ 8192
   pub rows : AreRows g.structs (shape (object_block variable)) type length
 
--- a file-level variable of a type, and of so many elements where it is an array
-abbrev pub IsVariable : Frame → CType → Option ℕ → (number : ℕ) → Type 0
-IsVariable g type None number = IsObject g type number
-IsVariable g type (Some length) number = IsArray g type length number
+-- a file-level variable of a type: it has so many elements where it is an array, and else these bounds, where there are any
+abbrev pub IsSingle : Frame → CType → Option Bounds → (number : ℕ) → Type 0
+IsSingle g type None number = IsObject g type number
+IsSingle g type (Some b) number = IsBoundedPointer g type b number
+
+abbrev pub IsVariable : Frame → FileVariable → Option ℕ → (number : ℕ) → Type 0
+IsVariable g v None number = IsSingle g v.type v.bounds number
+IsVariable g v (Some length) number = IsArray g v.type length number
 
 -- the structs, the variables and the functions that are known are those of the program
 pub record KnowsFile (g : Frame) (s : Scope) : Type 0 where
@@ -77,7 +88,7 @@ pub record KnowsFile (g : Frame) (s : Scope) : Type 0 where
   pub closed : IsClosed s
   pub few_members : (n : ℕ) → length (members_of s.structs n) ≤ 64
   pub scalar_members : (n : ℕ) → AllByRecursion (λ m. IsScalar m.ctype) (members_of s.structs n)
-  pub variables : (k : ℕ) (v : FileVariable) → slice_get s.variables k ≡ Some v → IsVariable g v.type v.length k
+  pub variables : (k : ℕ) (v : FileVariable) → slice_get s.variables k ≡ Some v → IsVariable g v v.length k
   pub trusted : (name : ℕ) (f : Signature) → function_named s.functions name ≡ Some f → is_import f ≡ false → IsTrusted g (side_number false s.functions f.name 0) f
   pub tainted : (name : ℕ) (f : Signature) → function_named s.functions name ≡ Some f → is_import f ≡ true → IsTainted g (side_number true s.functions f.name 0) f
 
@@ -152,7 +163,7 @@ crossing_promises Q false arguments next h = h
 -- what a name stands for is there among these locals, and of an array the size of its elements is known
 abbrev pub StandsFor : Frame → List Structure → List CType → Named → Type 0
 StandsFor g structs types (Local k t) = slice_get types k ≡ Some t
-StandsFor g structs types (Object k t) = IsObject g t k
+StandsFor g structs types (Object k t b) = IsSingle g t b k × IsKnown structs t
 StandsFor g structs types (Array k t n) = IsArray g t n k × IsKnown structs t
 StandsFor g structs types Nothing = Unit {0}
 
@@ -177,18 +188,18 @@ module _ (g : Frame) (structs : List Structure) (types : List CType) where
   locals_stand known ext (v ∷ visible) name =
       found_stands (name == v.name) (local_if (slice_get known v.local) v.local) (local_named known visible name) (local_stands (slice_get known v.local) v.local (λ t h. ext v.local t h)) (locals_stand known ext visible name)
 
-  object_stands : (number : ℕ) (type : CType) (length : Option ℕ) → IsVariable g type length number → IsKnown structs type → Stands (Some (object_of number type length))
-  object_stands number type None h known = h
-  object_stands number type (Some length) h known = (h, known)
+  object_stands : (number : ℕ) (v : FileVariable) (length : Option ℕ) → IsVariable g v length number → IsKnown structs v.type → Stands (Some (object_of number v length))
+  object_stands number v None h known = (h, known)
+  object_stands number v (Some length) h known = (h, known)
 
-  objects_stand : (number : ℕ) (variables : List FileVariable) (name : ℕ) → ((k : ℕ) (v : FileVariable) → slice_get variables k ≡ Some v → IsVariable g v.type v.length (number + k))
+  objects_stand : (number : ℕ) (variables : List FileVariable) (name : ℕ) → ((k : ℕ) (v : FileVariable) → slice_get variables k ≡ Some v → IsVariable g v v.length (number + k))
       → AllByRecursion (λ (v : FileVariable). IsKnown structs v.type) variables → Stands (object_named number variables name)
   objects_stand number [] name h known = tt
   objects_stand number (v ∷ variables) name h known =
       let first : number + 0 ≡ number = omega arith in
-      found_stands (name == v.name) (Some (object_of number v.type v.length)) (object_named (suc number) variables name)
-      (object_stands number v.type v.length (subst (λ k. IsVariable g v.type v.length k) first (h 0 v refl)) known.0)
-      (objects_stand (suc number) variables name (λ k w e. let same : number + suc k ≡ suc number + k = omega arith in subst (λ j. IsVariable g w.type w.length j) same (h (suc k) w e)) known.1)
+      found_stands (name == v.name) (Some (object_of number v v.length)) (object_named (suc number) variables name)
+      (object_stands number v v.length (subst (λ k. IsVariable g v v.length k) first (h 0 v refl)) known.0)
+      (objects_stand (suc number) variables name (λ k w e. let same : number + suc k ≡ suc number + k = omega arith in subst (λ j. IsVariable g w w.length j) same (h (suc k) w e)) known.1)
 
   either_stands : (this other : Option Named) → Stands this → Stands other → Stands (or_else this other)
   either_stands (Some n) other h h' = h
@@ -206,7 +217,7 @@ name_stands g types s knows name =
     meant_stands g s.structs s.locals (or_else locals (or_else objects null))
     (either_stands g s.structs s.locals locals (or_else objects null) (locals_stand g s.structs s.locals s.locals (λ k t e. e) s.visible name)
     (either_stands g s.structs s.locals objects null
-    (objects_stand g s.structs s.locals 0 s.variables name (λ k v e. let same : k ≡ 0 + k = omega arith in subst (λ j. IsVariable g v.type v.length j) same (knows.file.variables k v e)) knows.file.closed.of_variables)
+    (objects_stand g s.structs s.locals 0 s.variables name (λ k v e. let same : k ≡ 0 + k = omega arith in subst (λ j. IsVariable g v v.length j) same (knows.file.variables k v e)) knows.file.closed.of_variables)
     (found_stands g s.structs s.locals (name == s.given.null) (Some Nothing) None tt tt)))
 
 -- ---- members

@@ -26,7 +26,7 @@ use Rattle.ckc_names_rules.specs.declared.given.Given.{Given}
 use Rattle.region_typing_rules.specs.Verdicts.{Verdict, Passes, Stops, passing, meant, picked}
 use Rattle.region_typing_rules.specs.Scopes.{Scope, Signature, WrittenBounds, FileVariable, Visible, Named, Local, Object, Array, Nothing, local_if, found_if, local_named, object_of, object_named, or_else, null_named, named, function_named, members_named}
 use Rattle.region_typing_rules.specs.Types.{type_named, is_number, is_pointer, are_comparable}
-use Rattle.region_typing_rules.specs.Expressions.{Places, OfLocal, OfCell, ForNothing, ForArray, For, Typed, Value, AStruct, Called, Gives, GivesNothing, site_at, bounded, number, at_place, local_typed, name_typed, member_from, member_at, dotted, with_elements, first_element, pointed_by, arrowed, pointed_at, dereferenced, address, number_of, scalar_of, unary_typed, is_single_value, lacks_bounds, two_numbers, two_scalars, operator_along, summed, sum_typed, equated, are_related, ordered, binary_typed, beside, element_at, indexed, arguments_as, is_import, call_of, declared_callee, writes, predefined_call, called, with_result, typed, all_typed, cast_typed, cast_bounds, is_array}
+use Rattle.region_typing_rules.specs.Expressions.{Places, OfLocal, OfCell, OfBounded, ForNothing, ForArray, For, Typed, Value, AStruct, Called, Gives, GivesNothing, site_at, bounded, number, at_place, local_typed, name_typed, pointer_typed, object_typed, member_from, member_at, dotted, with_elements, first_element, pointed_by, arrowed, pointed_at, dereferenced, address, number_of, scalar_of, unary_typed, is_single_value, lacks_bounds, two_numbers, two_scalars, operator_along, summed, sum_typed, equated, are_related, ordered, binary_typed, beside, element_at, indexed, arguments_as, is_import, call_of, declared_callee, writes, predefined_call, called, with_result, typed, all_typed, cast_typed, cast_bounds, is_array}
 use Rattle.region_typing_rules.proofs.Verdicts.{Promises, passing_promises, needs_promises, anything_promised, all_met_promise}
 use Rattle.region_typing_rules.proofs.Known.{IsKnown, IsKnownResult, IsClosed, type_known}
 use Rattle.region_typing_rules.proofs.Knowledge.{crossing_promises}
@@ -44,7 +44,7 @@ IsKnownCall structs (GivesNothing call) = Unit {0}
 
 abbrev IsKnownNamed : List Structure → Named → Type 0
 IsKnownNamed structs (Local local type) = IsKnown structs type
-IsKnownNamed structs (Object object type) = IsKnown structs type
+IsKnownNamed structs (Object object type bounds) = IsKnown structs type
 IsKnownNamed structs (Array object type length) = IsKnown structs type
 IsKnownNamed structs Nothing = Unit {0}
 
@@ -75,14 +75,14 @@ module _ (structs : List Structure) where
   locals_known locals all (v ∷ visible) name =
       found_known (name == v.name) (local_if (slice_get locals v.local) v.local) (local_named locals visible name) (local_known locals all v.local (slice_get locals v.local) refl) (locals_known locals all visible name)
 
-  object_known : (number : ℕ) (type : CType) (length : Option ℕ) → IsKnown structs type → IfKnown structs (Some (object_of number type length))
-  object_known number type None h = h
-  object_known number type (Some length) h = h
+  object_known : (number : ℕ) (v : FileVariable) (length : Option ℕ) → IsKnown structs v.type → IfKnown structs (Some (object_of number v length))
+  object_known number v None h = h
+  object_known number v (Some length) h = h
 
   objects_known : (number : ℕ) (variables : List FileVariable) (name : ℕ) → AllByRecursion (λ (v : FileVariable). IsKnown structs v.type) variables → IfKnown structs (object_named number variables name)
   objects_known number [] name all = tt
   objects_known number (v ∷ variables) name all =
-      found_known (name == v.name) (Some (object_of number v.type v.length)) (object_named (suc number) variables name) (object_known number v.type v.length all.0) (objects_known (suc number) variables name all.1)
+      found_known (name == v.name) (Some (object_of number v v.length)) (object_named (suc number) variables name) (object_known number v v.length all.0) (objects_known (suc number) variables name all.1)
 
   either_known : (this other : Option Named) → IfKnown structs this → IfKnown structs other → IfKnown structs (or_else this other)
   either_known (Some n) other h h' = h
@@ -106,9 +106,19 @@ module _ (structs : List Structure) where
   local_typed_known s local (Struct number) array site h = h
   local_typed_known s local (Pointer m k t) array site h = h
 
+  pointer_typed_known : (s : Scope) (object : ℕ) (t : CType) (b : Bounds) (site : Site) → IsKnown structs t → Known (pointer_typed s.structs object t b site)
+  pointer_typed_known s object Int b site h = h
+  pointer_typed_known s object Char b site h = h
+  pointer_typed_known s object (Struct number) b site h = h
+  pointer_typed_known s object (Pointer m k t) b site h = h
+
+  object_typed_known : (s : Scope) (object : ℕ) (t : CType) (bounds : Option Bounds) (site : Site) → IsKnown structs t → Known (object_typed s.structs object t bounds site)
+  object_typed_known s object t None site h = at_place_known t (core.Direct object 0) h
+  object_typed_known s object t (Some b) site h = pointer_typed_known s object t b site h
+
   name_known : (s : Scope) (site : Site) (n : Named) → IsKnownNamed structs n → Known (name_typed s n site)
   name_known s site (Local local type) h = local_typed_known s local type (is_array s.arrays local) site h
-  name_known s site (Object object type) h = at_place_known type (core.Direct object 0) h
+  name_known s site (Object object type bounds) h = object_typed_known s object type bounds site h
   name_known s site (Array object type length) h = h
   name_known s site Nothing h = tt
 
@@ -132,8 +142,10 @@ module _ (structs : List Structure) where
   address_known (Value type zero value ForArray) site span h = tt
   address_known (Value type zero value (For (OfLocal k))) site span h = tt
   address_known (Value type zero value (For (OfCell p))) site span h = h
+  address_known (Value type zero value (For (OfBounded k b))) site span h = tt
   address_known (AStruct number (OfLocal k)) site span h = tt
   address_known (AStruct number (OfCell p)) site span h = h
+  address_known (AStruct number (OfBounded k b)) site span h = tt
 
   -- ---- operators
 

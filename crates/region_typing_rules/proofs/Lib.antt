@@ -1,5 +1,6 @@
 pub mod Worlds
 pub mod Values
+pub mod BoundedObjects
 pub mod Validity
 pub mod Sure
 pub mod Soundness

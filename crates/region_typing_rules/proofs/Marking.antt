@@ -19,7 +19,7 @@ use Rattle.region_typing_rules.specs.Knowing.{when, local_number, target_marked,
 use Rattle.bounds_exprs.specs.declared.term.Bounds.{Bounds}
 use Rattle.region_typing_rules.specs.DeclaredBounds.{declared_bounds}
 use Rattle.region_typing_rules.specs.Cells.{is_length}
-use Rattle.region_typing_rules.specs.Statements.{Walked, both, assigning, zero_value, with_local, initialised, bounded_local, declarator, declarators, declaration, at_alternative, before_step, in_loop, is_unchecked, condition, optional_condition, optional_step, first_part, alone, return, result_meets, returned, returned_nothing, statement, statements, with_array, row_type, first_length}
+use Rattle.region_typing_rules.specs.Statements.{Walked, both, assigning, zero_value, with_local, initialised, bounded_local, declarator, declarators, declaration, at_alternative, before_step, in_loop, is_unchecked, condition, optional_condition, optional_step, first_part, alone, return, meets_declared, returned, returned_nothing, statement, statements, with_array, row_type, first_length}
 use Rattle.region_typing_rules.proofs.Verdicts.{Promises, passing_promises, needs_promises, extends_last, anything_promised}
 use Rattle.region_typing_rules.proofs.Kept.{passing_any}
 use Rattle.region_typing_rules.proofs.Assigning.{assigning_promises, declared_promises, settled_promises}
@@ -228,7 +228,7 @@ return_only may core.Continue h = absurd h
 
 returned_is : (f : Knowledge) (o : Option CType) (b : Option Bounds) (t : Typed) (span : Span) → Promises IsReturn (returned f o b t span)
 returned_is f None b t span = tt
-returned_is f (Some type) b t span = converted_any IsReturn t type span _ (λ v. needs_promises IsReturn (result_meets f b t type) E17 span _ (λ met. tt))
+returned_is f (Some type) b t span = converted_any IsReturn t type span _ (λ v. needs_promises IsReturn (meets_declared f b t type) E17 span _ (λ met. tt))
 
 nothing_is : (o : Option CType) (span : Span) → Promises IsReturn (returned_nothing o span)
 nothing_is None span = tt

@@ -18,7 +18,7 @@ use Rattle.ckc_tree.specs.Expressions.{Bounds, bounds_span}
 use Rattle.ckc_tree.specs.Items.{Member, ResultForm, Parameters, Body, Item, Tree}
 use Rattle.bounds_exprs.specs.declared.term.Bounds.{Bounds as Formed}
 use Rattle.ckc_tree.specs.Numbers.{Numbers, number_type, number_expression, number_bounds, number_initializer, number_declarator, number_statements, number_member, number_structure, number_global, number_result, number_parameters, number_body, number_function, number_item}
-use Rattle.built_forms.specs.Built.{optional, built_type, built_initializer, built_variable, built_result, built_parameters, built_parameter, is_number_result, is_number_parameter, built_body, built_of_kind, built_function, built_item, is_built}
+use Rattle.built_forms.specs.Built.{optional, built_type, built_initializer, built_declarator, built_result, built_parameters, built_parameter, is_number_result, is_number_parameter, built_body, built_of_kind, built_function, built_item, is_built}
 use Rattle.ckc_names_rules.specs.declared.given.Given.{Given}
 use Rattle.ckc_names_rules.specs.Given.{number_in, given_by}
 use Rattle.ckc_names_rules.specs.Mentions.{Mention, DeclareTag, DeclareFunction, type_mentions, bounds_mentions, optional_mentions, initializer_mentions, declarator_mentions, in_block, listed_mentions, parameters_mentions, statements_mentions, result_mentions, function_mentions, item_mentions, tree_mentions}
@@ -27,7 +27,7 @@ use Rattle.ckc_names_rules.specs.Naming.{has_main, naming_fault_in, naming_fault
 use Rattle.flat_bytes.specs.Blocks.{rounded_up}
 use Rattle.pointer_modes.specs.Types as types
 use Rattle.pointer_modes.specs.Types.{CType, Int, Char, Struct, Pointer, Structure}
-use Rattle.ckc_core.specs.Programs.{Initial, open_variable}
+use Rattle.ckc_core.specs.Programs.{Initial}
 use Rattle.ckc_core.specs.Core as core
 use Rattle.region_typing_rules.specs.Verdicts.{Verdict, Passes, Stops, Broken, Nameless, Unnamed, passing, needs, meant, picked}
 use Rattle.region_typing_rules.specs.Scopes.{Scope, Signature, FileVariable, found_if, object_of, object_named, function_named, struct_named}
@@ -37,7 +37,7 @@ use Rattle.bounds_flow.specs.Flows.{at_entry}
 use Rattle.region_typing_rules.specs.Statements.{is_unchecked, statements, length_of}
 use Rattle.ckc_tree.specs.declared.stmt.SignedConstant.{SignedConstant}
 use Rattle.region_typing_rules.specs.Knowing.{knowing}
-use Rattle.region_typing_rules.specs.Items.{Walk, Parameter, is_struct, member_types, scalar_members, with_struct, member_names, structure, signed_constant, Walked, Missing, Written, Constants, unsigned_number, small_constants, initializer, are_zeros, is_zero, number_or_break, cells_or_break, object_cells, with_variable, count_of, written_size, few_bytes, room_for, WalkedVariable, variables, room_for_first, with_objects, global, listed, parameter_types, among_parameters, type_of_result, bounds_of_result, first_changed_in, result_type, agrees, all_scalar, scalar_result, with_function, variables_in, with_bounds, before_bounds, inside, function_body, is_defined, function_rules, signature_of, function, is_off, item, items, start, walked}
+use Rattle.region_typing_rules.specs.Items.{Walk, Parameter, is_struct, member_types, scalar_members, with_struct, member_names, structure, signed_constant, Walked, Missing, Written, Constants, unsigned_number, small_constants, initializer, are_zeros, is_zero, number_or_break, cells_or_break, object_cells, with_own, bounded_type, object_bounds, variable_of, with_variable, count_of, written_size, few_bytes, room_for, WalkedVariable, variables, room_for_first, with_objects, global, listed, parameter_types, among_parameters, type_of_result, bounds_of_result, first_changed_in, result_type, agrees, all_scalar, scalar_result, with_function, variables_in, with_bounds, before_bounds, inside, function_body, is_defined, function_rules, signature_of, function, is_off, item, items, start, walked}
 use Rattle.region_typing_rules.specs.Cores.{checked}
 use Rattle.region_typing_rules.specs.DeclaredBounds.{declared_bounds}
 use Rattle.region_typing_rules.proofs.NamedBounds.{bounds_named}
@@ -56,8 +56,8 @@ object_more : (k : ℕ) (vs more : List FileVariable) (x : ℕ) → is_some (obj
 object_more k [] more x h = absurd (cc)
 object_more k (v ∷ vs) more x h = by (x == v.name) h (λ h'. object_more (suc k) vs more x h')
   where
-    by : (b : Bool) → is_some (found_if b (Some (object_of k v.type v.length)) (object_named (suc k) vs x)) ≡ true → (is_some (object_named (suc k) vs x) ≡ true → is_some (object_named (suc k) (vs ++ more) x) ≡ true)
-        → is_some (found_if b (Some (object_of k v.type v.length)) (object_named (suc k) (vs ++ more) x)) ≡ true
+    by : (b : Bool) → is_some (found_if b (Some (object_of k v v.length)) (object_named (suc k) vs x)) ≡ true → (is_some (object_named (suc k) vs x) ≡ true → is_some (object_named (suc k) (vs ++ more) x) ≡ true)
+        → is_some (found_if b (Some (object_of k v v.length)) (object_named (suc k) (vs ++ more) x)) ≡ true
     by true h' again = refl
     by false h' again = again h'
 
@@ -65,7 +65,7 @@ object_last : (k : ℕ) (vs : List FileVariable) (v : FileVariable) (x : ℕ) �
 object_last k [] v x h = rw h refl
 object_last k (w ∷ vs) v x h = by (x == w.name) (object_last (suc k) vs v x h)
   where
-    by : (b : Bool) → is_some (object_named (suc k) (vs ++ v ∷ []) x) ≡ true → is_some (found_if b (Some (object_of k w.type w.length)) (object_named (suc k) (vs ++ v ∷ []) x)) ≡ true
+    by : (b : Bool) → is_some (object_named (suc k) (vs ++ v ∷ []) x) ≡ true → is_some (found_if b (Some (object_of k w w.length)) (object_named (suc k) (vs ++ v ∷ []) x)) ≡ true
     by true again = refl
     by false again = again
 
@@ -85,8 +85,8 @@ function_last (g ∷ fs) f x h = by (x == g.name) refl (function_last fs f x h)
     by true e again = rw e refl
     by false e again = rw e again
 
-variable_agrees : (of : Numbers) (name : Identifier) (t : CType) (length : Option ℕ) (n : Scopes) (g : Scope) → AgreesFile of n g → AgreesFile of (standing_for name Variable n) (with_variable (of name.name) t length g)
-variable_agrees of name t length n g h = record {
+variable_agrees : (of : Numbers) (name : Identifier) (t : CType) (length : Option ℕ) (bounds : Option Formed) (n : Scopes) (g : Scope) → AgreesFile of n g → AgreesFile of (standing_for name Variable n) (with_variable (of name.name) t length bounds g)
+variable_agrees of name t length bounds n g h = record {
   value = λ x v. by x (bytes_eq x name.name) refl v;
   function = λ x f. h.function x (entry_without is_function name.name Variable refl n.blocks x f);
   tag = h.tag;
@@ -94,9 +94,9 @@ variable_agrees of name t length n g h = record {
 }
   where
     new : FileVariable
-    new = record { name = of name.name; type = t; length = length }
+    new = record { name = of name.name; type = t; length = length; bounds = bounds }
 
-    by : (x : List ℕ) (b : Bool) → bytes_eq x name.name ≡ b → is_value (visible (with_entry name.name Variable n.blocks) x) ≡ true → is_some (object_named 0 (with_variable (of name.name) t length g).variables (of x)) ≡ true
+    by : (x : List ℕ) (b : Bool) → bytes_eq x name.name ≡ b → is_value (visible (with_entry name.name Variable n.blocks) x) ≡ true → is_some (object_named 0 (with_variable (of name.name) t length bounds g).variables (of x)) ≡ true
     by x true e v = object_last 0 g.variables new (of x) (number_equal of x name.name e)
     by x false e v = object_more 0 g.variables (new ∷ []) (of x) (h.value x (subst (λ o. is_value o ≡ true) (entry_value name.name Variable n.blocks x e) v))
 
@@ -222,14 +222,14 @@ objects_named : (w : Walk) (span : Span) (vs : List WalkedVariable) → IsNamed 
 objects_named w span [] = refl
 objects_named w span (v ∷ vs) =
     then_named (λ (x : Walk). x.scope ≡ w.scope) (object_cells w.scope.given w.scope.structs v.type v.length v.initial span) _ (cells_named w.scope.given w.scope.structs v.type v.length v.initial span)
-    (λ cells. needs_named (λ (x : Walk). x.scope ≡ w.scope) (nat_lt 0 (length cells)) E10 span _ (objects_named (record w { objects = w.objects ++ open_variable cells ∷ [] }) span vs))
+    (λ cells. needs_named (λ (x : Walk). x.scope ≡ w.scope) (nat_lt 0 (length cells)) E10 span _ (objects_named (record w { objects = w.objects ++ variable_of v.bounds cells ∷ [] }) span vs))
 
-variables_named : (of : Numbers) (at : Places) (ds : List Declarator) (n m : Scopes) (w : Walk) (base : TypeTree) (type : CType) (span : Span) (done : List WalkedVariable) → File of n w → HasTags n.tags base → list_all built_variable ds ≡ true
+variables_named : (of : Numbers) (at : Places) (ds : List Declarator) (n m : Scopes) (w : Walk) (base : TypeTree) (type : CType) (span : Span) (done : List WalkedVariable) → File of n w → HasTags n.tags base → list_all built_declarator ds ≡ true
     → all_mentioned (flat_map declarator_mentions ds) n ≡ Ok m → IsNamed (λ (r : Walk × List WalkedVariable). File of m r.0) (variables at w (number_type of base) type span (map (number_declarator of) ds) done)
 variables_named of at [] n m w base type span done agrees tags built h = subst (λ k. File of k w) (sym (quiet_all [] tt n m h).1) agrees
 variables_named of at (d ∷ ds) n m w base type span done agrees tags built h =
     let Q : Walk × List WalkedVariable → Type 0 = λ r. File of m r.0 in
-    let parts = and_parts (built_variable d) (list_all built_variable ds) built in
+    let parts = and_parts (built_declarator d) (list_all built_declarator ds) built in
     let form = (and_parts _ _ (and_parts _ _ parts.0).1).1 in
     let split = mentioned_append (declarator_mentions d) (flat_map declarator_mentions ds) n m h in
     let inner = standing_for d.name Variable n in
@@ -239,15 +239,16 @@ variables_named of at (d ∷ ds) n m w base type span done agrees tags built h =
     let last = quiet_all initial (optional_quiet initializer_mentions initializer_quiet d.initializer) inner split.0 behind.1 in
     then_named Q (room_for w (number_type of base) span (number_declarator of d)) _ (room_named of n w base span d agrees tags)
     (λ taken. then_named Q (without_stars (number_type of base) d.stars type) _ (stars_named (number_type of base) d.stars type)
-    (λ t. (let now = variable_agrees of d.name t (length_of d) n w.scope agrees in
-    let inside = with_variable (of d.name.name) t (length_of d) w.scope in
+    (λ t. then_named Q (object_bounds w.scope (number_declarator of d) t) _ (bounds_named of inner (with_own (of d.name.name) t w.scope) (variable_agrees of d.name t (length_of d) None n w.scope agrees).tag (bounded_type (length_of d) t) 0 d.bounds behind.0)
+    (λ declared. (let now = variable_agrees of d.name t (length_of d) declared n w.scope agrees in
+    let inside = with_variable (of d.name.name) t (length_of d) declared w.scope in
     then_named Q (initializer at inside (option_map (number_initializer of) d.initializer)) _ (initializer_named of at inner inside (file_agrees of inner _ now) d.initializer form last.0)
     (λ x. variables_named of at ds split.0 m (record w { scope = inside; taken = taken }) base type span _
-    (subst (λ k. AgreesFile of k inside) (sym last.1) now) (subst (λ k. HasTags k.tags base) (sym last.1) tags) parts.1 split.2))))
+    (subst (λ k. AgreesFile of k inside) (sym last.1) now) (subst (λ k. HasTags k.tags base) (sym last.1) tags) parts.1 split.2)))))
 
 global_named : (of : Numbers) (at : Places) (n m : Scopes) (w : Walk) (g : i.Global) → File of n w → built_item (i.GlobalItem g) ≡ true → all_mentioned (item_mentions (i.GlobalItem g)) n ≡ Ok m → IsNamed (File of m) (global at w (number_global of g))
 global_named of at n m w g agrees built h =
-    let forms = and_parts (built_type g.base) (list_all built_variable g.declarators) (and_parts (not g.tainted) _ built).1 in
+    let forms = and_parts (built_type g.base) (list_all built_declarator g.declarators) (and_parts (not g.tainted) _ built).1 in
     let front = quiet_front (type_mentions g.base) (flat_map declarator_mentions g.declarators) (type_quiet g.base) n m h in
     let tags = found_tags n g.base front.0 in
     let base = number_type of g.base in

@@ -36,8 +36,8 @@ use Rattle.ckc_core.specs.Meaning.{bounds_of}
 use Rattle.region_typing_rules.specs.Verdicts.{Verdict, Passes, Stops, Broken, Nameless, passing, needs}
 use Rattle.region_typing_rules.specs.Scopes.{Scope, Signature, WrittenBounds, bounds_in, members_named}
 use Rattle.region_typing_rules.specs.Types.{is_number, is_pointer, are_comparable, converts}
-use Rattle.region_typing_rules.specs.Expressions.{Places, site_at, Lvalue, OfLocal, OfCell, Standing, ForNothing, ForArray, For, Typed, Value, AStruct, Called, Gives, GivesNothing, plain, number, sum_node, at_place, member_from, member_at, dotted, struct_place, first_element, with_elements, pointed_by, arrowed, pointed_at, dereferenced, address_at, address, number_of, scalar_of, unary_typed, is_single_value, lacks_bounds, without_ptr, two_numbers, two_scalars, operator_along, summed, sum_typed, equated_values, equated, are_related, ordered_values, ordered, arithmetic, binary_typed, element_at, indexed, in_type, asked_of, meets, bounds_met, converted, arguments_as, terms_for, pointers_for, argument_meets, arguments_met, is_import, is_checked_argument, without_checked, crossing, declared_call, writes, with_result, is_size, elements_in, allocation, allocation_if, malloc_typed, calloc_typed, casts_to, takes, has_base, base_in, cast_typed}
-use Rattle.region_typing_rules.specs.Statements.{assigned, update, moved, updated_as, updated, stored, result_meets, returned, returned_nothing}
+use Rattle.region_typing_rules.specs.Expressions.{Places, site_at, Lvalue, OfLocal, OfCell, OfBounded, Standing, ForNothing, ForArray, For, Typed, Value, AStruct, Called, Gives, GivesNothing, plain, number, sum_node, at_place, member_from, member_at, dotted, struct_place, first_element, with_elements, pointed_by, arrowed, pointed_at, dereferenced, address_at, address, number_of, scalar_of, unary_typed, is_single_value, lacks_bounds, without_ptr, two_numbers, two_scalars, operator_along, summed, sum_typed, equated_values, equated, are_related, ordered_values, ordered, arithmetic, binary_typed, element_at, indexed, in_type, asked_of, meets, bounds_met, converted, arguments_as, terms_for, pointers_for, argument_meets, arguments_met, is_import, is_checked_argument, without_checked, crossing, declared_call, writes, with_result, is_size, elements_in, allocation, allocation_if, malloc_typed, calloc_typed, casts_to, takes, has_base, base_in, cast_typed}
+use Rattle.region_typing_rules.specs.Statements.{assigned, update, declared_for, moved, updated_as, updated, stored, meets_declared, returned, returned_nothing}
 
 -- no name stands for nothing, and this is so of the value where no rule is broken
 abbrev pub IsNamed : {A : Type 0} → (A → Type 0) → Verdict A → Type 0
@@ -122,6 +122,7 @@ address_at_named type ForNothing site span = tt
 address_at_named type ForArray site span = tt
 address_at_named type (For (OfLocal local)) site span = tt
 address_at_named type (For (OfCell place)) site span = tt
+address_at_named type (For (OfBounded k b)) site span = tt
 
 address_named : (t : Typed) (site : Site) (span : Span) → AllNamed (address t site span)
 address_named (Value type zero value place) site span = address_at_named type place site span
@@ -302,14 +303,15 @@ assigned_named (Value type zero value ForArray) span next h = tt
 assigned_named (Value type zero value (For place)) span next h = h type place
 assigned_named (AStruct number place) span next h = tt
 
-moved_named : (place : Lvalue) (sum : core.Expression) (span : Span) → AllNamed (moved place sum span)
-moved_named (OfLocal local) sum span = tt
-moved_named (OfCell place) sum span = tt
+moved_named : (f : Knowledge) (place : Lvalue) (type : CType) (sum : core.Expression) (span : Span) → AllNamed (moved f place type sum span)
+moved_named f (OfLocal local) type sum span = tt
+moved_named f (OfCell place) type sum span = tt
+moved_named f (OfBounded k b) type sum span = needs_named Any (meets f sum (Some b)) E17 span _ tt
 
 updated_as_named : (g : Scope) (direction : Direction) (type : CType) (place : Lvalue) (target right : Typed) (site : Site) (span : Span) → AllNamed (updated_as g direction type place target right site span)
 updated_as_named g direction (Pointer mode kind to) place (Value type zero pointer old) right site span =
-    number_named right span (λ v. moved place (core.Sum pointer direction v site (sum_node g.locals direction pointer v site)) span)
-    (λ v. moved_named place (core.Sum pointer direction v site (sum_node g.locals direction pointer v site)) span)
+    number_named right span (λ v. moved g.flow place (Pointer mode kind to) (core.Sum pointer direction v site (sum_node g.locals direction pointer v site)) span)
+    (λ v. moved_named g.flow place (Pointer mode kind to) (core.Sum pointer direction v site (sum_node g.locals direction pointer v site)) span)
 updated_as_named g direction (Pointer mode kind to) place (AStruct k old) right site span = tt
 updated_as_named g direction Int place target right site span = numbers_named target right span (λ old v. Passes (update place Int (operator_along direction) v site)) (λ old v. tt)
 updated_as_named g direction Char place target right site span = numbers_named target right span (λ old v. Passes (update place Char (operator_along direction) v site)) (λ old v. tt)
@@ -320,13 +322,13 @@ updated_named at g direction target right span =
     assigned_named target span _ (λ type place. apart_named target right span _ (updated_as_named g direction type place target right (site_at at span) span))
 
 pub stored_named : (at : Places) (g : Scope) (operator : StoreOperator) (target right : Typed) (span : Span) → AllNamed (stored at g operator target right span)
-stored_named at g stores.Set target right span = assigned_named target span _ (λ type place. converted_named right type span _ (λ value. met_named g.flow right type span _ tt))
+stored_named at g stores.Set target right span = assigned_named target span _ (λ type place. converted_named right type span _ (λ value. needs_named Any (meets_declared g.flow (declared_for place) right type) E17 span _ tt))
 stored_named at g stores.Add target right span = updated_named at g directions.Forward target right span
 stored_named at g stores.Subtract target right span = updated_named at g directions.Backward target right span
 
 pub returned_named : (f : Knowledge) (result : Option CType) (bounds : Option Bounds) (t : Typed) (span : Span) → AllNamed (returned f result bounds t span)
 returned_named f None bounds t span = tt
-returned_named f (Some type) bounds t span = converted_named t type span _ (λ v. needs_named Any (result_meets f bounds t type) E17 span _ tt)
+returned_named f (Some type) bounds t span = converted_named t type span _ (λ v. needs_named Any (meets_declared f bounds t type) E17 span _ tt)
 
 pub nothing_named : (result : Option CType) (span : Span) → AllNamed (returned_nothing result span)
 nothing_named None span = tt

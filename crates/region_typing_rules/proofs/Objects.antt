@@ -1,6 +1,6 @@
 -- Structs and file-level variables that break no rule lead from a walk as it should be to another one.
 use Rattle.std.proofs.Common.{◌≡◌, ℕ, ◌+◌, ◌*◌, ◌<◌, ◌≤◌, Bool, true, List, [], ◌∷◌, ◌++◌, length, Option, Some, None, refl, sym, ap, ◌∙◌, subst, append_assoc, arith}
-use Rattle.std.specs.Prelude.{◌==◌, ◌^◌, nat_lt, nat_le, not}
+use Rattle.std.specs.Prelude.{◌==◌, ◌^◌, nat_lt, nat_le, not, is_some}
 use Rattle.std.specs.List.{AllByRecursion}
 use Rattle.std.proofs.lemmas.Bool.{and_parts, eqb-true, ltb-true, leb-true}
 use Rattle.std.proofs.lemmas.List.{length-append, append-nil}
@@ -12,21 +12,24 @@ use Rattle.ckc_tree.specs.Statements.{Initializer, Declarator}
 use Rattle.ckc_tree.specs.Items as i
 use Rattle.ckc_names_rules.specs.declared.given.Given.{Given}
 use Rattle.flat_bytes.specs.Blocks.{rounded_up}
+use Rattle.bounds_exprs.specs.declared.term.Bounds.{Bounds}
 use Rattle.pointer_modes.specs.Layout.{size_of}
 use Rattle.pointer_modes.specs.Types.{CType, Int, Char, Struct, Pointer, Member, Structure}
-use Rattle.ckc_core.specs.Programs.{Initial, Variable, open_variable}
+use Rattle.ckc_core.specs.Programs.{Initial, Variable}
 use Rattle.region_typing_rules.specs.Verdicts.{Verdict, Passes, Stops, passing, meant, needs}
 use Rattle.region_typing_rules.specs.Scopes.{Scope, struct_named, FileVariable}
 use Rattle.region_typing_rules.specs.Types.{base_type, without_stars, type_named}
 use Rattle.region_typing_rules.specs.Expressions.{Places, Typed, typed}
 use Rattle.ckc_tree.specs.declared.stmt.SignedConstant.{SignedConstant}
-use Rattle.region_typing_rules.specs.Items.{Walk, in_checked_region, is_struct, member_types, scalar_members, with_struct, member_names, signed_constant, structure, Walked, initializer, object_cells, with_variable, WalkedVariable, written_size, few_bytes, room_for, room_for_first, variables, with_objects, global, count_of, small_constants, unsigned_number}
+use Rattle.region_typing_rules.specs.Items.{Walk, in_checked_region, is_struct, member_types, scalar_members, with_struct, member_names, signed_constant, structure, Walked, initializer, object_cells, with_variable, with_own, object_bounds, variable_of, WalkedVariable, written_size, few_bytes, room_for, room_for_first, variables, with_objects, global, count_of, small_constants, unsigned_number}
 use Rattle.region_typing_rules.specs.Typed.{IsScalar}
 use Rattle.region_typing_rules.specs.Lowerable.{cells_size, objects_size, IsRoomy}
-use Rattle.region_typing_rules.proofs.Verdicts.{Promises, passing_promises, needs_promises, anything_promised, both_promise, all_promised, extends_append}
+use Rattle.region_typing_rules.proofs.Verdicts.{Promises, passing_promises, needs_promises, anything_promised, both_promise, all_promised, promised_so, extends_append}
 use Rattle.region_typing_rules.proofs.Known.{IsKnown, known_later, all_so, of_members, with_struct_closed, base_known, type_known}
 use Rattle.region_typing_rules.proofs.Layouts.{AreSmall, ConstantFits, IsStart, IsWalked, constant_promises}
-use Rattle.region_typing_rules.proofs.Walks.{FileGrows, file_stays, file_further, AreSettled, IsWell, settled_later, bodies_later, all_append, IsSettled}
+use Rattle.region_typing_rules.proofs.Walks.{FileGrows, file_stays, file_further, AreSettled, HaveFileBounds, IsWell, settled_later, bodies_later, all_append, IsSettled}
+use Rattle.region_typing_rules.specs.DeclaredBounds.{declared_bounds}
+use Rattle.region_typing_rules.proofs.DeclaredBounds.{IsConstantIf, none_formed, own_formed}
 use Rattle.region_typing_rules.proofs.Copies.{Copies, copies_start, copies_roomy, copies_size, copies_rows, object_promises}
 use Rattle.region_typing_rules.specs.Statements.{length_of}
 use Rattle.region_typing_rules.specs.Cells.{is_length}
@@ -129,24 +132,26 @@ module _ (height : ℕ) where
   initializer_promises at s (Some (trees.Constants constants span)) = small_promises IsWalked constants _ (λ low. low)
 
   -- a variable that waits for its cells
-  record IsWaiting (v : FileVariable) (x : WalkedVariable) : Type 0 where
+  record IsWaiting (structs : List Structure) (v : FileVariable) (x : WalkedVariable) : Type 0 where
     type : v.type ≡ x.type
     length : v.length ≡ x.length
     some : 0 < count_of v.length
     few : count_of v.length ≤ 8192
+    same_bounds : v.bounds ≡ x.bounds
+    bounds : HaveFileBounds structs v v.bounds
     initial : IsWalked x.initial
 
-  abbrev AreWaiting : List FileVariable → List WalkedVariable → Type 0
-  AreWaiting [] [] = Unit {0}
-  AreWaiting [] (x ∷ walked) = ⊥
-  AreWaiting (v ∷ vs) [] = ⊥
-  AreWaiting (v ∷ vs) (x ∷ walked) = IsWaiting v x × AreWaiting vs walked
+  abbrev AreWaiting : List Structure → List FileVariable → List WalkedVariable → Type 0
+  AreWaiting structs [] [] = Unit {0}
+  AreWaiting structs [] (x ∷ walked) = ⊥
+  AreWaiting structs (v ∷ vs) [] = ⊥
+  AreWaiting structs (v ∷ vs) (x ∷ walked) = IsWaiting structs v x × AreWaiting structs vs walked
 
-  waiting_append : (vs : List FileVariable) (walked : List WalkedVariable) (v : FileVariable) (x : WalkedVariable) → AreWaiting vs walked → IsWaiting v x → AreWaiting (vs ++ v ∷ []) (walked ++ x ∷ [])
-  waiting_append [] [] v x h is = (is, tt)
-  waiting_append [] (y ∷ walked) v x h is = absurd h
-  waiting_append (u ∷ vs) [] v x h is = absurd h
-  waiting_append (u ∷ vs) (y ∷ walked) v x h is = (h.0, waiting_append vs walked v x h.1 is)
+  waiting_append : (structs : List Structure) (vs : List FileVariable) (walked : List WalkedVariable) (v : FileVariable) (x : WalkedVariable) → AreWaiting structs vs walked → IsWaiting structs v x → AreWaiting structs (vs ++ v ∷ []) (walked ++ x ∷ [])
+  waiting_append structs [] [] v x h is = (is, tt)
+  waiting_append structs [] (y ∷ walked) v x h is = absurd h
+  waiting_append structs (u ∷ vs) [] v x h is = absurd h
+  waiting_append structs (u ∷ vs) (y ∷ walked) v x h is = (h.0, waiting_append structs vs walked v x h.1 is)
 
   -- the bytes that a variable takes with its gap
   abbrev gapped : List Structure → CType → Option ℕ → ℕ
@@ -172,7 +177,7 @@ module _ (height : ℕ) where
     all : x.0.scope.variables ≡ settled_ones ++ waiting_ones
     well : IsWell height x.0
     settled : AreSettled x.0.scope.structs settled_ones x.0.objects
-    waiting : AreWaiting waiting_ones x.1
+    waiting : AreWaiting x.0.scope.structs waiting_ones x.1
     grows : FileGrows a.scope x.0.scope
     bytes : objects_size x.0.objects + waiting_size x.0.scope.structs waiting_ones ≤ x.0.taken
 
@@ -192,11 +197,11 @@ module _ (height : ℕ) where
       by None e = tt
       by (Some n) e = λ size h. let h' = rw e at h in let same : size_of g.structs (Struct n) ≡ size = cc in sym same
 
-  sized_later : (g : Scope) (name : ℕ) (t : CType) (length : Option ℕ) (base : TypeTree) (type : CType) → IsSized g base type → IsSized (with_variable name t length g) base type
-  sized_later g name t length (IntType span) type h = h
-  sized_later g name t length (CharType span) type h = h
-  sized_later g name t length (StructType tag span) type h = h
-  sized_later g name t length (PointerType word element stars span) type h = h
+  sized_later : (g : Scope) (name : ℕ) (t : CType) (length : Option ℕ) (bounds : Option Bounds) (base : TypeTree) (type : CType) → IsSized g base type → IsSized (with_variable name t length bounds g) base type
+  sized_later g name t length bounds (IntType span) type h = h
+  sized_later g name t length bounds (CharType span) type h = h
+  sized_later g name t length bounds (StructType tag span) type h = h
+  sized_later g name t length bounds (PointerType word element stars span) type h = h
 
   -- a variable more has room, by its type as it is written, and by its length
   record HasRoom (w : Walk) (base : TypeTree) (d : Declarator) (taken : ℕ) : Type 0 where
@@ -229,6 +234,25 @@ module _ (height : ℕ) where
           (λ room. record { size = size; written = e; some = length_some (length_of d) some; few = length_few (length_of d) some; bytes = refl; within = leb-true taken 32768 room }))
       by (Stops stop) e = tt
 
+  -- the bounds of a variable are those of a pointer, between constants
+  bounds_formed_for : (g : Scope) (d : Declarator) (t : CType) → IsKnown g.structs t → Promises (λ (b : Option Bounds). HaveFileBounds g.structs (record { name = d.name.number; type = t; length = length_of d; bounds = b }) b) (object_bounds g d t)
+  bounds_formed_for g d t known = by (length_of d) refl
+    where
+      Formed : Option ℕ → Option Bounds → Type 0
+      Formed n b = HaveFileBounds g.structs (record { name = d.name.number; type = t; length = n; bounds = b }) b
+
+      of_single : (b : Option Bounds) → IsConstantIf g.structs t b → Formed None b
+      of_single None h = tt
+      of_single (Some b) h = record { single = refl; known = known; formed = h }
+
+      of_array : (n : ℕ) (b : Option Bounds) → b ≡ None → Formed (Some n) b
+      of_array n None h = tt
+      of_array n (Some b) h = absurd (cc)
+
+      by : (n : Option ℕ) → length_of d ≡ n → Promises (Formed (length_of d)) (object_bounds g d t)
+      by None e = rw e (promised_so (IsConstantIf g.structs t) (Formed None) (declared_bounds (with_own d.name.number t g) t 0 d.bounds) (own_formed (with_own d.name.number t g) t d.bounds refl) of_single)
+      by (Some n) e = rw e (promised_so (λ (b : Option Bounds). b ≡ None) (Formed (Some n)) (declared_bounds (with_own d.name.number t g) Int 0 d.bounds) (none_formed (with_own d.name.number t g) d.bounds) (of_array n))
+
   -- a type behind which no stars stand
   starless : (base : TypeTree) (stars : ℕ) (type : CType) → Promises (λ (t : CType). (stars ≡ 0) × (t ≡ type)) (without_stars base stars type)
   starless base stars type = needs_promises (λ (t : CType). (stars ≡ 0) × (t ≡ type)) (stars == 0) E15 (type_span base) (Passes type) (λ none. (eqb-true stars 0 none, refl))
@@ -238,12 +262,12 @@ module _ (height : ℕ) where
       let size = sized room.size (subst (λ n. written_size w.scope base n ≡ Passes room.size) none room.written) ∙ ap (size_of w.scope.structs) (sym same) in
       room.bytes ∙ ap (λ n. w.taken + (rounded_up (count_of (length_of d) * n) + 16)) size
 
-  with_variable_waits : (a w : Walk) (walked : List WalkedVariable) (name : ℕ) (t : CType) (length : Option ℕ) (initial : Walked) (taken : ℕ) → IsKnown w.scope.structs t → 0 < count_of length → count_of length ≤ 8192 → taken ≡ w.taken + gapped w.scope.structs t length → taken ≤ 32768 → Waits a (w, walked) → IsWalked initial
-      → Waits a (record w { scope = with_variable name t length w.scope; taken = taken }, walked ++ record { type = t; length = length; initial = initial } ∷ [])
-  with_variable_waits a w walked name t length initial taken known some few bytes within h is =
-      let v : FileVariable = record { name = name; type = t; length = length } in
+  with_variable_waits : (a w : Walk) (walked : List WalkedVariable) (name : ℕ) (t : CType) (length : Option ℕ) (bounds : Option Bounds) (initial : Walked) (taken : ℕ) → HaveFileBounds w.scope.structs (record { name = name; type = t; length = length; bounds = bounds }) bounds → IsKnown w.scope.structs t → 0 < count_of length → count_of length ≤ 8192 → taken ≡ w.taken + gapped w.scope.structs t length → taken ≤ 32768 → Waits a (w, walked) → IsWalked initial
+      → Waits a (record w { scope = with_variable name t length bounds w.scope; taken = taken }, walked ++ record { type = t; length = length; bounds = bounds; initial = initial } ∷ [])
+  with_variable_waits a w walked name t length bounds initial taken formed known some few bytes within h is =
+      let v : FileVariable = record { name = name; type = t; length = length; bounds = bounds } in
       let c = h.well.closed in
-      let after = with_variable name t length w.scope in
+      let after = with_variable name t length bounds w.scope in
       let more : FileGrows w.scope after = record { structs = λ k x e. e; variables = extends_append w.scope.variables (v ∷ []); functions = λ n f e. e; numbers = λ side n f e. refl } in
       record {
         settled_ones = h.settled_ones;
@@ -262,7 +286,7 @@ module _ (height : ℕ) where
           room = within;
         };
         settled = h.settled;
-        waiting = waiting_append h.waiting_ones walked v (record { type = t; length = length; initial = initial }) h.waiting (record { type = refl; length = refl; some = some; few = few; initial = is });
+        waiting = waiting_append w.scope.structs h.waiting_ones walked v (record { type = t; length = length; bounds = bounds; initial = initial }) h.waiting (record { type = refl; length = refl; some = some; few = few; same_bounds = refl; bounds = formed; initial = is });
         grows = file_further a.scope w.scope after h.grows more;
         bytes = omega (arith, h.bytes, bytes, waiting_more w.scope.structs h.waiting_ones v);
       }
@@ -272,11 +296,13 @@ module _ (height : ℕ) where
   variables_promise at a w base type span (d ∷ ds) walked known sized h =
       passing_promises (HasRoom w base d) (Waits a) (room_for w base span d) _ (room_promises w base span d)
       (λ taken room. passing_promises (λ (t : CType). (d.stars ≡ 0) × (t ≡ type)) (Waits a) (without_stars base d.stars type) _ (starless base d.stars type)
-      (λ t plain. let inside = with_variable d.name.number t (length_of d) w.scope in
+      (λ t plain. let known_t : IsKnown w.scope.structs t = subst (IsKnown w.scope.structs) (sym plain.1) known in
+      passing_promises (λ (b : Option Bounds). HaveFileBounds w.scope.structs (record { name = d.name.number; type = t; length = length_of d; bounds = b }) b) (Waits a) (object_bounds w.scope d t) _ (bounds_formed_for w.scope d t known_t)
+      (λ bounds formed. let inside = with_variable d.name.number t (length_of d) bounds w.scope in
       passing_promises IsWalked (Waits a) (initializer at inside d.initializer) _ (initializer_promises at inside d.initializer)
-      (λ initial is. variables_promise at a (record w { scope = inside; taken = taken }) base type span ds (walked ++ record { type = t; length = length_of d; initial = initial } ∷ []) known
-      (sized_later w.scope d.name.number t (length_of d) base type sized)
-      (with_variable_waits a w walked d.name.number t (length_of d) initial taken (subst (IsKnown w.scope.structs) (sym plain.1) known) room.some room.few (taken_by w base type t d taken sized room plain.0 plain.1) room.within h is))))
+      (λ initial is. variables_promise at a (record w { scope = inside; taken = taken }) base type span ds (walked ++ record { type = t; length = length_of d; bounds = bounds; initial = initial } ∷ []) known
+      (sized_later w.scope d.name.number t (length_of d) bounds base type sized)
+      (with_variable_waits a w walked d.name.number t (length_of d) bounds initial taken formed known_t room.some room.few (taken_by w base type t d taken sized room plain.0 plain.1) room.within h is)))))
 
   settled_append : (structs : List Structure) (vs : List FileVariable) (objects : List Variable) (v : FileVariable) (new : Variable) → AreSettled structs vs objects → IsSettled structs v new → AreSettled structs (vs ++ v ∷ []) (objects ++ new ∷ [])
   settled_append structs [] [] v new h is = (is, tt)
@@ -285,17 +311,17 @@ module _ (height : ℕ) where
   settled_append structs (u ∷ vs) (o ∷ objects) v new h is = (h.0, settled_append structs vs objects v new h.1 is)
 
   -- the cells of the first one that waits
-  with_cells : (a w : Walk) (x : WalkedVariable) (walked : List WalkedVariable) (cells : List Initial) → Waits a (w, x ∷ walked) → Copies w.scope.structs x.type (count_of x.length) cells → 0 < length cells → Waits a (record w { objects = w.objects ++ open_variable cells ∷ [] }, walked)
+  with_cells : (a w : Walk) (x : WalkedVariable) (walked : List WalkedVariable) (cells : List Initial) → Waits a (w, x ∷ walked) → Copies w.scope.structs x.type (count_of x.length) cells → 0 < length cells → Waits a (record w { objects = w.objects ++ variable_of x.bounds cells ∷ [] }, walked)
   with_cells a w x walked cells h copies some = by h.waiting_ones h.all h.waiting h.bytes
     where
       -- as many values as the variable has
-      copies_of : (v : FileVariable) → IsWaiting v x → Copies w.scope.structs v.type (count_of v.length) cells
+      copies_of : (v : FileVariable) → IsWaiting w.scope.structs v x → Copies w.scope.structs v.type (count_of v.length) cells
       copies_of v is = subst (λ t. Copies w.scope.structs t (count_of v.length) cells) (sym is.type) (subst (λ o. Copies w.scope.structs x.type (count_of o) cells) (sym is.length) copies)
 
-      taken : (v : FileVariable) → IsWaiting v x → objects_size (w.objects ++ open_variable cells ∷ []) ≡ objects_size w.objects + gapped w.scope.structs v.type v.length
-      taken v is = objects_more w.objects (open_variable cells) ∙ ap (λ n. objects_size w.objects + (rounded_up n + 16)) (copies_size w.scope.structs v.type (count_of v.length) cells (copies_of v is) some)
+      taken : (v : FileVariable) → IsWaiting w.scope.structs v x → objects_size (w.objects ++ variable_of x.bounds cells ∷ []) ≡ objects_size w.objects + gapped w.scope.structs v.type v.length
+      taken v is = objects_more w.objects (variable_of x.bounds cells) ∙ ap (λ n. objects_size w.objects + (rounded_up n + 16)) (copies_size w.scope.structs v.type (count_of v.length) cells (copies_of v is) some)
 
-      by : (vs : List FileVariable) → w.scope.variables ≡ h.settled_ones ++ vs → AreWaiting vs (x ∷ walked) → objects_size w.objects + waiting_size w.scope.structs vs ≤ w.taken → Waits a (record w { objects = w.objects ++ open_variable cells ∷ [] }, walked)
+      by : (vs : List FileVariable) → w.scope.variables ≡ h.settled_ones ++ vs → AreWaiting w.scope.structs vs (x ∷ walked) → objects_size w.objects + waiting_size w.scope.structs vs ≤ w.taken → Waits a (record w { objects = w.objects ++ variable_of x.bounds cells ∷ [] }, walked)
       by [] all waiting bytes = absurd waiting
       by (v ∷ vs) all waiting bytes =
           let here = copies_of v waiting.0 in
@@ -307,15 +333,15 @@ module _ (height : ℕ) where
               closed = h.well.closed;
               few = h.well.few;
               scalars = h.well.scalars;
-              start = all_append (λ (o : Variable). AllByRecursion IsStart o.cells) w.objects (open_variable cells) h.well.start (copies_start w.scope.structs v.type (count_of v.length) cells here);
+              start = all_append (λ (o : Variable). AllByRecursion IsStart o.cells) w.objects (variable_of x.bounds cells) h.well.start (copies_start w.scope.structs v.type (count_of v.length) cells here);
               declared = h.well.declared;
               named = h.well.named;
               bodies = h.well.bodies;
-              roomy = all_append (λ (o : Variable). AllByRecursion IsRoomy o.cells × (0 < length o.cells)) w.objects (open_variable cells) h.well.roomy (copies_roomy w.scope.structs v.type (count_of v.length) cells here, some);
+              roomy = all_append (λ (o : Variable). AllByRecursion IsRoomy o.cells × (0 < length o.cells)) w.objects (variable_of x.bounds cells) h.well.roomy (copies_roomy w.scope.structs v.type (count_of v.length) cells here, some);
               bytes = omega (arith, bytes, taken v waiting.0);
               room = h.well.room;
             };
-            settled = settled_append w.scope.structs h.settled_ones w.objects v (open_variable cells) h.settled (record { some = waiting.0.some; few = waiting.0.few; rows = copies_rows w.scope.structs v.type (count_of v.length) cells here some });
+            settled = settled_append w.scope.structs h.settled_ones w.objects v (variable_of x.bounds cells) h.settled (record { some = waiting.0.some; few = waiting.0.few; rows = copies_rows w.scope.structs v.type (count_of v.length) cells here some; sealed = ap is_some (sym waiting.0.same_bounds); bounds = waiting.0.bounds });
             waiting = waiting.1;
             grows = h.grows;
             bytes = omega (arith, bytes, taken v waiting.0);
@@ -325,7 +351,7 @@ module _ (height : ℕ) where
   none_waits : (a w : Walk) → Waits a (w, []) → Follows a w
   none_waits a w h = by h.waiting_ones h.all h.waiting
     where
-      by : (vs : List FileVariable) → w.scope.variables ≡ h.settled_ones ++ vs → AreWaiting vs [] → Follows a w
+      by : (vs : List FileVariable) → w.scope.variables ≡ h.settled_ones ++ vs → AreWaiting w.scope.structs vs [] → Follows a w
       by (v ∷ vs) all waiting = absurd waiting
       by [] all waiting =
           let same : h.settled_ones ≡ w.scope.variables = sym (all ∙ append-nil h.settled_ones) in
@@ -337,9 +363,9 @@ module _ (height : ℕ) where
       passing_promises (Copies w.scope.structs x.type (count_of x.length)) (Follows a) (object_cells w.scope.given w.scope.structs x.type x.length x.initial span) _
       (object_promises w.scope.structs h.well.scalars w.scope.given x.type x.length x.initial span (first_walked h.waiting_ones h.waiting))
       (λ cells copies. needs_promises (Follows a) (nat_lt 0 (length cells)) E10 span _
-      (λ some. with_objects_promises a (record w { objects = w.objects ++ open_variable cells ∷ [] }) span walked (with_cells a w x walked cells h copies (ltb-true 0 (length cells) some))))
+      (λ some. with_objects_promises a (record w { objects = w.objects ++ variable_of x.bounds cells ∷ [] }) span walked (with_cells a w x walked cells h copies (ltb-true 0 (length cells) some))))
     where
-      first_walked : (vs : List FileVariable) → AreWaiting vs (x ∷ walked) → IsWalked x.initial
+      first_walked : (vs : List FileVariable) → AreWaiting w.scope.structs vs (x ∷ walked) → IsWalked x.initial
       first_walked [] waiting = absurd waiting
       first_walked (v ∷ vs) waiting = waiting.0.initial
 

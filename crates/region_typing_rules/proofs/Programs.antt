@@ -15,7 +15,7 @@ use Rattle.act_words.specs.World.{new_world}
 use Rattle.act_words.specs.Touches.{Crossed, until_return}
 use Rattle.pointer_modes.specs.Types.{CType, Int, Char, Struct, Pointer, Structure}
 use Rattle.ckc_core.specs.Core as core
-use Rattle.ckc_core.specs.States.{Value, Number, Null, At, Local, Grows, Shape, State, initial_value, object_block, shapes}
+use Rattle.ckc_core.specs.States.{Value, Number, Null, At, Local, Grows, Shape, State, in_world, initial_value, object_block, shapes}
 use Rattle.ckc_core.specs.Programs.{Initial, Variable, open_variable, parted}
 use Rattle.ckc_core.specs.Audits.{Agrees}
 use Rattle.ckc_core.specs.Steps.{Result, crossed, Flow, Next, Broke, Continued, Returned, parameters_of, fits_result, answer_if, answer, default_result, locals_for, back, exit, initial}
@@ -32,6 +32,7 @@ use Rattle.std.proofs.lemmas.List.{length-take-le}
 use Rattle.region_typing_rules.specs.NeverStuck.{NeverUnsound, NeverStuck, AlwaysEnds}
 use Rattle.ckc_core.proofs.Numbers.{IsNumber}
 use Rattle.ckc_core.proofs.Audits.{changes_nothing}
+use Rattle.region_typing_rules.proofs.BoundedObjects.{held_at_start, held_same}
 use Rattle.region_typing_rules.proofs.Values.{grows_here, value_grown, value_typed, zero_typed, HaveLocals, values_fit, locals_typed, locals_grown, HoldsValues}
 use Rattle.region_typing_rules.proofs.Worlds.{Crosses, until_crosses}
 use Rattle.region_typing_rules.proofs.Soundness.{shaped, OfType, OfTypes, HasResult, IsReply, IsAnswer, IsResult, EndsAs, IsKept, IsKnot, Goes, Runs, goes_further, runs_both, runs_then}
@@ -133,7 +134,7 @@ module _ (g : Frame) (budget : ℕ) where
       → Goes g budget n low types s (IsLeft result r ls) (and_then o (back s))
   back_goes n m low types inner result r ls s u (Gives v t) enough locals same h grown =
       let more : Grows (shaped s) (shaped t) = subst (λ b. Grows (shapes b) (shaped t)) same grown in
-      ((answer_back result v t h.0.0, result_back result r v t h.0.1), (more, refl), record { grown = h.1.grown; cells = h.1.cells; locals = locals_grown g.structs (shaped s) (shaped t) more types s.locals locals; world = h.1.world; enough = enough })
+      ((answer_back result v t h.0.0, result_back result r v t h.0.1), (more, refl), record { grown = h.1.grown; cells = h.1.cells; locals = locals_grown g.structs (shaped s) (shaped t) more types s.locals locals; world = h.1.world; enough = enough; held = held_same g t (record t { locals = s.locals; depth = s.depth }) refl h.1.held })
     where
       answer_back : (result : Option CType) (v : Option Value) (t : State) → IsAnswer g result v t → IsAnswer g result v (record t { locals = s.locals; depth = s.depth })
       answer_back None None t h = tt
@@ -160,7 +161,7 @@ module _ (g : Frame) (budget : ℕ) where
 
   -- what the sandbox's turn comes to
   crossed_goes : (n low : ℕ) (types : List CType) (s : State) (x : Crossed) → Crosses budget low x → IsKept g budget n low types s → Goes g budget n low types s IsReply (crossed x s)
-  crossed_goes n low types s (Crossed.Returned word w) h kept = (h.0, (grows_here (shaped s), refl), record { grown = kept.grown; cells = kept.cells; locals = kept.locals; world = h.1; enough = kept.enough })
+  crossed_goes n low types s (Crossed.Returned word w) h kept = (h.0, (grows_here (shaped s), refl), record { grown = kept.grown; cells = kept.cells; locals = kept.locals; world = h.1; enough = kept.enough; held = held_same g s (in_world w s) refl kept.held })
   crossed_goes n low types s (Crossed.Called fun words w) h kept = tt
   crossed_goes n low types s (Crossed.Over ending w) h kept = tt
 
@@ -176,7 +177,7 @@ module _ (g : Frame) (budget : ℕ) where
         let it = safe_at g g.program.functions g.bounds g.result_bounds function f bs r functions found known told in
         let ls = locals_for f.locals vs in
         let inside : State = record s { locals = ls; depth = s.depth + 1 } in
-        let inside_kept : IsKept g budget m low f.locals inside = record { grown = kept.grown; cells = kept.cells; locals = locals_typed g.structs (shaped s) f.locals f.parameters vs it.typed.locals h; world = kept.world; enough = enough } in
+        let inside_kept : IsKept g budget m low f.locals inside = record { grown = kept.grown; cells = kept.cells; locals = locals_typed g.structs (shaped s) f.locals f.parameters vs it.typed.locals h; world = kept.world; enough = enough; held = held_same g s inside refl kept.held } in
         let run = effects true setting (knot true setting m) f.body inside in
         subst (λ o. Goes g budget n low types s (IsResult g budget n f.result r f.locals vs) (body_of true setting (knot true setting m) o vs s)) (sym found)
         (subst (λ yes. Goes g budget n low types s (IsResult g budget n f.result r f.locals vs) (body_if true yes setting (knot true setting m) f vs s)) (sym (values_fit g.structs (shaped s) (parameters_of f) vs h))
@@ -265,7 +266,7 @@ AuditEnds program settings inputs acts = (ending : Ending) × (s : State) × (au
 audit_ends : (program : core.Core) → IsSafeProgram (parted program) → (settings : Settings) (inputs : List ℤ) (acts : List Act) → All (λ z. IsTrue (is_word_number z)) inputs → All IsAct acts → AuditEnds program settings inputs acts
 audit_ends program is settings inputs acts words all =
     let types = is.typed in
-    let g : Frame = record { program = parted program; structs = types.structs; bounds = types.bounds; result_bounds = types.result_bounds } in
+    let g : Frame = record { program = parted program; structs = types.structs; bounds = types.bounds; result_bounds = types.result_bounds; object_bounds = types.object_bounds } in
     let n = settings.budget in
     let f = types.main in
     let start = initial (parted program) (new_world (replicate settings.sandbox 0) first_offset inputs acts) in
@@ -275,6 +276,7 @@ audit_ends program is settings inputs acts words all =
       locals = tt;
       world = (recursion_from_All IsAct acts all, recursion_from_All IsNumber inputs words, omega arith, omega arith);
       enough = omega arith;
+      held = held_at_start g start refl;
     } in
     let none : parameters_of f.0 ≡ [] = ap (λ k. take k f.0.locals) f.2 in
     run_ends g n n 0 [] start f.0.result _ f.3

@@ -72,4 +72,4 @@ functions_typed g (f ∷ functions) (bs ∷ bounds) (r ∷ results) all = (all.0
 -- a program of two sides has types, and each of its functions is safe
 pub record IsSafeProgram (program : Parted) : Type 0 where
   pub typed : IsTyped program
-  pub functions : AreSafe (record { program = program; structs = typed.structs; bounds = typed.bounds; result_bounds = typed.result_bounds }) program.functions typed.bounds typed.result_bounds
+  pub functions : AreSafe (record { program = program; structs = typed.structs; bounds = typed.bounds; result_bounds = typed.result_bounds; object_bounds = typed.object_bounds }) program.functions typed.bounds typed.result_bounds

@@ -23,7 +23,7 @@ use Rattle.region_typing_rules.proofs.Moving.{IsMovedTo, moved_here, effect_move
 use Rattle.region_typing_rules.proofs.Told.{told_fits}
 use Rattle.region_typing_rules.proofs.Between.{beside_of, between_told, between_without, outside_beside, outside_here, told_beside}
 use Rattle.region_typing_rules.proofs.Sources.{IsFreshCall, call_typed_fresh}
-use Rattle.region_typing_rules.proofs.Ways.{Declares, walk_tracked, beside_sym, block_declares, block_outside_of, declares_here, declares_knowing, declares_on, declares_turn, extends_length, fits_further, way_further, fits_first, known_out, loop_same, met_behind, on_way_here, on_way_before, step_keeps, way_out_between, way_out_outside, walk_knowing, walk_when, walk_cut, walk_broken, walk_continued, walk_block, walk_meeting, walk_head, walk_in_loop, walk_step, walk_behind, so_block, so_meeting, known_block}
+use Rattle.region_typing_rules.proofs.Ways.{Declares, walk_tracked, beside_sym, block_declares, block_outside_of, declares_here, declares_knowing, declares_on, declares_turn, fits_further, way_further, fits_first, known_out, loop_same, met_behind, on_way_here, on_way_before, step_keeps, way_out_between, way_out_outside, walk_knowing, walk_when, walk_cut, walk_broken, walk_continued, walk_block, walk_meeting, walk_head, walk_in_loop, walk_step, walk_behind, so_block, so_meeting, known_block}
 use Rattle.std.proofs.Common.{◌≡◌, ℕ, ◌-◌, ◌<◌, ◌≤◌, Bool, true, false, List, [], length, replicate, Option, Some, None, refl, sym, ◌∙◌, subst, arith}
 use Rattle.std.specs.List.{AllByRecursion}
 use Rattle.ckc_text.specs.declared.place.Span.{Span}
@@ -32,11 +32,11 @@ use Rattle.pointer_modes.specs.Types.{CType}
 use Rattle.ckc_core.specs.States.{Value}
 use Rattle.ckc_core.specs.Meaning.{Knot, Setting, effect, effects, knot, value as value_of}
 use Rattle.region_typing_rules.specs.Expressions.{Places, Typed, Called, Gives as GivesValue, GivesNothing, call_typed, typed as typed_at}
-use Rattle.region_typing_rules.specs.Statements.{result_meets, returned, returned_nothing}
+use Rattle.region_typing_rules.specs.Statements.{meets_declared, returned, returned_nothing}
 use Rattle.region_typing_rules.specs.KnownIsSo.{declared_at, FitsAlike, IsKnown, IsOnWay, IsBetween, IsWalk, ConditionsAreSo, ChangesMarked, MarkedAlone}
 use Rattle.region_typing_rules.specs.Typed as typed
 use Rattle.region_typing_rules.specs.Typed.{Frame, HasType, IsReturned, IsScalar, IsSimple, IsStatement}
-use Rattle.region_typing_rules.proofs.Verdicts.{Promises, passing_promises, needs_promises, both_promise, later_promises, promised_so, Extends}
+use Rattle.region_typing_rules.proofs.Verdicts.{Promises, passing_promises, needs_promises, both_promise, later_promises, promised_so, Extends, extends_length}
 use Rattle.region_typing_rules.proofs.Knowledge.{KnowsFile, Knows}
 use Rattle.region_typing_rules.proofs.Growth.{Grows, GrowsTo, alternative_grows, behind_grows, file_known, first_grows, grows_further, head_grows, optional_grows, statement_grows, step_grows, when_grows}
 use Rattle.region_typing_rules.proofs.Expressions.{Fits, FitsCall, call_promises, result_asked, result_type_met, so_converted, typed_promises}
@@ -482,7 +482,7 @@ module _ (frame : Frame) (types : List CType) (all_scalar : AllByRecursion IsSca
   returned_in : (g : Scope) (t : Typed) (o : Option CType) (r : Option Bounds) (span : Span) → g.result ≡ o → g.result_bounds ≡ r → Reached g → Knows frame types g → Fits frame types g t → Promises (IsReturnFrom g) (returned g.flow o r t span)
   returned_in g t None r span e q reaches knows h = tt
   returned_in g t (Some type) r span e q reaches knows h =
-      so_converted frame types g knows (IsReturnFrom g) t type span _ h (λ v is typed. needs_promises (IsReturnFrom g) (result_meets g.flow r t type) E17 span (Passes (core.Return v))
+      so_converted frame types g knows (IsReturnFrom g) t type span _ h (λ v is typed. needs_promises (IsReturnFrom g) (meets_declared g.flow r t type) E17 span (Passes (core.Return v))
       (λ met. gives e (typed (result_type_met frame types g knows r t type met)) (subst (IsReturned frame.structs g v type) (sym q) (result_asked frame types g knows r t type v (λ b i. knows.result b (q ∙ i)) h is met))))
 
   nothing_in : (g : Scope) (o : Option CType) (span : Span) → g.result ≡ o → Promises (IsReturnFrom g) (returned_nothing o span)

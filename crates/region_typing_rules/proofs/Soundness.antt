@@ -1,7 +1,7 @@
 -- What has types is never stuck and never unsound: expressions and simple statements, where what is known in their scope is so, and what each
 -- state keeps.
 use Rattle.std.proofs.Common.{◌≡◌, neg_ℤ, ◌+ℤ◌, ◌*ℤ◌, ℕ, zero, suc, ◌+◌, ◌*◌, ◌%◌, ◌<◌, ◌≤◌, ◌^◌, Bool, true, false, ℤ, List, [], ◌∷◌, map, replicate, length, cond, Option, Some, None, refl, sym, ap, ◌∙◌, subst, arith}
-use Rattle.std.specs.Prelude.{◌==◌, ◌&&◌, ◌++◌, is_some, not, nat_lt, negsuc, slice_get, option_map, pos}
+use Rattle.std.specs.Prelude.{slice_set, ◌==◌, ◌&&◌, ◌++◌, is_some, not, nat_lt, negsuc, slice_get, option_map, pos}
 use Rattle.std.specs.List.{AllByRecursion}
 use Rattle.std.specs.Int.{w32}
 use Rattle.std.proofs.lemmas.Int.{ints, to_z_pos}
@@ -64,10 +64,11 @@ use Rattle.bounds_flow_meaning.proofs.Sums.{new_blocks_count}
 use Rattle.bounds_flow_meaning.proofs.Rows.{place_grown, still_there}
 use Rattle.bounds_flow_meaning.proofs.Numbers.{int_term, same_number}
 use Rattle.bounds_flow_meaning.proofs.Validity.{base_found, ends_parts, grown_valid, null_valid, times_plus, valid_from}
-use Rattle.region_typing_rules.specs.Typed.{AreNewBounds, IsBaseOf, IsInitial, Frame, HasBounds, IsBoundedBy, HasValue, IsNumberResult, IsCallee, HasCallBounds, HasResultBounds, IsReturned, AreAsked, terms_of, pointers_of, AreRows, AreSumBounds, HasElements, HasType, HaveTypes, HasPlace, IsSimple, IsScalar}
+use Rattle.region_typing_rules.specs.Typed.{IsBoundedObject, AreNewBounds, IsBaseOf, IsInitial, Frame, HasBounds, IsBoundedBy, HasValue, IsNumberResult, IsCallee, HasCallBounds, HasResultBounds, IsReturned, AreAsked, terms_of, pointers_of, AreRows, AreSumBounds, HasElements, HasType, HaveTypes, HasPlace, IsSimple, IsScalar}
 use Rattle.ckc_core.proofs.Numbers.{IsNumber, IfHolds, result_fits, overflow_fits, signed_fits, complement_fits, low_byte_small}
 use Rattle.region_typing_rules.proofs.Worlds.{IsWorld, Answers, Anything, IsWord, tick_answers, enter_answers, touch_answers, next_answers}
-use Rattle.region_typing_rules.proofs.Values.{same_refl, mapped_there, grows_here, grows_on, at_cell, zero_left, shapes_stored, member_place, scalar_cell, some_cell, value_grown, value_typed, value_widened, value_number, HaveValues, values_count, values_fit, HaveLocals, local_there, locals_set, HoldsValues, cell_typed, stored_typed, values_grown, locals_grown}
+use Rattle.region_typing_rules.proofs.BoundedObjects.{HoldBounds, bounded_cell, constant_stays, held_elsewhere, held_here, held_made, held_same}
+use Rattle.region_typing_rules.proofs.Values.{HasCell, same_refl, mapped_there, grows_here, grows_on, at_cell, zero_left, shapes_stored, member_place, scalar_cell, some_cell, value_grown, value_typed, value_widened, value_number, HaveValues, values_count, values_fit, HaveLocals, local_there, locals_set, HoldsValues, cell_typed, stored_typed, values_grown, locals_grown}
 use Rattle.region_typing_rules.proofs.Validity.{same_pointer, sound}
 use Rattle.region_typing_rules.proofs.Verdicts.{Extends}
 use Rattle.region_typing_rules.proofs.Sure.{Sure, sure_on, sure_further, sure_both, sure_given}
@@ -140,6 +141,7 @@ module _ (g : Frame) (types : List CType) (here : Scope) (reaches : Extends here
   base_of (typed.row {mode = m'} {t = t} h bounds) b is m d target same = base_of h b is m kinds.One target (of_kind kinds.One m' m kinds.Array d t target same)
   base_of (typed.ended_row {mode = m'} {t = t} h none) b is m d target same = base_of h b is m kinds.Nt target (of_kind kinds.Nt m' m kinds.Array d t target same)
   base_of (typed.load scalar h bounds) b is m d target same = absurd (cc)
+  base_of (typed.bounded_object is size) b from m d target same = absurd (cc)
   base_of (typed.address_of h bounds) b is m d target same = absurd (cc)
   base_of (typed.array found some few rows bounds size) b is m d target same = absurd (cc)
   base_of (typed.sum {e = e} {i = i} {mode = m'} {t = t} {direction = direction} h elements hi bounds) b is m d target same =
@@ -231,14 +233,15 @@ IsNext flow s = flow ≡ Next
 
 module _ (g : Frame) (budget n : ℕ) where
   -- what a state keeps where the locals have these types, and so many ticks were spent at least: its blocks are those of the
-  -- variables and what was added, each cell and each local holds a value of its type, and the calls and turns that may follow are
-  -- enough
+  -- variables and what was added, each cell and each local holds a value of its type, the calls and turns that may follow are
+  -- enough, and file-level pointers are valid with the bounds that are declared for them
   pub record IsKept (low : ℕ) (types : List CType) (s : State) : Type 0 where
     pub grown : Grows (shapes (map object_block g.program.objects)) (shaped s)
     pub cells : AllByRecursion (HoldsValues g.structs (shaped s)) s.blocks
     pub locals : HaveLocals g.structs (shaped s) types s.locals
     pub world : IsWorld budget low s.world
     pub enough : budget ≤ low + n
+    pub held : HoldBounds g s
 
   -- a step of an expression from a state: it gives what it should among the same locals, where blocks were only added, or ends
   abbrev pub Goes : {A : Type 0} → ℕ → List CType → State → (A → State → Type 0) → Result A → Type 0
@@ -281,7 +284,7 @@ module _ (g : Frame) (budget n : ℕ) where
 
   -- in another world so many ticks were spent
   pub kept_in : (low lower : ℕ) (types : List CType) (s : State) (w : World) → IsWorld budget lower w → budget ≤ lower + n → IsKept low types s → IsKept lower types (in_world w s)
-  kept_in low lower types s w world enough kept = record { grown = kept.grown; cells = kept.cells; locals = kept.locals; world = world; enough = enough }
+  kept_in low lower types s w world enough kept = record { grown = kept.grown; cells = kept.cells; locals = kept.locals; world = world; enough = enough; held = held_same g s (in_world w s) refl kept.held }
 
   -- what asks the world goes on with the same blocks and locals, and may have spent a tick
   pub asked_goes : {A B : Type 0} (low lower : ℕ) (types : List CType) (P : A → Type 0) (Q : B → State → Type 0) (o : Asked A) (s : State) (next : A → State → Result B) → Answers budget lower P o → budget ≤ lower + n → IsKept low types s
@@ -297,7 +300,7 @@ module _ (g : Frame) (budget n : ℕ) where
 
   -- behind a tick more ticks were spent at least
   kept_lowered : (low : ℕ) (types : List CType) (s : State) → budget ≤ low + n → IsKept (suc low) types s → IsKept low types s
-  kept_lowered low types s enough kept = let w = kept.world in record { grown = kept.grown; cells = kept.cells; locals = kept.locals; world = (w.0, w.1, omega (arith, w.2), w.3); enough = enough }
+  kept_lowered low types s enough kept = let w = kept.world in record { grown = kept.grown; cells = kept.cells; locals = kept.locals; world = (w.0, w.1, omega (arith, w.2), w.3); enough = enough; held = kept.held }
 
   pub lowered : {A : Type 0} (low : ℕ) (types : List CType) (r : State) (P : A → State → Type 0) (o : Result A) → budget ≤ low + n → Goes (suc low) types r P o → Goes low types r P o
   lowered low types r P o enough h = sure_further (λ v s. P v s × IsAfter r s × IsKept (suc low) types s) (λ v s. P v s × IsAfter r s × IsKept low types s) o h (λ v s k. (k.0, k.1, kept_lowered low types s enough k.2))
@@ -454,6 +457,21 @@ module _ (g : Frame) (budget n : ℕ) where
         placed_goes s (Some site) t block (byte + offset) (member_place g.structs (shaped s) number block byte slot offset t scalar h found) kept
 
     -- a value of a type passes the audit by the bounds of its type
+    -- a file-level pointer, and what it holds
+    bounded_place : (s : State) (object : ℕ) (m : Mode) (t : CType) (b : Bounds) → IsBoundedObject g object m t b → IsKept low types s → variable_if (nat_lt object (length g.program.objects)) object 0 s ≡ Gives (object, 0) s
+    bounded_place s object m t b is kept =
+        let within = slice_get_within g.program.objects object is.variable is.found in
+        let test : nat_lt object (length g.program.objects) ≡ true = grind (arith, nat_tests) in
+        ap (λ yes. variable_if yes object 0 s) test ∙ ap (λ o. place_if o None object 0 s) (at_cell s.blocks object 0 (Pointer m kinds.Array t) (bounded_cell g object m t b is s kept.grown))
+
+    bounded_load : (s : State) (object : ℕ) (m : Mode) (t : CType) (b : Bounds) (is : IsBoundedObject g object m t b) (kept : IsKept low types s)
+        → and_then (variable_if (nat_lt object (length g.program.objects)) object 0 s) (load_at (Pointer m kinds.Array t) None) ≡ Gives (bounded_cell g object m t b is s kept.grown).cell.value s
+    bounded_load s object m t b is kept =
+        let c = bounded_cell g object m t b is s kept.grown in
+        let test : same_type (Pointer m kinds.Array t) c.cell.type ≡ true = ap (same_type (Pointer m kinds.Array t)) c.typed ∙ same_refl (Pointer m kinds.Array t) in
+        ap (λ o. and_then o (load_at (Pointer m kinds.Array t) None)) (bounded_place s object m t b is kept)
+        ∙ (ap (λ o. value_in (Pointer m kinds.Array t) None o s) (at_cell s.blocks object 0 (Pointer m kinds.Array t) c) ∙ ap (λ yes. value_if yes None c.cell.value s) test)
+
     audit_goes : (s : State) (t : CType) (b : Option PointerBounds) (v : Value) → HasBounds g.structs t b → OfType g t v s → IsKept low types s → Goes low types s (OfType g t) (audit true b v s)
     audit_goes s t b v bounds h kept =
         let gives = ap (λ b. audit true b v s) bounds.1 ∙ sound g.structs bounds.0 s t v h in
@@ -573,6 +591,7 @@ module _ (g : Frame) (budget n : ℕ) where
           locals = locals_grown g.structs (shaped s) after more types s.locals kept.locals;
           world = kept.world;
           enough = kept.enough;
+          held = held_made g s (new_block count element) kept.grown more kept.held;
         }
 
     made_goes : (s : State) (count : ℕ) (test : Bool) → IsKept low types s → Goes low types s (OfType g (Pointer modes.Checked kinds.Array t)) (made_if test count element s)
@@ -642,14 +661,14 @@ module _ (g : Frame) (budget n : ℕ) where
       -- back in the function that called, whose locals were left
       back_kept : (low : ℕ) (s t : State) → IsAfter s t → IsKept low types s → IsKept low types t → IsKept low types (record t { locals = s.locals; depth = s.depth })
       back_kept low s t grown kept after =
-          record { grown = after.grown; cells = after.cells; locals = locals_grown g.structs (shaped s) (shaped t) grown.0 types s.locals kept.locals; world = after.world; enough = after.enough }
+          record { grown = after.grown; cells = after.cells; locals = locals_grown g.structs (shaped s) (shaped t) grown.0 types s.locals kept.locals; world = after.world; enough = after.enough; held = held_same g t (record t { locals = s.locals; depth = s.depth }) refl after.held }
 
       passed_goes : (low : ℕ) (s : State) (i : Import) (site : Site) → IsNumberResult i.result → suc budget ≤ low + n → IsKept low types s → Goes low types s (IsAnswer g i.result) (passed k i site s)
       passed_goes low s i site crosses enough kept =
           let inside : State = record s { depth = s.depth + 1 } in
           goes_on low types s IsReply (IsAnswer g i.result) (and_then (k.sandbox inside) (back s)) (reply_as i.result site)
           (goes_on low types s IsReply IsReply (k.sandbox inside) (back s)
-          (is.sandbox low types inside enough (record { grown = kept.grown; cells = kept.cells; locals = kept.locals; world = kept.world; enough = kept.enough }))
+          (is.sandbox low types inside enough (record { grown = kept.grown; cells = kept.cells; locals = kept.locals; world = kept.world; enough = kept.enough; held = held_same g s inside refl kept.held }))
           (λ reply t grown small t_kept. (small, (grows_here (shaped t), sym grown.1), back_kept low s t grown kept t_kept)))
           (λ reply t grown small t_kept. reply_goes low types t i.result site reply crosses small t_kept)
 
@@ -1007,6 +1026,13 @@ module _ (g : Frame) (budget n : ℕ) where
           let there = subst (λ l. IsBoundedBy g.structs b l w) made h in
           (record { passes = there.0.passes; leads = there.0.leads }, there.1)
 
+      -- a file-level pointer is valid with its bounds, wherever it is given
+      bounded_given : (object : ℕ) (m : Mode) (t : CType) (p : PointerBounds) → IsBoundedObject g object m t p.bounds → (v : Value) (u : State) → IsValid g.structs (Some p.bounds) (pointing m t v) u
+          → GivenTo (core.Load (Pointer m kinds.Array t) (core.Direct object 0) (Some p)) m t v u
+      bounded_given object m t p is v u valid w alike =
+          let grows : Grows (shaped u) (shaped w) = subst (λ b. Grows (shaped u) (shapes b)) (sym alike.blocks) (grows_here (shaped u)) in
+          ((constant_stays g.structs p.bounds is.constant (pointing m t v) u w grows valid, λ q c e there. absurd (let none : None ≡ Some q = sym is.constant.base ∙ e in cc)), tt)
+
       element_is : (m : Mode) (d : Kind) (t t' : CType) → Pointer modes.Checked kinds.Array t' ≡ Pointer m d t → t' ≡ t
       element_is m d t t' same = cc
 
@@ -1357,6 +1383,11 @@ module _ (g : Frame) (budget n : ℕ) where
             with_none low types here flow reaches (core.Load t p b) t s (plain_bounded t b bounds)
             (audited_goes low types s t b (and_then (place true setting k p s) (load_at t (site_of p))) bounds
             (goes_on low types s (IsPlaced g t) (OfType g t) (place true setting k p s) (load_at t (site_of p)) (place_goes here flow tracked reaches h s here') (λ at u _ placed u_kept. load_goes low types u t (site_of p) at scalar placed u_kept)))
+        value_goes here flow tracked reaches (typed.bounded_object {object = object} {mode = m} {t = t} {p = p} is size) s here' =
+            let c = bounded_cell g object m t p.bounds is s here'.1.grown in
+            let at = at_cell s.blocks object 0 (Pointer m kinds.Array t) c in
+            subst (λ o. Goes low types s (OfNode g (core.Load (Pointer m kinds.Array t) (core.Direct object 0) (Some p)) (Pointer m kinds.Array t)) (and_then o (audit true (Some p)))) (sym (bounded_load low types s object m t p.bounds is here'.1))
+            (bounded_goes low types s m t (Some p) c.cell.value size (cell_typed g.structs (shaped s) s.blocks object 0 (Pointer m kinds.Array t) c here'.1.cells) (here'.1.held object m t p.bounds is c.cell at) here'.1)
         value_goes here flow tracked reaches (typed.address_of {mode = m} {t = t} {p = p} {b = b} h bounds) s here' =
             with_none low types here flow reaches (core.AddressOf p b) (Pointer m kinds.One t) s (λ v u. tt)
             (audited_goes low types s (Pointer m kinds.One t) b (and_then (place true setting k p s) pointer_to) bounds
@@ -1456,6 +1487,13 @@ module _ (g : Frame) (budget n : ℕ) where
         given_so here flow tracked reaches (typed.ended_row {mode = m'} {t = t'} h none) m d t same s here' goes = given_so here flow tracked reaches h m kinds.Nt t (of_kind g types here reaches kinds.Nt m' m kinds.Array d t' t same) s here' (value_goes here flow tracked reaches h s here')
         given_so here flow tracked reaches (typed.load {t = c} {p = p} {b = b} scalar h bounds) m d t same s here' goes =
             plainly_given low types here flow reaches (core.Load c p b) m d t s (subst (λ c. HasBounds g.structs c b) same bounds) refl (subst (λ x. Goes low types s (OfNode g (core.Load c p b) x) (value true setting k (core.Load c p b) s)) same goes)
+        given_so here flow tracked reaches (typed.bounded_object {object = object} {mode = m'} {t = t'} {p = p} is size) m d t same s here' goes =
+            let e = core.Load (Pointer m' kinds.Array t') (core.Direct object 0) (Some p) in
+            subst (λ m. WhereGiven (GivenTo low types here flow reaches e m t) (value true setting k e s)) (mode_is low types here flow reaches m' m d t t' same)
+            (subst (λ t. WhereGiven (GivenTo low types here flow reaches e m' t) (value true setting k e s)) (target_is low types here flow reaches m' m d t t' same)
+            (so_further (λ v u. OfNode g e (Pointer m' kinds.Array t') v u × IsAfter s u × IsKept low types u) (GivenTo low types here flow reaches e m' t') (value true setting k e s)
+            (sure_given (λ v u. OfNode g e (Pointer m' kinds.Array t') v u × IsAfter s u × IsKept low types u) (value true setting k e s) goes)
+            (λ v u x. bounded_given low types here flow reaches object m' t' p is v u x.0.1)))
         given_so here flow tracked reaches (typed.address_of {mode = m'} {t = t'} {p = p} {b = b} h bounds) m d t same s here' goes =
             plainly_given low types here flow reaches (core.AddressOf p b) m d t s (subst (λ c. HasBounds g.structs c b) same bounds) refl (subst (λ x. Goes low types s (OfNode g (core.AddressOf p b) x) (value true setting k (core.AddressOf p b) s)) same goes)
         given_so here flow tracked reaches (typed.array {object = object} {n = n} {t = t'} {p = p} {v = variable} found some few rows bounds size) m d t same s here' goes =
@@ -1595,6 +1633,7 @@ module _ (g : Frame) (budget n : ℕ) where
       behind_so (typed.row h bounds) s here' = behind_so h s here'
       behind_so (typed.ended_row h none) s here' = behind_so h s here'
       behind_so (typed.load {t = t} {p = p} {b = b} scalar hp bounds) s h = nowhere (core.Load t p b) s (λ b is. absurd (cc))
+      behind_so (typed.bounded_object {object = object} {mode = m} {t = t} {p = p} is size) s h = nowhere (core.Load (Pointer m kinds.Array t) (core.Direct object 0) (Some p)) s (λ b from. absurd (cc))
       behind_so (typed.address_of {p = p} {b = b} hp bounds) s h = nowhere (core.AddressOf p b) s (λ b is. absurd (cc))
       behind_so (typed.array {object = object} {p = p} found some few rows bounds size) s h = nowhere (core.AddressOf (core.Direct object 0) (Some p)) s (λ b is. absurd (cc))
       behind_so (typed.sum {e = e} {i = i} {mode = m} {t = t} {direction = direction} {site = site} {p = p} {b = b} h elements hi bounds) s here' =
@@ -1647,11 +1686,12 @@ module _ (g : Frame) (budget n : ℕ) where
           let new : Local = record l.0 { value = v } in
           subst (λ o. Runs low types IsNext (set_over o i v s)) (sym l.1)
           (subst (λ yes. Runs low types IsNext (set_if yes l.0 i v s)) (sym test)
-          (refl, record { grown = kept.grown; cells = kept.cells; locals = locals_set g.structs (shaped s) types s.locals i t new kept.locals e l.2 typed; world = kept.world; enough = kept.enough }))
+          (refl, record { grown = kept.grown; cells = kept.cells; locals = locals_set g.structs (shaped s) types s.locals i t new kept.locals e l.2 typed; world = kept.world; enough = kept.enough; held = held_same g s (record s { locals = slice_set s.locals i new }) refl kept.held }))
 
-      store_goes : (s : State) (t : CType) (site : Option Site) (at : ℕ × ℕ) (v : Value) → IsScalar t → IsPlaced g t at s → OfType g t v s → IsKept low types s → Runs low types IsNext (store_at t site at v s)
-      store_goes s t site at v scalar placed typed kept =
-          let c = scalar_cell g.structs s.blocks t at.0 at.1 scalar placed in
+      -- a store into a cell of its type, behind which file-level pointers are valid
+      cell_store : (s : State) (t : CType) (site : Option Site) (at : ℕ × ℕ) (v : Value) (c : HasCell s.blocks at.0 at.1 t) → OfType g t v s → HoldBounds g (record s { blocks = stored s.blocks at.0 at.1 v }) → IsKept low types s
+          → Runs low types IsNext (store_at t site at v s)
+      cell_store s t site at v c typed held kept =
           let same : shapes (stored s.blocks at.0 at.1 v) ≡ shaped s = shapes_stored s.blocks at.0 at.1 t c v in
           let after = sym same in
           let fits = and_from (has_type t v) (leaves_zero (slice_get s.blocks at.0) at.1 v) (value_typed g.structs (shaped s) t v typed) (zero_left s.blocks at.0 at.1 t c v) in
@@ -1666,8 +1706,23 @@ module _ (g : Frame) (budget n : ℕ) where
               locals = subst (λ b. HaveLocals g.structs b types s.locals) after kept.locals;
               world = kept.world;
               enough = kept.enough;
+              held = held;
             },
           ))
+
+      store_goes : (s : State) (t : CType) (site : Option Site) (at : ℕ × ℕ) (v : Value) → IsScalar t → IsPlaced g t at s → OfType g t v s → IsKept low types s → Runs low types IsNext (store_at t site at v s)
+      store_goes s t site at v scalar placed typed kept =
+          let c = scalar_cell g.structs s.blocks t at.0 at.1 scalar placed in
+          cell_store s t site at v c typed (held_elsewhere g s kept.grown at.0 at.1 t c v placed kept.held) kept
+
+      -- one to a file-level pointer with the bounds that are declared for it
+      bounded_store : (s : State) (object : ℕ) (m : Mode) (t : CType) (b : Bounds) (v : Value) → IsBoundedObject g object m t b → OfType g (Pointer m kinds.Array t) v s → IsValid g.structs (Some b) (pointing m t v) s → IsKept low types s
+          → Runs low types IsNext (and_then (place_at None object 0 s) (λ at u. store_at (Pointer m kinds.Array t) None at v u))
+      bounded_store s object m t b v is typed valid kept =
+          let c = bounded_cell g object m t b is s kept.grown in
+          let there : place_at None object 0 s ≡ Gives (object, 0) s = ap (λ o. place_if o None object 0 s) (at_cell s.blocks object 0 (Pointer m kinds.Array t) c) in
+          subst (λ o. Runs low types IsNext (and_then o (λ at u. store_at (Pointer m kinds.Array t) None at v u))) (sym there)
+          (cell_store s (Pointer m kinds.Array t) None (object, 0) v c typed (held_here g s kept.grown object m t b is v valid kept.held) kept)
 
       kept_goes : (s : State) (t : CType) (char : Bool) (v : Value) → is_number t ≡ true → is_char t ≡ char → OfType g Int v s → IsKept low types s → Goes low types s (OfType g t) (kept_if char v s)
       kept_goes s Int true v h e typed kept = absurd (cc)
@@ -1689,12 +1744,12 @@ module _ (g : Frame) (budget n : ℕ) where
           runs_on low types s (IsPlaced g t) IsNext o _ h (λ at u grown placed u_kept. store_goes u t site at v scalar placed (value_grown g.structs (shaped s) (shaped u) grown.0 t v typed) u_kept)
 
       printed_goes : (s : State) (v : Value) → OfType g Int v s → IsKept low types s → Runs low types IsNext (printed v s)
-      printed_goes s (Number z) h kept = (refl, record { grown = kept.grown; cells = kept.cells; locals = kept.locals; world = kept.world; enough = kept.enough })
+      printed_goes s (Number z) h kept = (refl, record { grown = kept.grown; cells = kept.cells; locals = kept.locals; world = kept.world; enough = kept.enough; held = held_same g s _ refl kept.held })
       printed_goes s Null h kept = absurd h
       printed_goes s (At block byte) h kept = absurd h
 
       put_goes : (s : State) (v : Value) → OfType g Int v s → IsKept low types s → Runs low types IsNext (put v s)
-      put_goes s (Number z) h kept = (refl, record { grown = kept.grown; cells = kept.cells; locals = kept.locals; world = kept.world; enough = kept.enough })
+      put_goes s (Number z) h kept = (refl, record { grown = kept.grown; cells = kept.cells; locals = kept.locals; world = kept.world; enough = kept.enough; held = held_same g s _ refl kept.held })
       put_goes s Null h kept = absurd h
       put_goes s (At block byte) h kept = absurd h
 
@@ -1784,6 +1839,12 @@ module _ (g : Frame) (budget n : ℕ) where
         simple_runs typed.nothing s stands = (refl, stands.1)
         simple_runs (typed.set_local {k = i} {t = t} {e = e} found h) s stands = value_then (set_local i) h s stands (λ v u _ typed u_kept. set_goes u i t v found typed u_kept)
         simple_runs (typed.store {t = t} scalar place h) s stands = pointed_store place scalar h s stands
+        simple_runs (typed.store_bounded {object = object} {mode = m} {t = t} {b = b} {e = e} is h asked) s stands =
+            let c = Pointer m kinds.Array t in
+            runs_on low types s (λ (q : Target) (u : State). Unit {0}) IsNext (target_of true setting k (core.Direct object 0) s) _
+            (subst (λ o. Goes low types s (λ (q : Target) (u : State). Unit {0}) (and_then o (λ at u. Gives (without_ends at) u))) (sym (bounded_place low types s object m t b is stands.1)) (tt, after_here s, stands.1))
+            (λ q u after _ u_kept. runs_on low types u (λ v w. OfType g c v w × HasResult g.structs (Some c) (Some b) (Some v) w) IsNext (value true setting k e u) _ (returned_goes c (Some b) h asked u (standing_later s u after stands u_kept))
+            (λ v w _ x w_kept. bounded_store w object m t b v is x.0 x.1 w_kept))
         simple_runs (typed.update_local {char = char} {k = i} {t = t} {operator = operator} {e = e} {site = site} found number is_char h) s stands =
             runs_on low types s (OfType g t) IsNext (given (slice_get s.locals i) s) _ (given_goes low types s i t stands.1 found)
             (λ old u after old_typed u_kept. value_then _ h u (standing_later s u after stands u_kept)
@@ -1812,4 +1873,4 @@ module _ (g : Frame) (budget n : ℕ) where
 pub raised_runs : (g : Frame) (budget n m low : ℕ) (types : List CType) (P : Flow → State → Type 0) (o : Result Flow) → budget ≤ low + n → Runs g budget m low types P o → Runs g budget n low types P o
 raised_runs g budget n m low types P o enough h =
     sure_further (λ v s. P v s × IsKept g budget m low types s) (λ v s. P v s × IsKept g budget n low types s) o h
-    (λ v s k. (k.0, record { grown = k.1.grown; cells = k.1.cells; locals = k.1.locals; world = k.1.world; enough = enough }))
+    (λ v s k. (k.0, record { grown = k.1.grown; cells = k.1.cells; locals = k.1.locals; world = k.1.world; enough = enough; held = k.1.held }))

@@ -30,7 +30,7 @@ use Rattle.ckc_names_rules.specs.declared.given.Given.{Given}
 use Rattle.region_typing_rules.specs.Verdicts.{Verdict, Passes, passing, meant}
 use Rattle.region_typing_rules.specs.Scopes.{Scope, Signature, WrittenBounds, FileVariable, Visible, Named, Local, Object, Array, Nothing, local_if, found_if, local_named, object_of, object_named, or_else, null_named, named, function_named, members_named}
 use Rattle.region_typing_rules.specs.Types.{type_named, is_number, is_pointer, are_comparable}
-use Rattle.region_typing_rules.specs.Expressions.{Places, OfLocal, OfCell, Standing, ForNothing, ForArray, For, Typed, Value, AStruct, Called, Gives, GivesNothing, site_at, with_bounds, bounded, number, at_place, local_typed, name_typed, is_array, local_standing}
+use Rattle.region_typing_rules.specs.Expressions.{Places, OfLocal, OfCell, OfBounded, Standing, ForNothing, ForArray, For, Typed, Value, AStruct, Called, Gives, GivesNothing, site_at, with_bounds, bounded, number, at_place, local_typed, name_typed, object_typed, is_array, local_standing}
 use Rattle.region_typing_rules.specs.Expressions.{struct_place, member_place, member_from, offset_among, member_at, dotted, with_elements, first_element, pointed_by, arrowed, pointed_at, dereferenced, address, number_of, scalar_of, unary_typed, two_numbers, two_scalars, operator_along, summed, sum_typed}
 use Rattle.region_typing_rules.specs.Expressions.{equated, are_related, ordered_values, ordered, arithmetic, binary_typed, beside, element_at, indexed, arguments_as, is_import, call_of, declared_callee, first_of, writes, constant_typed, predefined_call, called, with_result, typed, all_typed, call_typed, cast_typed, cast_bounds}
 use Rattle.region_typing_rules.specs.Knowing.{local_number}
@@ -47,6 +47,7 @@ IsNoLocal ForNothing = Unit {0}
 IsNoLocal ForArray = Unit {0}
 IsNoLocal (For (OfLocal k)) = ⊥
 IsNoLocal (For (OfCell p)) = Unit {0}
+IsNoLocal (For (OfBounded k b)) = Unit {0}
 
 abbrev IsFresh : Typed → Type 0
 IsFresh (Value type zero value place) = IsNoLocal place
@@ -70,13 +71,22 @@ at_place_fresh Char p = tt
 at_place_fresh (Struct number) p = tt
 at_place_fresh (Pointer m k t) p = tt
 
+object_fresh : (structs : List Structure) (k : ℕ) (t : CType) (bounds : Option Bounds) (site : Site) → IsFresh (object_typed structs k t bounds site)
+object_fresh structs k t None site = at_place_fresh t (core.Direct k 0)
+object_fresh structs k Int (Some b) site = tt
+object_fresh structs k Char (Some b) site = tt
+object_fresh structs k (Struct number) (Some b) site = tt
+object_fresh structs k (Pointer m d t) (Some b) site = tt
+
 address_fresh : (a : Typed) (site : Site) (span : Span) → Promises IsFresh (address a site span)
 address_fresh (Value type zero value ForNothing) site span = tt
 address_fresh (Value type zero value ForArray) site span = tt
 address_fresh (Value type zero value (For (OfLocal k))) site span = tt
 address_fresh (Value type zero value (For (OfCell p))) site span = tt
+address_fresh (Value type zero value (For (OfBounded k b))) site span = tt
 address_fresh (AStruct number (OfLocal k)) site span = tt
 address_fresh (AStruct number (OfCell p)) site span = tt
+address_fresh (AStruct number (OfBounded k b)) site span = tt
 
 elements_fresh : (t : CType) (p : core.Place) (value : core.Expression) (span : Span) → Promises IsFresh (with_elements value span (Passes (at_place t p)))
 elements_fresh t p value span = elements_promise IsFresh value span (Passes (at_place t p)) (at_place_fresh t p)
@@ -259,7 +269,7 @@ call_typed_fresh at s (e.Binary operator left right span) = tt
 
 abbrev pub IsLocalAt : Scope → ℕ → Named → Type 0
 IsLocalAt s name (Local k t) = (slice_get s.locals k ≡ Some t) × (local_number s.visible name ≡ Some k)
-IsLocalAt s name (Object k t) = Unit {0}
+IsLocalAt s name (Object k t b) = Unit {0}
 IsLocalAt s name (Array k t n) = Unit {0}
 IsLocalAt s name Nothing = Unit {0}
 
@@ -270,7 +280,7 @@ IfLocal s name (Some x) = IsLocalAt s name x
 abbrev IfFound : List CType → List Visible → ℕ → Option Named → Type 0
 IfFound types visible name None = Unit {0}
 IfFound types visible name (Some (Local k t)) = (slice_get types k ≡ Some t) × (local_number visible name ≡ Some k)
-IfFound types visible name (Some (Object k t)) = ⊥
+IfFound types visible name (Some (Object k t b)) = ⊥
 IfFound types visible name (Some (Array k t n)) = ⊥
 IfFound types visible name (Some Nothing) = ⊥
 
@@ -281,7 +291,7 @@ local_if_found types v visible name same (Some t) e = (e, rw same refl)
 later_found : (types : List CType) (v : Visible) (visible : List Visible) (name : ℕ) → (name == v.name) ≡ false → (o : Option Named) → IfFound types visible name o → IfFound types (v ∷ visible) name o
 later_found types v visible name other None h = tt
 later_found types v visible name other (Some (Local k t)) h = (h.0, rw other h.1)
-later_found types v visible name other (Some (Object k t)) h = h
+later_found types v visible name other (Some (Object k t b)) h = h
 later_found types v visible name other (Some (Array k t n)) h = h
 later_found types v visible name other (Some Nothing) h = h
 
@@ -297,7 +307,7 @@ local_found types (v ∷ visible) name = local_by types v visible name (name == 
 found_at : (s : Scope) (name : ℕ) (o : Option Named) → IfFound s.locals s.visible name o → IfLocal s name o
 found_at s name None h = tt
 found_at s name (Some (Local k t)) h = h
-found_at s name (Some (Object k t)) h = absurd h
+found_at s name (Some (Object k t b)) h = absurd h
 found_at s name (Some (Array k t n)) h = absurd h
 found_at s name (Some Nothing) h = absurd h
 
@@ -309,14 +319,14 @@ test_at : (s : Scope) (name : ℕ) (test : Bool) (this other : Option Named) →
 test_at s name true this other h k = h
 test_at s name false this other h k = k
 
-object_at : (s : Scope) (name number : ℕ) (t : CType) (length : Option ℕ) → IsLocalAt s name (object_of number t length)
-object_at s name number t None = tt
-object_at s name number t (Some length) = tt
+object_at : (s : Scope) (name number : ℕ) (v : FileVariable) (length : Option ℕ) → IsLocalAt s name (object_of number v length)
+object_at s name number v None = tt
+object_at s name number v (Some length) = tt
 
 objects_at : (s : Scope) (name number : ℕ) (variables : List FileVariable) → IfLocal s name (object_named number variables name)
 objects_at s name number [] = tt
 objects_at s name number (v ∷ variables) =
-    test_at s name (name == v.name) (Some (object_of number v.type v.length)) (object_named (suc number) variables name) (object_at s name number v.type v.length) (objects_at s name (suc number) variables)
+    test_at s name (name == v.name) (Some (object_of number v v.length)) (object_named (suc number) variables name) (object_at s name number v v.length) (objects_at s name (suc number) variables)
 
 meant_at : (s : Scope) (name : ℕ) (o : Option Named) → IfLocal s name o → Promises (IsLocalAt s name) (meant o)
 meant_at s name None h = tt
@@ -353,6 +363,7 @@ IsTarget s x type ForNothing = Unit {0}
 IsTarget s x type ForArray = Unit {0}
 IsTarget s x type (For (OfLocal k)) = (slice_get s.locals k ≡ Some type) × IsNameOf s.visible x k
 IsTarget s x type (For (OfCell p)) = Unit {0}
+IsTarget s x type (For (OfBounded k b)) = Unit {0}
 
 -- where an expression is a local, it is that of its name
 abbrev pub IsSource : Scope → Expression → Typed → Type 0
@@ -364,6 +375,7 @@ fresh_target s x type ForNothing h = tt
 fresh_target s x type ForArray h = tt
 fresh_target s x type (For (OfLocal k)) h = absurd h
 fresh_target s x type (For (OfCell p)) h = tt
+fresh_target s x type (For (OfBounded k b)) h = tt
 
 fresh_source : (s : Scope) (x : Expression) (t : Typed) → IsFresh t → IsSource s x t
 fresh_source s x (Value type zero value place) h = fresh_target s x type place h
@@ -384,7 +396,7 @@ local_source s x k (Pointer m d t) array site h n = standing_target s x k (Point
 
 name_source : (s : Scope) (name : Identifier) (site : Site) (x : Named) → IsLocalAt s name.number x → IsSource s (e.Name name) (name_typed s x site)
 name_source s name site (Local k t) h = local_source s (e.Name name) k t (is_array s.arrays k) site h.0 h.1
-name_source s name site (Object k t) h = fresh_source s (e.Name name) (at_place t (core.Direct k 0)) (at_place_fresh t (core.Direct k 0))
+name_source s name site (Object k t b) h = fresh_source s (e.Name name) (object_typed s.structs k t b site) (object_fresh s.structs k t b site)
 name_source s name site (Array k t n) h = tt
 name_source s name site Nothing h = tt
 

@@ -37,7 +37,7 @@ use Rattle.ckc_names_rules.specs.declared.given.Given.{Given}
 use Rattle.region_typing_rules.specs.Verdicts.{Verdict, Passes, passing}
 use Rattle.region_typing_rules.specs.Scopes.{Scope, Signature, WrittenBounds, Named, Local, Object, Array, Nothing, named, function_named, members_named}
 use Rattle.region_typing_rules.specs.Types.{type_named, is_number, is_pointer, are_comparable, converts}
-use Rattle.region_typing_rules.specs.Expressions.{Places, OfLocal, OfCell, Standing, ForNothing, ForArray, For, Typed, Value, AStruct, Called, Gives, GivesNothing, site_at, bounds_at, noted, noted_if, with_bounds, sum_node, bounded, plain, number, at_place, local_typed, name_typed, member_place, member_from, offset_among, member_at, dotted, first_element, pointed_by, arrowed, pointed_at, dereferenced, pointer_to, address, number_of, scalar_of, unary_typed, two_numbers, two_scalars, operator_along, summed, sum_typed, as_pointer, equated_values, equated, are_related, ordered_values, ordered, arithmetic, binary_typed, beside as right_scope, element_at, indexed, in_type, converted, arguments_as, is_import, call_of, declared_callee, first_of, writes, predefined_call, called, with_result, typed, all_typed, call_typed, malloc_typed, calloc_typed, cast_typed, cast_bounds, is_array, local_standing}
+use Rattle.region_typing_rules.specs.Expressions.{Places, OfLocal, OfCell, OfBounded, Standing, ForNothing, ForArray, For, Typed, Value, AStruct, Called, Gives, GivesNothing, site_at, bounds_at, noted, noted_if, with_bounds, sum_node, bounded, plain, number, at_place, local_typed, name_typed, object_typed, member_place, member_from, offset_among, member_at, dotted, first_element, pointed_by, arrowed, pointed_at, dereferenced, pointer_to, address, number_of, scalar_of, unary_typed, two_numbers, two_scalars, operator_along, summed, sum_typed, as_pointer, equated_values, equated, are_related, ordered_values, ordered, arithmetic, binary_typed, beside as right_scope, element_at, indexed, in_type, converted, arguments_as, is_import, call_of, declared_callee, first_of, writes, predefined_call, called, with_result, typed, all_typed, call_typed, malloc_typed, calloc_typed, cast_typed, cast_bounds, is_array, local_standing}
 use Rattle.region_typing_rules.proofs.RightOperands.{in_right}
 use Rattle.region_typing_rules.proofs.Knowledge.{crossing_promises}
 use Rattle.region_typing_rules.proofs.Kept.{passing_any}
@@ -93,6 +93,7 @@ LowPlace n ForNothing = Unit {0}
 LowPlace n ForArray = Unit {0}
 LowPlace n (For (OfLocal k)) = Unit {0}
 LowPlace n (For (OfCell p)) = place_stack p ≤ n
+LowPlace n (For (OfBounded k b)) = place_stack (core.Direct k 0) ≤ n
 
 abbrev pub Low : ℕ → Typed → Type 0
 Low n (Value type zero value place) = (expression_stack value ≤ n) × LowPlace n place
@@ -110,6 +111,7 @@ low_place_more n m ForNothing le h = tt
 low_place_more n m ForArray le h = tt
 low_place_more n m (For (OfLocal k)) le h = tt
 low_place_more n m (For (OfCell p)) le h = omega arith
+low_place_more n m (For (OfBounded k b)) le h = omega arith
 
 pub low_more : (n m : ℕ) (t : Typed) → n ≤ m → Low n t → Low m t
 low_more n m (Value type zero value place) le h = let first = h.0 in (omega arith, low_place_more n m place le h.1)
@@ -171,9 +173,16 @@ local_low n structs f k Char array site h = (h, standing_low n k array)
 local_low n structs f k (Struct number) array site h = tt
 local_low n structs f k (Pointer m d t) array site h = (h, standing_low n k array)
 
+object_low : (n : ℕ) (structs : List Structure) (k : ℕ) (t : CType) (bounds : Option Bounds) (site : Site) → 2 ≤ n → Low n (object_typed structs k t bounds site)
+object_low n structs k t None site h = at_place_low n t (core.Direct k 0) (omega arith)
+object_low n structs k Int (Some b) site h = (omega arith, omega arith)
+object_low n structs k Char (Some b) site h = (omega arith, omega arith)
+object_low n structs k (Struct number) (Some b) site h = omega arith
+object_low n structs k (Pointer m d t) (Some b) site h = (omega arith, omega arith)
+
 name_low : (n : ℕ) (s : Scope) (x : Named) (site : Site) → 2 ≤ n → Low n (name_typed s x site)
 name_low n s (Local k t) site h = local_low n s.structs s.flow k t (is_array s.arrays k) site (omega arith)
-name_low n s (Object k t) site h = at_place_low n t (core.Direct k 0) (omega arith)
+name_low n s (Object k t b) site h = object_low n s.structs k t b site h
 name_low n s (Array k t length) site h = (omega arith, tt)
 name_low n s Nothing site h = (omega arith, tt)
 
@@ -190,8 +199,10 @@ address_low n (Value type zero value ForNothing) site span h = tt
 address_low n (Value type zero value ForArray) site span h = tt
 address_low n (Value type zero value (For (OfLocal k))) site span h = tt
 address_low n (Value type zero value (For (OfCell p))) site span h = pointer_low n type p site h.1
+address_low n (Value type zero value (For (OfBounded k b))) site span h = tt
 address_low n (AStruct number (OfLocal k)) site span h = tt
 address_low n (AStruct number (OfCell p)) site span h = pointer_low n (Struct number) p site h
+address_low n (AStruct number (OfBounded k b)) site span h = tt
 
 pointed_low : (n : ℕ) (t : CType) (value : core.Expression) (site : Site) (span : Span) → 6 ≤ n → IsLow n value → Promises (Low n) (pointed_at t value site span)
 pointed_low n Int value site span six h = tt
@@ -216,6 +227,7 @@ dotted_low : (n : ℕ) (s : Scope) (a : Typed) (name : ℕ) (site : Site) (span 
 dotted_low n s (Value type zero value place) name site span two h = tt
 dotted_low n s (AStruct number (OfLocal k)) name site span two h = member_at_low n s number (core.Through (core.Local k None) core.First 0 site) name site span two (omega arith)
 dotted_low n s (AStruct number (OfCell p)) name site span two h = member_at_low n s number p name site span two h
+dotted_low n s (AStruct number (OfBounded k b)) name site span two h = member_at_low n s number (core.Direct k 0) name site span two h
 
 pointed_by_low : (n : ℕ) (s : Scope) (t : CType) (value : core.Expression) (name : ℕ) (site : Site) (span : Span) → 6 ≤ n → IsLow n value → Promises (Low n) (pointed_by s t value name site span)
 pointed_by_low n s Int value name site span six h = tt

@@ -23,9 +23,9 @@ use Rattle.ckc_core.specs.Stacks.{expression_stack, statement_stack, statements_
 use Rattle.region_typing_rules.specs.Verdicts.{Verdict, Passes}
 use Rattle.region_typing_rules.specs.Scopes.{Scope}
 use Rattle.region_typing_rules.specs.Types.{is_scalar, without_stars, base_type}
-use Rattle.region_typing_rules.specs.Expressions.{Places, Typed, Value, AStruct, Called, Gives, GivesNothing, Lvalue, OfLocal, OfCell, ForNothing, ForArray, For, site_at, sum_node, operator_along, typed, call_typed}
+use Rattle.region_typing_rules.specs.Expressions.{Places, Typed, Value, AStruct, Called, Gives, GivesNothing, Lvalue, OfLocal, OfCell, OfBounded, ForNothing, ForArray, For, site_at, meets, sum_node, operator_along, typed, call_typed}
 use Rattle.region_typing_rules.specs.Cells.{is_length}
-use Rattle.region_typing_rules.specs.Statements.{Walked, store, update, assigned, set_to, moved, updated_as, updated, stored, step_of, one, assignment, assigning, zero_value, with_local, initialised, bounded_local, declarator, declarators, declaration, at_alternative, before_step, in_loop, is_unchecked, condition, optional_condition, optional_step, first_part, alone, result_meets, returned, returned_nothing, return, statement, statements, with_array, both, first_length}
+use Rattle.region_typing_rules.specs.Statements.{Walked, store, update, assigned, set_to, declared_for, moved, updated_as, updated, stored, step_of, one, assignment, assigning, zero_value, with_local, initialised, bounded_local, declarator, declarators, declaration, at_alternative, before_step, in_loop, is_unchecked, condition, optional_condition, optional_step, first_part, alone, meets_declared, returned, returned_nothing, return, statement, statements, with_array, both, first_length}
 use Rattle.region_typing_rules.specs.DeclaredBounds.{declared_bounds}
 use Rattle.region_typing_rules.specs.Knowing.{when, at_loop, assigned_by}
 use Rattle.region_typing_rules.proofs.Assigning.{assigning_promises, declared_promises, settled_promises}
@@ -50,46 +50,49 @@ store_low n (OfLocal k) type value h low = omega arith
 store_low n (OfCell (core.Direct object offset)) type value h low = omega arith
 store_low n (OfCell (core.Through pointer core.First offset site)) type value h low = omega arith
 store_low n (OfCell (core.Through pointer (core.Element number) offset site)) type value h low = omega arith
+store_low n (OfBounded k b) type value h low = omega arith
 
 update_low : (n : ℕ) (place : Lvalue) (type : CType) (operator : Operator) (value : core.Expression) (site : Site) → LowPlace n (For place) → IsLow n value → IsLowStatement (n + 2) (update place type operator value site)
 update_low n (OfLocal k) type operator value site h low = omega arith
 update_low n (OfCell (core.Direct object offset)) type operator value site h low = omega arith
 update_low n (OfCell (core.Through pointer index offset before)) type operator value site h low = omega arith
+update_low n (OfBounded k b) type operator value site h low = omega arith
 
 set_low : (n : ℕ) (f : Knowledge) (target right : Typed) (span : Span) → 1 ≤ n → Low n target → Low n right → Promises (IsLowStatement (n + 2)) (set_to f target right span)
 set_low n f target right span least ht hr =
     assigned_low (IsLowStatement (n + 2)) n target span _ ht
-    (λ type place h. converted_low (IsLowStatement (n + 2)) n right type span _ least hr (λ v low. met_promises (IsLowStatement (n + 2)) f right type span _ (store_low n place type v h low)))
+    (λ type place h. converted_low (IsLowStatement (n + 2)) n right type span _ least hr (λ v low. needs_promises (IsLowStatement (n + 2)) (meets_declared f (declared_for place) right type) E17 span _ (λ met. store_low n place type v h low)))
 
 -- a sum checks itself with six words
-moved_low : (n : ℕ) (place : Lvalue) (sum : core.Expression) (span : Span) → expression_stack sum ≤ n + 2 → Promises (IsLowStatement (n + 2)) (moved place sum span)
-moved_low n (OfLocal k) sum span h = h
-moved_low n (OfCell p) sum span h = tt
+moved_low : (n : ℕ) (f : Knowledge) (place : Lvalue) (type : CType) (sum : core.Expression) (span : Span) → expression_stack sum ≤ n + 1 → Promises (IsLowStatement (n + 2)) (moved f place type sum span)
+moved_low n f (OfLocal k) type sum span h = omega arith
+moved_low n f (OfCell p) type sum span h = tt
+moved_low n f (OfBounded k b) type sum span h = needs_promises (IsLowStatement (n + 2)) (meets f sum (Some b)) E17 span _ (λ met. omega arith)
 
-updated_as_low : (n : ℕ) (g : Scope) (direction : Direction) (type : CType) (place : Lvalue) (target right : Typed) (site : Site) (span : Span) → 4 ≤ n → LowPlace n (For place) → Low n target → Low n right
+updated_as_low : (n : ℕ) (g : Scope) (direction : Direction) (type : CType) (place : Lvalue) (target right : Typed) (site : Site) (span : Span) → 5 ≤ n → LowPlace n (For place) → Low n target → Low n right
     → Promises (IsLowStatement (n + 2)) (updated_as g direction type place target right site span)
-updated_as_low n g direction (Pointer mode kind t) place (Value u zero pointer old) right site span four h ht hr =
+updated_as_low n g direction (Pointer mode kind t) place (Value u zero pointer old) right site span five h ht hr =
     let low = ht.0 in
-    number_of_low (IsLowStatement (n + 2)) n right span (λ v. moved place (core.Sum pointer direction v site (sum_node g.locals direction pointer v site)) span) hr
-    (λ v low'. moved_low n place (core.Sum pointer direction v site (sum_node g.locals direction pointer v site)) span (omega arith))
-updated_as_low n g direction (Pointer mode kind t) place (AStruct k old) right site span four h ht hr = tt
-updated_as_low n g direction Int place target right site span four h ht hr =
+    number_of_low (IsLowStatement (n + 2)) n right span (λ v. moved g.flow place (Pointer mode kind t) (core.Sum pointer direction v site (sum_node g.locals direction pointer v site)) span) hr
+    (λ v low'. moved_low n g.flow place (Pointer mode kind t) (core.Sum pointer direction v site (sum_node g.locals direction pointer v site)) span (omega arith))
+updated_as_low n g direction (Pointer mode kind t) place (AStruct k old) right site span five h ht hr = tt
+updated_as_low n g direction Int place target right site span five h ht hr =
     two_low (IsLowStatement (n + 2)) n target right span (λ old v. Passes (update place Int (operator_along direction) v site)) ht hr (λ old v low low'. update_low n place Int (operator_along direction) v site h low')
-updated_as_low n g direction Char place target right site span four h ht hr =
+updated_as_low n g direction Char place target right site span five h ht hr =
     two_low (IsLowStatement (n + 2)) n target right span (λ old v. Passes (update place Char (operator_along direction) v site)) ht hr (λ old v low low'. update_low n place Char (operator_along direction) v site h low')
-updated_as_low n g direction (Struct k) place target right site span four h ht hr =
+updated_as_low n g direction (Struct k) place target right site span five h ht hr =
     two_low (IsLowStatement (n + 2)) n target right span (λ old v. Passes (update place (Struct k) (operator_along direction) v site)) ht hr
     (λ old v low low'. update_low n place (Struct k) (operator_along direction) v site h low')
 
-updated_low : (n : ℕ) (at : Places) (g : Scope) (direction : Direction) (target right : Typed) (span : Span) → 4 ≤ n → Low n target → Low n right → Promises (IsLowStatement (n + 2)) (updated at g direction target right span)
-updated_low n at g direction target right span four ht hr =
+updated_low : (n : ℕ) (at : Places) (g : Scope) (direction : Direction) (target right : Typed) (span : Span) → 5 ≤ n → Low n target → Low n right → Promises (IsLowStatement (n + 2)) (updated at g direction target right span)
+updated_low n at g direction target right span five ht hr =
     assigned_low (IsLowStatement (n + 2)) n target span _ ht
-    (λ type place h. apart_promises (IsLowStatement (n + 2)) target right span _ (updated_as_low n g direction type place target right (site_at at span) span four h ht hr))
+    (λ type place h. apart_promises (IsLowStatement (n + 2)) target right span _ (updated_as_low n g direction type place target right (site_at at span) span five h ht hr))
 
-stored_low : (n : ℕ) (at : Places) (g : Scope) (operator : StoreOperator) (target right : Typed) (span : Span) → 4 ≤ n → Low n target → Low n right → Promises (IsLowStatement (n + 2)) (stored at g operator target right span)
-stored_low n at g stores.Set target right span four ht hr = set_low n g.flow target right span (omega arith) ht hr
-stored_low n at g stores.Add target right span four ht hr = updated_low n at g directions.Forward target right span four ht hr
-stored_low n at g stores.Subtract target right span four ht hr = updated_low n at g directions.Backward target right span four ht hr
+stored_low : (n : ℕ) (at : Places) (g : Scope) (operator : StoreOperator) (target right : Typed) (span : Span) → 5 ≤ n → Low n target → Low n right → Promises (IsLowStatement (n + 2)) (stored at g operator target right span)
+stored_low n at g stores.Set target right span five ht hr = set_low n g.flow target right span (omega arith) ht hr
+stored_low n at g stores.Add target right span five ht hr = updated_low n at g directions.Forward target right span five ht hr
+stored_low n at g stores.Subtract target right span five ht hr = updated_low n at g directions.Backward target right span five ht hr
 
 zero_low : (t : CType) → expression_stack (zero_value t) ≤ 1
 zero_low Int = omega arith
@@ -191,7 +194,7 @@ module _ (at : Places) where
 
   returned_low : (n : ℕ) (f : Knowledge) (o : Option CType) (b : Option Bounds) (t : Typed) (span : Span) → 1 ≤ n → Low n t → Promises (IsLowStatement n) (returned f o b t span)
   returned_low n f None b t span least h = tt
-  returned_low n f (Some type) b t span least h = converted_low (IsLowStatement n) n t type span _ least h (λ v low. needs_promises (IsLowStatement n) (result_meets f b t type) E17 span _ (λ met. low))
+  returned_low n f (Some type) b t span least h = converted_low (IsLowStatement n) n t type span _ least h (λ v low. needs_promises (IsLowStatement n) (meets_declared f b t type) E17 span _ (λ met. low))
 
   nothing_low : (n : ℕ) (o : Option CType) (span : Span) → Promises (IsLowStatement n) (returned_nothing o span)
   nothing_low n None span = omega arith

@@ -22,9 +22,9 @@ use Rattle.ckc_core.specs.Weights.{expression_weight, statement_weight, statemen
 use Rattle.region_typing_rules.specs.Verdicts.{Verdict, Passes}
 use Rattle.region_typing_rules.specs.Scopes.{Scope}
 use Rattle.region_typing_rules.specs.Types.{is_scalar, without_stars, base_type}
-use Rattle.region_typing_rules.specs.Expressions.{Places, Typed, Value, AStruct, Called, Gives, GivesNothing, Lvalue, OfLocal, OfCell, ForNothing, ForArray, For, site_at, sum_node, operator_along, typed, call_typed}
+use Rattle.region_typing_rules.specs.Expressions.{Places, Typed, Value, AStruct, Called, Gives, GivesNothing, Lvalue, OfLocal, OfCell, OfBounded, ForNothing, ForArray, For, site_at, meets, sum_node, operator_along, typed, call_typed}
 use Rattle.region_typing_rules.specs.Cells.{is_length}
-use Rattle.region_typing_rules.specs.Statements.{Walked, store, update, assigned, set_to, moved, updated_as, updated, stored, step_of, one, assignment, zero_value, with_local, initialised, bounded_local, declarator, declarators, declaration, at_alternative, before_step, in_loop, is_unchecked, condition, optional_condition, optional_step, first_part, alone, result_meets, returned, returned_nothing, return, statement, statements, with_array, both, length_of, first_length}
+use Rattle.region_typing_rules.specs.Statements.{Walked, store, update, assigned, set_to, declared_for, moved, updated_as, updated, stored, step_of, one, assignment, zero_value, with_local, initialised, bounded_local, declarator, declarators, declaration, at_alternative, before_step, in_loop, is_unchecked, condition, optional_condition, optional_step, first_part, alone, meets_declared, returned, returned_nothing, return, statement, statements, with_array, both, length_of, first_length}
 use Rattle.region_typing_rules.specs.DeclaredBounds.{declared_bounds}
 use Rattle.region_typing_rules.specs.Knowing.{when, at_loop, assigned_by}
 use Rattle.region_typing_rules.proofs.Assigning.{assigning_promises, declared_promises, settled_promises}
@@ -50,28 +50,31 @@ assigned_light Q n (AStruct number place) span next h more = tt
 store_light : (n m : ℕ) (place : Lvalue) (type : CType) (value : core.Expression) → LightPlace n (For place) → IsLight (m + 1) value → IsLightStatement (n + m + 1) (store place type value)
 store_light n m (OfLocal k) type value h light = omega arith
 store_light n m (OfCell p) type value h light = omega arith
+store_light n m (OfBounded k b) type value h light = omega arith
 
 update_light : (n m : ℕ) (place : Lvalue) (type : CType) (operator : Operator) (value : core.Expression) (site : Site) → LightPlace n (For place) → IsLight m value → IsLightStatement (n + m + 1) (update place type operator value site)
 update_light n m (OfLocal k) type operator value site h light = omega arith
 update_light n m (OfCell (core.Direct object offset)) type operator value site h light = omega arith
 update_light n m (OfCell (core.Through pointer index offset before)) type operator value site h light = omega arith
+update_light n m (OfBounded k b) type operator value site h light = omega arith
 
 set_light : (n m : ℕ) (f : Knowledge) (target right : Typed) (span : Span) → 2 ≤ m → Light n target → Light m right → Promises (IsLightStatement (n + m + 1)) (set_to f target right span)
 set_light n m f target right span two ht hr =
     assigned_light (IsLightStatement (n + m + 1)) n target span _ ht
-    (λ type place h. converted_light (IsLightStatement (n + m + 1)) m right type span _ two hr (λ v light. met_promises (IsLightStatement (n + m + 1)) f right type span _ (store_light n m place type v h light)))
+    (λ type place h. converted_light (IsLightStatement (n + m + 1)) m right type span _ two hr (λ v light. needs_promises (IsLightStatement (n + m + 1)) (meets_declared f (declared_for place) right type) E17 span _ (λ met. store_light n m place type v h light)))
 
--- a sum of a local pointer has fewer nodes than an update would have that is as heavy
-moved_light : (n m : ℕ) (place : Lvalue) (sum : core.Expression) (span : Span) → expression_weight sum ≤ n + m → Promises (IsLightStatement (n + m + 1)) (moved place sum span)
-moved_light n m (OfLocal k) sum span h = omega arith
-moved_light n m (OfCell p) sum span h = tt
+-- a sum of a pointer has fewer nodes than an update would have that is as heavy
+moved_light : (n m : ℕ) (f : Knowledge) (place : Lvalue) (type : CType) (sum : core.Expression) (span : Span) → expression_weight sum < n + m → Promises (IsLightStatement (n + m + 1)) (moved f place type sum span)
+moved_light n m f (OfLocal k) type sum span h = omega arith
+moved_light n m f (OfCell p) type sum span h = tt
+moved_light n m f (OfBounded k b) type sum span h = needs_promises (IsLightStatement (n + m + 1)) (meets f sum (Some b)) E17 span _ (λ met. omega arith)
 
 updated_as_light : (n m : ℕ) (g : Scope) (direction : Direction) (type : CType) (place : Lvalue) (target right : Typed) (site : Site) (span : Span) → LightPlace n (For place) → Light n target → Light m right
     → Promises (IsLightStatement (n + m + 1)) (updated_as g direction type place target right site span)
 updated_as_light n m g direction (Pointer mode kind t) place (Value u zero pointer old) right site span h ht hr =
     let light = ht.0 in
-    number_of_light (IsLightStatement (n + m + 1)) m right span (λ v. moved place (core.Sum pointer direction v site (sum_node g.locals direction pointer v site)) span) hr
-    (λ v light'. moved_light n m place (core.Sum pointer direction v site (sum_node g.locals direction pointer v site)) span (omega arith))
+    number_of_light (IsLightStatement (n + m + 1)) m right span (λ v. moved g.flow place (Pointer mode kind t) (core.Sum pointer direction v site (sum_node g.locals direction pointer v site)) span) hr
+    (λ v light'. moved_light n m g.flow place (Pointer mode kind t) (core.Sum pointer direction v site (sum_node g.locals direction pointer v site)) span (omega arith))
 updated_as_light n m g direction (Pointer mode kind t) place (AStruct k old) right site span h ht hr = tt
 updated_as_light n m g direction Int place target right site span h ht hr =
     two_light (IsLightStatement (n + m + 1)) n m target right span (λ old v. Passes (update place Int (operator_along direction) v site)) ht hr
@@ -199,7 +202,7 @@ module _ (at : Places) where
 
   returned_light : (n : ℕ) (f : Knowledge) (o : Option CType) (b : Option Bounds) (t : Typed) (span : Span) → 2 ≤ n → Light n t → Promises (IsLightStatement (n + 1)) (returned f o b t span)
   returned_light n f None b t span two h = tt
-  returned_light n f (Some type) b t span two h = converted_light (IsLightStatement (n + 1)) n t type span _ two h (λ v light. needs_promises (IsLightStatement (n + 1)) (result_meets f b t type) E17 span _ (λ met. omega arith))
+  returned_light n f (Some type) b t span two h = converted_light (IsLightStatement (n + 1)) n t type span _ two h (λ v light. needs_promises (IsLightStatement (n + 1)) (meets_declared f b t type) E17 span _ (λ met. omega arith))
 
   nothing_light : (o : Option CType) (span : Span) → Promises (IsLightStatement 5) (returned_nothing o span)
   nothing_light None span = omega arith

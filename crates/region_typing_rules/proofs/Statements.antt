@@ -3,11 +3,13 @@ use Rattle.std.proofs.Common.{◌≡◌, ℕ, ◌≤◌, Bool, true, false, List
 use Rattle.std.specs.Prelude.{slice_get}
 use Rattle.std.specs.List.{AllByRecursion}
 use Rattle.ckc_text.specs.declared.place.Span.{Span}
+use Rattle.ckc_text.specs.declared.code.Code.TheVariants.{E17}
 use Rattle.ckc_tree.specs.declared.stmt.StoreOperator.{StoreOperator}
 use Rattle.ckc_tree.specs.declared.stmt.StoreOperator.TheVariants as stores
 use Rattle.ckc_tree.specs.Expressions.{Expression, expression_span}
 use Rattle.ckc_tree.specs.Statements as trees
 use Rattle.ckc_tree.specs.Statements.{Initializer, Declarator, Declaration, Assignment, ForInitial, Statement, Statements}
+use Rattle.pointer_modes.specs.declared.ctype.Mode.{Mode}
 use Rattle.pointer_modes.specs.declared.ctype.Kind.TheVariants as kinds
 use Rattle.pointer_modes.specs.Types.{CType, Int, Char, Struct, Pointer}
 use Rattle.ckc_core.specs.declared.program.Site.{Site}
@@ -21,16 +23,16 @@ use Rattle.bounds_flow.specs.Flows.{held_at}
 use Rattle.ckc_core.specs.Core as core
 use Rattle.ckc_core.specs.Meaning.{bounds_of}
 use Rattle.region_typing_rules.specs.Verdicts.{Verdict, Passes}
-use Rattle.bounds_flow_meaning.specs.Holding.{AreInts}
+use Rattle.bounds_flow_meaning.specs.Holding.{IsInt, AreInts}
 use Rattle.region_typing_rules.specs.Scopes.{Scope}
 use Rattle.region_typing_rules.specs.Types.{is_number}
-use Rattle.region_typing_rules.specs.Expressions.{Places, Typed, Value, AStruct, ForNothing, ForArray, For, Called, Gives, GivesNothing, Lvalue, OfLocal, OfCell, site_at, typed, two_numbers, is_single_value, lacks_bounds, operator_along, sum_node, converted, bounds_met}
-use Rattle.region_typing_rules.specs.Statements.{both, store, updated_place, update, assigned, set_to, moved, updated_as, updated, stored, step_of, one, assignment, zero_value, initialised, in_loop, condition, optional_condition, alone}
+use Rattle.region_typing_rules.specs.Expressions.{Places, Typed, Value, AStruct, ForNothing, ForArray, For, Called, Gives, GivesNothing, Lvalue, OfLocal, OfCell, OfBounded, site_at, typed, two_numbers, is_single_value, lacks_bounds, operator_along, sum_node, converted, bounds_met, meets}
+use Rattle.region_typing_rules.specs.Statements.{both, store, updated_place, update, assigned, set_to, declared_for, meets_declared, moved, updated_as, updated, stored, step_of, one, assignment, zero_value, initialised, in_loop, condition, optional_condition, alone}
 use Rattle.region_typing_rules.specs.Typed as rules
-use Rattle.region_typing_rules.specs.Typed.{Frame, HasType, HasPlace, IsSimple, IsStatement, AreStatements, IsScalar}
-use Rattle.region_typing_rules.proofs.Verdicts.{Promises, passing_promises, Extends}
+use Rattle.region_typing_rules.specs.Typed.{Frame, HasType, HasPlace, IsReturned, IsSimple, IsStatement, AreStatements, IsScalar}
+use Rattle.region_typing_rules.proofs.Verdicts.{Promises, passing_promises, needs_promises, Extends}
 use Rattle.region_typing_rules.proofs.Knowledge.{KnowsFile, IsPointing, Knows}
-use Rattle.region_typing_rules.proofs.Expressions.{FitsPlace, Fits, FitsCall, without_ptr_promises, number_of_promises, two_numbers_promise, sum_fits, scalar_of_promises, met_promises, converted_promises, typed_promises}
+use Rattle.region_typing_rules.proofs.Expressions.{FitsPlace, Fits, FitsCall, without_ptr_promises, number_of_promises, two_numbers_promise, sum_fits, scalar_of_promises, met_promises, converted_promises, so_converted, result_type_met, result_asked, row_asked, HasNode, typed_promises}
 use Rattle.region_typing_rules.proofs.Growth.{Grows}
 
 module _ (g : Frame) (types : List CType) (all_scalar : AllByRecursion IsScalar types) where
@@ -65,9 +67,13 @@ module _ (g : Frame) (types : List CType) (all_scalar : AllByRecursion IsScalar 
     assigned_promises Q (Value type zero value (For place)) span next h more = more type place h.stands h.scalar
     assigned_promises Q (AStruct number place) span next h more = tt
 
-    store_typed : (place : Lvalue) (type : CType) (value : core.Expression) → FitsPlace g types s type (For place) → IsScalar type → HasType g types s value type → IsHere (store place type value)
-    store_typed (OfLocal k) type value h scalar typed = rules.set_local h typed
-    store_typed (OfCell p) type value h scalar typed = rules.store scalar h typed
+    -- what is asked of a value that goes there is so
+    store_typed : (place : Lvalue) (type : CType) (value : core.Expression) → FitsPlace g types s type (For place) → IsScalar type → HasType g types s value type → IsReturned g.structs s value type (declared_for place) → IsHere (store place type value)
+    store_typed (OfLocal k) type value h scalar typed asked = rules.set_local h typed
+    store_typed (OfCell p) type value h scalar typed asked = rules.store scalar h typed
+    store_typed (OfBounded k b) type value h scalar typed asked =
+        subst (λ t. IsHere (core.Store t (core.Direct k 0) value)) (sym h.own)
+        (rules.store_bounded h.object (subst (HasType g types s value) h.own typed) (subst (λ t. IsReturned g.structs s value t (Some b)) h.own asked))
 
     updated_typed : {p : core.Place} {t : CType} → HasPlace g types s p t → (site : Site) → HasPlace g types s (updated_place p site) t
     updated_typed (rules.direct found row) site = rules.direct found row
@@ -79,42 +85,59 @@ module _ (g : Frame) (types : List CType) (all_scalar : AllByRecursion IsScalar 
     update_typed : (place : Lvalue) (type : CType) (operator : Operator) (value : core.Expression) (site : Site) → FitsPlace g types s type (For place) → is_number type ≡ true → HasType g types s value Int → IsHere (update place type operator value site)
     update_typed (OfLocal k) type operator value site h number typed = rules.update_local h number refl typed
     update_typed (OfCell p) type operator value site h number typed = rules.update number (updated_typed h site) typed
+    update_typed (OfBounded k b) type operator value site h number typed = absurd (let pointer : is_number (Pointer h.mode kinds.Array h.element) ≡ true = subst (λ t. is_number t ≡ true) h.own number in cc)
 
-    -- a local pointer becomes a sum of it
-    moved_promises : (place : Lvalue) (type : CType) (sum : core.Expression) (span : Span) → FitsPlace g types s type (For place) → HasType g types s sum type → Promises IsHere (moved place sum span)
-    moved_promises (OfLocal k) type sum span h typed = rules.set_local h typed
-    moved_promises (OfCell p) type sum span h typed = tt
+    -- the bounds that are declared for where a value goes speak of no variable
+    declared_ints : (place : Lvalue) (type : CType) → FitsPlace g types s type (For place) → (b : Bounds) → declared_for place ≡ Some b → AreInts s.locals b
+    declared_ints (OfLocal k) type h b e = absurd (cc)
+    declared_ints (OfCell p) type h b e = absurd (cc)
+    declared_ints (OfBounded k d) type h b e =
+        let same : d ≡ b = cc in
+        let c = h.object.constant in
+        subst (AreInts s.locals) same (record { lo = subst (IsInt s.locals) (sym c.lo) tt; hi = subst (IsInt s.locals) (sym c.hi) tt })
 
     numbers_updated : (direction : Direction) (type : CType) (zero : Bool) (value : core.Expression) (place : Lvalue) (right : Typed) (site : Site) (span : Span) → is_number type ≡ true → Fits g types s (Value type zero value (For place)) → Fits g types s right
         → Promises IsHere (two_numbers (Value type zero value (For place)) right span (λ old v. Passes (update place type (operator_along direction) v site)))
     numbers_updated direction type zero value place right site span number ht hr =
         two_numbers_promise g types s IsHere (Value type zero value (For place)) right span (λ old v. Passes (update place type (operator_along direction) v site)) ht hr (λ old v o typed. update_typed place type (operator_along direction) v site ht.stands number typed)
 
-    updated_as_promises : (direction : Direction) (type : CType) (zero : Bool) (value : core.Expression) (place : Lvalue) (right : Typed) (site : Site) (span : Span) → Fits g types s (Value type zero value (For place)) → Fits g types s right
-        → is_single_value (Value type zero value (For place)) ≡ false → lacks_bounds (Value type zero value (For place)) ≡ false → Promises IsHere (updated_as s direction type place (Value type zero value (For place)) right site span)
-    updated_as_promises direction Int zero value place right site span ht hr single lacks = numbers_updated direction Int zero value place right site span refl ht hr
-    updated_as_promises direction Char zero value place right site span ht hr single lacks = numbers_updated direction Char zero value place right site span refl ht hr
-    updated_as_promises direction (Struct n) zero value place right site span ht hr single lacks = tt
-    updated_as_promises direction (Pointer m kinds.One t) zero value place right site span ht hr single lacks = absurd (cc)
-    updated_as_promises direction (Pointer m kinds.Nt t) zero value place right site span ht hr single lacks = absurd (cc)
-    updated_as_promises direction (Pointer m kinds.Array t) zero value place right site span ht hr single lacks =
-        number_of_promises g types s IsHere right span _ hr (λ w number. by w number (bounds_of value) refl)
-      where
-        by : (w : core.Expression) → HasType g types s w Int → (o : Option PointerBounds) → bounds_of value ≡ o → Promises IsHere (moved place (core.Sum value direction w site (sum_node s.locals direction value w site)) span)
-        by w number None e = let none = rw e at lacks in absurd (cc)
-        by w number (Some p) e = moved_promises place (Pointer m kinds.Array t) _ span ht.stands (sum_fits g types s m t value w direction site p e ht.has_type ht.node number).has_type
-
-    updated_promises : (at : Places) (direction : Direction) (target right : Typed) (span : Span) → Fits g types s target → Fits g types s right → Promises IsHere (updated at s direction target right span)
-    updated_promises at direction (Value type zero value ForNothing) right span ht hr = tt
-    updated_promises at direction (Value type zero value ForArray) right span ht hr = tt
-    updated_promises at direction (Value type zero value (For place)) right span ht hr =
-        without_ptr_promises g types s IsHere (Value type zero value (For place)) right span _ (updated_as_promises direction type zero value place right (site_at at span) span ht hr)
-    updated_promises at direction (AStruct number place) right span ht hr = tt
-
     one_fits : Fits g types s one
     one_fits = record { has_type = rules.word refl; is_number = λ x. refl; stands = tt; scalar = refl; node = tt }
 
     module _ (knows : Knows g types s) where
+      -- a pointer becomes a sum of it
+      moved_promises : (place : Lvalue) (m : Mode) (t : CType) (sum : core.Expression) (span : Span) → FitsPlace g types s (Pointer m kinds.Array t) (For place) → HasType g types s sum (Pointer m kinds.Array t) → HasNode g.structs s.flow.vars (Pointer m kinds.Array t) sum
+          → Promises IsHere (moved s.flow place (Pointer m kinds.Array t) sum span)
+      moved_promises (OfLocal k) m t sum span h typed node = rules.set_local h typed
+      moved_promises (OfCell p) m t sum span h typed node = tt
+      moved_promises (OfBounded k b) m t sum span h typed node =
+          needs_promises IsHere (meets s.flow sum (Some b)) E17 span _
+          (λ met. store_typed (OfBounded k b) (Pointer m kinds.Array t) sum h refl typed (row_asked g types s knows m t sum b node (declared_ints (OfBounded k b) (Pointer m kinds.Array t) h b refl) met))
+
+      updated_as_promises : (direction : Direction) (type : CType) (zero : Bool) (value : core.Expression) (place : Lvalue) (right : Typed) (site : Site) (span : Span) → Fits g types s (Value type zero value (For place)) → Fits g types s right
+          → is_single_value (Value type zero value (For place)) ≡ false → lacks_bounds (Value type zero value (For place)) ≡ false → Promises IsHere (updated_as s direction type place (Value type zero value (For place)) right site span)
+      updated_as_promises direction Int zero value place right site span ht hr single lacks = numbers_updated direction Int zero value place right site span refl ht hr
+      updated_as_promises direction Char zero value place right site span ht hr single lacks = numbers_updated direction Char zero value place right site span refl ht hr
+      updated_as_promises direction (Struct n) zero value place right site span ht hr single lacks = tt
+      updated_as_promises direction (Pointer m kinds.One t) zero value place right site span ht hr single lacks = absurd (cc)
+      updated_as_promises direction (Pointer m kinds.Nt t) zero value place right site span ht hr single lacks = absurd (cc)
+      updated_as_promises direction (Pointer m kinds.Array t) zero value place right site span ht hr single lacks =
+          number_of_promises g types s IsHere right span _ hr (λ w number. by w number (bounds_of value) refl)
+        where
+          by : (w : core.Expression) → HasType g types s w Int → (o : Option PointerBounds) → bounds_of value ≡ o → Promises IsHere (moved s.flow place (Pointer m kinds.Array t) (core.Sum value direction w site (sum_node s.locals direction value w site)) span)
+          by w number None e = let none = rw e at lacks in absurd (cc)
+          by w number (Some p) e =
+              let sum = core.Sum value direction w site (sum_node s.locals direction value w site) in
+              let fits = sum_fits g types s m t value w direction site p e ht.has_type ht.node number in
+              moved_promises place m t sum span ht.stands fits.has_type fits.node
+
+      updated_promises : (at : Places) (direction : Direction) (target right : Typed) (span : Span) → Fits g types s target → Fits g types s right → Promises IsHere (updated at s direction target right span)
+      updated_promises at direction (Value type zero value ForNothing) right span ht hr = tt
+      updated_promises at direction (Value type zero value ForArray) right span ht hr = tt
+      updated_promises at direction (Value type zero value (For place)) right span ht hr =
+          without_ptr_promises g types s IsHere (Value type zero value (For place)) right span _ (updated_as_promises direction type zero value place right (site_at at span) span ht hr)
+      updated_promises at direction (AStruct number place) right span ht hr = tt
+
       -- a value of a type, where its bounds are met
       value_promises : (Q : core.Statement → Type 0) (t : Typed) (type : CType) (span : Span) (of : core.Expression → core.Statement) → Fits g types s t → ((v : core.Expression) → HasType g types s v type → Q (of v))
           → Promises Q (converted t type span (λ v. bounds_met s.flow t type span (Passes (of v))))
@@ -123,7 +146,10 @@ module _ (g : Frame) (types : List CType) (all_scalar : AllByRecursion IsScalar 
 
       set_promises : (target right : Typed) (span : Span) → Fits g types s target → Fits g types s right → Promises IsHere (set_to s.flow target right span)
       set_promises target right span ht hr =
-          assigned_promises IsHere target span _ ht (λ type place h scalar. value_promises IsHere right type span (store place type) hr (λ v typed. store_typed place type v h scalar typed))
+          assigned_promises IsHere target span _ ht
+          (λ type place h scalar. so_converted g types s knows IsHere right type span _ hr
+          (λ v is typed. needs_promises IsHere (meets_declared s.flow (declared_for place) right type) E17 span _
+          (λ met. store_typed place type v h scalar (typed (result_type_met g types s knows (declared_for place) right type met)) (result_asked g types s knows (declared_for place) right type v (declared_ints place type h) hr is met))))
 
       stored_promises : (at : Places) (operator : StoreOperator) (target right : Typed) (span : Span) → Fits g types s target → Fits g types s right → Promises IsHere (stored at s operator target right span)
       stored_promises at stores.Set target right span ht hr = set_promises target right span ht hr
@@ -135,7 +161,7 @@ module _ (g : Frame) (types : List CType) (all_scalar : AllByRecursion IsScalar 
       passing_promises (Fits g types s) (IsSimple g types s) (typed at s target) _ (typed_promises g types s knows at target)
       (λ a ha. passing_promises (Fits g types s) (IsSimple g types s) (typed at s value) _ (typed_promises g types s knows at value) (λ b hb. stored_promises s knows at operator a b span ha hb))
   assignment_promises at s knows (trees.Step operator side target span) =
-      passing_promises (Fits g types s) (IsSimple g types s) (typed at s target) _ (typed_promises g types s knows at target) (λ a ha. updated_promises s at (step_of operator) a one span ha (one_fits s))
+      passing_promises (Fits g types s) (IsSimple g types s) (typed at s target) _ (typed_promises g types s knows at target) (λ a ha. updated_promises s knows at (step_of operator) a one span ha (one_fits s))
 
   -- ---- conditions and results
 

@@ -22,7 +22,7 @@ use Rattle.region_typing_rules.specs.Readings.{told}
 use Rattle.region_typing_rules.specs.Knowing.{assigned_in, numbers_marked, step_marked, marked, at_loop, when}
 use Rattle.region_typing_rules.specs.Statements.{behind_block, behind_loop, before_step, in_loop}
 use Rattle.region_typing_rules.specs.KnownIsSo.{WhereGiven, IsAlike, FitsAlike, IsKnown, IsOnWay, IsSo, HasLocals, IsBetween, declared_at, IsOutside, AreBetween, IsWalk}
-use Rattle.region_typing_rules.proofs.Verdicts.{Extends}
+use Rattle.region_typing_rules.proofs.Verdicts.{Extends, extends_length}
 use Rattle.region_typing_rules.proofs.Keeping.{IsAfter}
 use Rattle.region_typing_rules.proofs.Moving.{AssignsOnly, IsMovedTo, moved_on, moved_after, effect_moves, knots_move}
 use Rattle.region_typing_rules.proofs.Alike.{alike_here, fits_after}
@@ -34,7 +34,7 @@ use Rattle.region_typing_rules.proofs.Worlds.{Anything, tick_answers}
 use Rattle.region_typing_rules.proofs.Sure.{sure_both, sure_further}
 use Rattle.region_typing_rules.proofs.Soundness.{EndsAs, Goes, IsKept, IsNext, OfType, Runs, asked_runs, lowered_runs, raised_runs, runs_both, runs_on, runs_then, typed_goes}
 use Rattle.region_typing_rules.proofs.Declaring.{IsAt, Knots, few_vars, has_of, running, ticking}
-use Rattle.region_typing_rules.proofs.Ways.{below_or_beyond, extends_length, fits_further, way_further, on_first, on_others, walk_block, walk_head, walk_tracked, block_outside, known_block}
+use Rattle.region_typing_rules.proofs.Ways.{below_or_beyond, fits_further, way_further, on_first, on_others, walk_block, walk_head, walk_tracked, block_outside, known_block}
 
 -- ---- the locals before a loop, with those of a later state that a flow can't tell
 
@@ -369,5 +369,5 @@ module _ (frame : Frame) (types : List CType) (all_scalar : AllByRecursion IsSca
       loop_on (suc n) low s t knots known moved declared kept =
           turn_on (suc n) low s t knots
           (λ low' u few moved' declared' kept'. raised_runs frame budget (suc n) n low' types Q (effect true here (K n) (core.Loop c x y) u) kept'.enough
-          (loop_on n low' s u (λ m le. knots m (omega (arith, le))) known moved' declared' (record { grown = kept'.grown; cells = kept'.cells; locals = kept'.locals; world = kept'.world; enough = omega (arith, few) })))
+          (loop_on n low' s u (λ m le. knots m (omega (arith, le))) known moved' declared' (record { grown = kept'.grown; cells = kept'.cells; locals = kept'.locals; world = kept'.world; enough = omega (arith, few); held = kept'.held })))
           known moved declared kept

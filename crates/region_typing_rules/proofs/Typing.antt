@@ -34,7 +34,7 @@ use Rattle.region_typing_rules.specs.Lowerable.{IsRoomy, IsSmall, IsSmallCore}
 use Rattle.region_typing_rules.specs.NeverStuck.{HasCore}
 use Rattle.region_typing_rules.proofs.Verdicts.{Promises}
 use Rattle.region_typing_rules.proofs.Signatures.{bytes_equal, trusted_there, named_self}
-use Rattle.region_typing_rules.proofs.Walks.{IsWell, body_suits, functions_safe, objects_typed, functions_small, imports_small, frame}
+use Rattle.region_typing_rules.proofs.Walks.{IsWell, bounds_declared, body_suits, functions_safe, objects_typed, functions_small, imports_small, frame}
 use Rattle.region_typing_rules.proofs.Items.{IsNamedMain, main_name, Passed, items_promise}
 
 -- a program whose names have a meaning has a `main`
@@ -66,6 +66,7 @@ safe_walk height entry a w h =
         structs = w.scope.structs;
         bounds = trusted_bounds w.scope.functions;
         result_bounds = trusted_results w.scope.functions;
+        object_bounds = bounds_declared w.scope.variables;
         objects = objects_typed height entry w well h.follows.settled w.objects well.start;
         functions = functions_typed (frame height entry w well h.follows.settled) (trusted_functions w.bodies w.scope.functions) (trusted_bounds w.scope.functions) (trusted_results w.scope.functions) functions;
         main = (body_of w.bodies m, found, no_parameters (body_of w.bodies m) it.safe.typed.parameters (suits.parameters ∙ main.none), suits.result ∙ main.int);

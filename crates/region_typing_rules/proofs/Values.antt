@@ -85,7 +85,7 @@ pub record HasCell (blocks : List Block) (block byte : ℕ) (type : CType) : Typ
   pub typed : cell.type ≡ type
   pub open_ended : held.zero_ended ≡ false
 
-cell_there : (blocks : List Block) (block byte : ℕ) (s : Shape) (t : CType) → slice_get (shapes blocks) block ≡ Some s → type_at s byte ≡ Some t → s.zero_ended ≡ false → HasCell blocks block byte t
+pub cell_there : (blocks : List Block) (block byte : ℕ) (s : Shape) (t : CType) → slice_get (shapes blocks) block ≡ Some s → type_at s byte ≡ Some t → s.zero_ended ≡ false → HasCell blocks block byte t
 cell_there blocks block byte s t found typed ended =
     let b = mapped_from shape blocks block s found in
     let here : type_at (shape b.0) byte ≡ Some t = subst (λ x. type_at x byte ≡ Some t) (sym b.2) typed in
@@ -104,13 +104,13 @@ module _ (blocks : List Block) (block byte : ℕ) (t : CType) (c : HasCell block
   zero_left v = ap (λ (o : Option Block). leaves_zero o byte v) c.there ∙ ap (λ ended. not ended || (is_zero v || not (is_last c.held byte))) c.open_ended
 
   -- the block with another value in the cell
-  abbrev new_cell : Value → Cell
+  abbrev pub new_cell : Value → Cell
   new_cell v = record c.cell { value = v }
 
-  abbrev new_block : Value → Block
+  abbrev pub new_block : Value → Block
   new_block v = record c.held { cells = slice_set c.held.cells c.number (new_cell v) }
 
-  stored_there : (v : Value) → stored blocks block byte v ≡ slice_set blocks block (new_block v)
+  pub stored_there : (v : Value) → stored blocks block byte v ≡ slice_set blocks block (new_block v)
   stored_there v = rw (c.there, c.numbered, c.found) refl
 
   new_shape : (v : Value) → shape (new_block v) ≡ shape c.held

@@ -1,5 +1,5 @@
 -- What verdicts promise of the values that they pass on.
-use Rattle.std.proofs.Common.{◌≡◌, ℕ, zero, suc, Bool, true, false, List, [], ◌∷◌, ◌++◌, length, Option, Some, None, refl, subst}
+use Rattle.std.proofs.Common.{◌≡◌, ℕ, zero, suc, ◌≤◌, Bool, true, false, List, [], ◌∷◌, ◌++◌, length, Option, Some, None, refl, subst, arith}
 use Rattle.std.specs.Prelude.{slice_get, not, ◌||◌, is_some}
 use Rattle.ckc_text.specs.declared.code.Code.{Code}
 use Rattle.ckc_text.specs.declared.place.Span.{Span}
@@ -59,6 +59,11 @@ pub extends_append : {X : Type 0} (xs ys : List X) → Extends xs (xs ++ ys)
 extends_append [] ys k x h = absurd (cc)
 extends_append (z ∷ xs) ys zero x h = h
 extends_append (z ∷ xs) ys (suc k) x h = extends_append xs ys k x h
+
+pub extends_length : {X : Type 0} (xs ys : List X) → Extends xs ys → length xs ≤ length ys
+extends_length [] ys h = omega arith
+extends_length (x ∷ xs) [] h = let q = h 0 x refl in absurd (cc)
+extends_length (x ∷ xs) (y ∷ ys) h = let rest = extends_length xs ys (λ k z e. h (suc k) z e) in omega (arith, rest)
 
 pub extends_last : {X : Type 0} (xs : List X) (x : X) → slice_get (xs ++ x ∷ []) (length xs) ≡ Some x
 extends_last [] x = refl

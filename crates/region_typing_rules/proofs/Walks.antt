@@ -1,11 +1,13 @@
 -- What holds of a walk behind each item.
 use Rattle.std.proofs.Common.{◌≡◌, ℕ, zero, suc, ◌*◌, ◌<◌, ◌≤◌, Bool, true, false, List, [], ◌∷◌, ◌++◌, take, map, length, Option, Some, None, refl, sym, ap, ◌∙◌, subst, arith}
-use Rattle.std.specs.Prelude.{◌==◌, slice_get}
+use Rattle.std.specs.Prelude.{◌==◌, slice_get, is_some}
 use Rattle.std.specs.List.{AllByRecursion}
 use Rattle.std.proofs.Math.Seq.{take-length}
-use Rattle.pointer_modes.specs.Types.{Member, Structure, members_of}
+use Rattle.bounds_exprs.specs.declared.term.Bounds.{Bounds}
+use Rattle.pointer_modes.specs.declared.ctype.Kind.TheVariants as kinds
+use Rattle.pointer_modes.specs.Types.{Pointer, Member, Structure, members_of}
 use Rattle.pointer_modes.specs.Layout.{size_of}
-use Rattle.ckc_core.specs.Programs.{Initial, Variable, Import}
+use Rattle.ckc_core.specs.Programs.{Initial, Variable, Import, open_variable}
 use Rattle.ckc_core.specs.Core as core
 use Rattle.ckc_core.specs.States.{shape, object_block}
 use Rattle.ckc_core.specs.Stacks.{statements_stack}
@@ -20,9 +22,11 @@ use Rattle.bounds_flow_meaning.specs.Rows.{HasRow}
 use Rattle.region_typing_rules.specs.Typed.{Frame, HasResultBounds, HaveRows, AreRows, IsScalar, IsInitial}
 use Rattle.region_typing_rules.proofs.Safe.{AreSafe, IsSafe}
 use Rattle.region_typing_rules.specs.Lowerable.{objects_size, IsRoomy, IsSmall}
-use Rattle.region_typing_rules.proofs.Verdicts.{Extends}
-use Rattle.region_typing_rules.proofs.Known.{IsClosed}
-use Rattle.region_typing_rules.proofs.Knowledge.{IsTrusted, IsTainted, IsVariable, KnowsFile}
+use Rattle.region_typing_rules.proofs.Verdicts.{Extends, extends_length}
+use Rattle.region_typing_rules.proofs.Known.{IsKnown, IsClosed, known_later, size_kept}
+use Rattle.region_typing_rules.proofs.Knowledge.{IsTrusted, IsTainted, IsSingle, IsVariable, KnowsFile}
+use Rattle.region_typing_rules.proofs.DeclaredBounds.{IsConstantFor}
+use Rattle.region_typing_rules.proofs.Values.{mapped_there}
 use Rattle.region_typing_rules.proofs.Layouts.{IsStart, earlier_members}
 use Rattle.region_typing_rules.proofs.Copies.{rows_kept}
 use Rattle.region_typing_rules.proofs.Signatures.{named_self, named_has, numbers_equal, trusted_there, tainted_there, IsDeclared}
@@ -63,11 +67,24 @@ known_before g a b closed h known = record {
 
 -- ---- walks
 
--- the cells of a variable are those of as many values of its type as it has
+-- the bounds that are declared for a variable are those of a pointer to an array of elements that have bytes, which count from the pointer
+-- itself, between constants
+pub record HasFileBounds (structs : List Structure) (v : FileVariable) (b : Bounds) : Type 0 where
+  pub single : v.length ≡ None
+  pub known : IsKnown structs v.type
+  pub formed : IsConstantFor structs v.type b
+
+abbrev pub HaveFileBounds : List Structure → FileVariable → Option Bounds → Type 0
+HaveFileBounds structs v None = Unit {0}
+HaveFileBounds structs v (Some b) = HasFileBounds structs v b
+
+-- the cells of a variable are those of as many values of its type as it has; no place leads to it where bounds are declared for it
 pub record IsSettled (structs : List Structure) (v : FileVariable) (object : Variable) : Type 0 where
   pub some : 0 < count_of v.length
   pub few : count_of v.length ≤ 8192
-  pub rows : AreRows structs (shape (object_block object)) v.type (count_of v.length)
+  pub rows : AreRows structs (shape (object_block (open_variable object.cells))) v.type (count_of v.length)
+  pub sealed : object.is_sealed ≡ is_some v.bounds
+  pub bounds : HaveFileBounds structs v v.bounds
 
 -- and so are those of each variable
 abbrev pub AreSettled : List Structure → List FileVariable → List Variable → Type 0
@@ -104,12 +121,23 @@ pub record IsWell (height : ℕ) (w : Walk) : Type 0 where
   pub bytes : objects_size w.objects ≤ w.taken
   pub room : w.taken ≤ 32768
 
+file_bounds_later : (a b : List Structure) (v : FileVariable) (o : Option Bounds) → Extends a b → HaveFileBounds a v o → HaveFileBounds b v o
+file_bounds_later a b v None ext h = tt
+file_bounds_later a b v (Some bounds) ext h =
+    let f = h.formed in
+    let element : IsKnown a f.element = subst (IsKnown a) f.own h.known in
+    record {
+      single = h.single;
+      known = known_later a b v.type (extends_length a b ext) h.known;
+      formed = record { mode = f.mode; element = f.element; own = f.own; some = subst (λ n. 0 < n) (size_kept a b f.element ext element) f.some; limited = f.limited; constant = f.constant };
+    }
+
 pub settled_later : (a b : List Structure) (variables : List FileVariable) (objects : List Variable) → Extends a b → AreSettled a variables objects → AreSettled b variables objects
 settled_later a b [] [] ext h = tt
 settled_later a b [] (o ∷ objects) ext h = absurd h
 settled_later a b (v ∷ variables) [] ext h = absurd h
 settled_later a b (v ∷ variables) (o ∷ objects) ext h = (
-  record { some = h.0.some; few = h.0.few; rows = rows_kept a b (shape (object_block o)) v.type (count_of v.length) ext h.0.rows },
+  record { some = h.0.some; few = h.0.few; rows = rows_kept a b (shape (object_block (open_variable o.cells))) v.type (count_of v.length) ext h.0.rows; sealed = h.0.sealed; bounds = file_bounds_later a b v v.bounds ext h.0.bounds },
   settled_later a b variables objects ext h.1,
 )
 
@@ -132,15 +160,66 @@ settled_there structs (x ∷ variables) [] k v h e = absurd h
 settled_there structs (x ∷ variables) (o ∷ objects) zero v h e = let same : x ≡ v = cc in (o, refl, subst (λ (y : FileVariable). IsSettled structs y o) same h.0)
 settled_there structs (x ∷ variables) (o ∷ objects) (suc k) v h e = settled_there structs variables objects k v h.1 e
 
+-- a variable that is open is its cells
+open_is : (object : Variable) → object.is_sealed ≡ false → open_variable object.cells ≡ object
+open_is object h = ap (λ sealed. record { cells = object.cells; is_sealed = sealed }) (sym h)
+
 -- the object of a variable is there
-variable_there : (g : Frame) (number : ℕ) (v : FileVariable) (object : Variable) → slice_get g.program.objects number ≡ Some object → IsSettled g.structs v object → IsVariable g v.type v.length number
-variable_there g number v object found settled = by v.length settled.some settled.few settled.rows
-  where
-    by : (length : Option ℕ) → 0 < count_of length → count_of length ≤ 8192 → AreRows g.structs (shape (object_block object)) v.type (count_of length) → IsVariable g v.type length number
-    by None some few rows =
-        let first : 0 * size_of g.structs v.type ≡ 0 = omega arith in
-        record { variable = object; found = found; row = subst (λ byte. HasRow g.structs (shape (object_block object)) byte v.type) first (rows 0 (omega arith)) }
-    by (Some n) some few rows = record { variable = object; found = found; some = some; few = few; rows = rows }
+module _ (g : Frame) (number : ℕ) (v : FileVariable) (object : Variable) (found : slice_get g.program.objects number ≡ Some object) (settled : IsSettled g.structs v object)
+    (told : slice_get g.object_bounds number ≡ Some v.bounds) where
+  first_row : (length : Option ℕ) → v.length ≡ length → length ≡ None → HasRow g.structs (shape (object_block (open_variable object.cells))) 0 v.type
+  first_row length same none =
+      let first : 0 * size_of g.structs v.type ≡ 0 = omega arith in
+      subst (λ byte. HasRow g.structs (shape (object_block (open_variable object.cells))) byte v.type) first (settled.rows 0 settled.some)
+
+  opened : v.bounds ≡ None → open_variable object.cells ≡ object
+  opened none = open_is object (settled.sealed ∙ ap is_some none)
+
+  single_there : (o : Option Bounds) → v.bounds ≡ o → v.length ≡ None → IsSingle g v.type o number
+  single_there None none single =
+      record { variable = object; found = found; row = subst (λ x. HasRow g.structs (shape (object_block x)) 0 v.type) (opened none) (first_row v.length refl single) }
+  single_there (Some b) is single =
+      let bounds : HasFileBounds g.structs v b = subst (HaveFileBounds g.structs v) is settled.bounds in
+      let f = bounds.formed in
+      let row : HasRow g.structs (shape (object_block (open_variable object.cells))) 0 (Pointer f.mode kinds.Array f.element) = subst (λ t. HasRow g.structs (shape (object_block (open_variable object.cells))) 0 t) f.own (first_row v.length refl single) in
+      record {
+        mode = f.mode;
+        element = f.element;
+        own = f.own;
+        object = record {
+          variable = object;
+          found = found;
+          declared = told ∙ ap Some is;
+          sealed = settled.sealed ∙ ap is_some is;
+          pointer = row.stands.each 0 (record { type = Pointer f.mode kinds.Array f.element; offset = 0 }) refl;
+          some = f.some;
+          limited = f.limited;
+          constant = f.constant;
+        };
+      }
+
+  -- bounds are declared for no array
+  array_open : (n : ℕ) (o : Option Bounds) → v.bounds ≡ o → v.length ≡ Some n → o ≡ None
+  array_open n None is array = refl
+  array_open n (Some b) is array = absurd (let bounds : HasFileBounds g.structs v b = subst (HaveFileBounds g.structs v) is settled.bounds in let none : Some n ≡ None = sym array ∙ bounds.single in cc)
+
+  variable_there : IsVariable g v v.length number
+  variable_there = by v.length refl
+    where
+      by : (length : Option ℕ) → v.length ≡ length → IsVariable g v length number
+      by None single = single_there v.bounds refl single
+      by (Some n) array =
+          record {
+            variable = object;
+            found = found;
+            some = subst (λ o. 0 < count_of o) array settled.some;
+            few = subst (λ o. count_of o ≤ 8192) array settled.few;
+            rows = subst (λ x. AreRows g.structs (shape (object_block x)) v.type n) (opened (array_open n v.bounds refl array)) (subst (λ o. AreRows g.structs (shape (object_block (open_variable object.cells))) v.type (count_of o)) array settled.rows);
+          }
+
+-- the bounds that are declared for variables, in their order
+abbrev pub bounds_declared : List FileVariable → List (Option Bounds)
+bounds_declared variables = map (λ (v : FileVariable). v.bounds) variables
 
 -- the body that is found is one of the function
 pub record Suits (b : core.Function) (f : Signature) : Type 0 where
@@ -162,7 +241,7 @@ body_suits height s (b ∷ bodies) f all named = by (f.name == b.name) refl (bod
 
 module _ (height entry : ℕ) (w : Walk) (well : IsWell height w) (settled : AreSettled w.scope.structs w.scope.variables w.objects) where
   abbrev pub frame : Frame
-  frame = record { program = sides_of entry w; structs = w.scope.structs; bounds = trusted_bounds w.scope.functions; result_bounds = trusted_results w.scope.functions }
+  frame = record { program = sides_of entry w; structs = w.scope.structs; bounds = trusted_bounds w.scope.functions; result_bounds = trusted_results w.scope.functions; object_bounds = bounds_declared w.scope.variables }
 
   trusted_known : (name : ℕ) (f : Signature) → function_named w.scope.functions name ≡ Some f → is_import f ≡ false → IsTrusted frame (side_number false w.scope.functions f.name 0) f
   trusted_known name f found side =
@@ -205,7 +284,8 @@ module _ (height entry : ℕ) (w : Walk) (well : IsWell height w) (settled : Are
     closed = well.closed;
     few_members = well.few;
     scalar_members = well.scalars;
-    variables = λ k v e. let there = settled_there w.scope.structs w.scope.variables w.objects k v settled e in variable_there frame k v there.0 there.1 there.2;
+    variables = λ k v e.
+        (let there = settled_there w.scope.structs w.scope.variables w.objects k v settled e in variable_there frame k v there.0 there.1 there.2 (mapped_there (λ (v : FileVariable). v.bounds) w.scope.variables k v e));
     trusted = trusted_known;
     tainted = tainted_known;
   }

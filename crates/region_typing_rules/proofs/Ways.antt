@@ -22,15 +22,10 @@ use Rattle.region_typing_rules.specs.Readings.{told}
 use Rattle.region_typing_rules.specs.Knowing.{without_locals, knowing, when, cut, with_way, way_out, broken, continued, with_others, at_loop, assigned_in}
 use Rattle.region_typing_rules.specs.Statements.{with_local, behind_block, behind_loop, before_step, meeting, in_loop}
 use Rattle.region_typing_rules.specs.KnownIsSo.{AreLimitedIf, IsAlike, FitsAlike, IsKnown, IsOnWay, IsSo, IsBetween, declared_at, IsOutside, IsDeclared, AreBetween, IsWalk, HasLocals}
-use Rattle.region_typing_rules.proofs.Verdicts.{Extends, extends_append}
+use Rattle.region_typing_rules.proofs.Verdicts.{Extends, extends_append, extends_length}
 use Rattle.region_typing_rules.proofs.Between.{outside_beside, outside_here, beside_of, told_beside, between_told, between_cut, between_head, between_met, met_beside, between_entered, between_without, entered_here, entered_other, entered_below, entered_beyond, entered_outside, without_outside, between_way, between_others, between_same}
 
 -- ---- longer lists of locals
-
-pub extends_length : {X : Type 0} (xs ys : List X) → Extends xs ys → length xs ≤ length ys
-extends_length [] ys h = omega arith
-extends_length (x ∷ xs) [] h = let q = h 0 x refl in absurd (cc)
-extends_length (x ∷ xs) (y ∷ ys) h = let rest = extends_length xs ys (λ k z e. h (suc k) z e) in omega (arith, rest)
 
 pub has_before : (xs ys : List CType) (s : State) → Extends xs ys → HasLocals ys s → HasLocals xs s
 has_before xs ys s h has x t e = has x t (h x t e)

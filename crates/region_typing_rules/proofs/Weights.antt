@@ -35,7 +35,7 @@ use Rattle.ckc_names_rules.specs.declared.given.Given.{Given}
 use Rattle.region_typing_rules.specs.Verdicts.{Verdict, Passes, passing}
 use Rattle.region_typing_rules.specs.Scopes.{Scope, Signature, WrittenBounds, Named, Local, Object, Array, Nothing, named, function_named, members_named}
 use Rattle.region_typing_rules.specs.Types.{type_named, is_number, is_pointer, are_comparable, converts}
-use Rattle.region_typing_rules.specs.Expressions.{Places, OfLocal, OfCell, Standing, ForNothing, ForArray, For, Typed, Value, AStruct, Called, Gives, GivesNothing, site_at, bounds_at, noted, noted_if, with_bounds, sum_node, bounded, plain, number, at_place, local_typed, name_typed, member_place, member_from, offset_among, member_at, dotted, first_element, pointed_by, arrowed, pointed_at, dereferenced, pointer_to, address, number_of, scalar_of, unary_typed, two_numbers, two_scalars, operator_along, summed, sum_typed, as_pointer, equated_values, equated, are_related, ordered_values, ordered, arithmetic, binary_typed, beside, element_at, indexed, in_type, converted, arguments_as, is_import, call_of, declared_callee, first_of, writes, predefined_call, called, with_result, typed, all_typed, call_typed, malloc_typed, calloc_typed, cast_typed, cast_bounds, is_array, local_standing}
+use Rattle.region_typing_rules.specs.Expressions.{Places, OfLocal, OfCell, OfBounded, Standing, ForNothing, ForArray, For, Typed, Value, AStruct, Called, Gives, GivesNothing, site_at, bounds_at, noted, noted_if, with_bounds, sum_node, bounded, plain, number, at_place, local_typed, name_typed, object_typed, member_place, member_from, offset_among, member_at, dotted, first_element, pointed_by, arrowed, pointed_at, dereferenced, pointer_to, address, number_of, scalar_of, unary_typed, two_numbers, two_scalars, operator_along, summed, sum_typed, as_pointer, equated_values, equated, are_related, ordered_values, ordered, arithmetic, binary_typed, beside, element_at, indexed, in_type, converted, arguments_as, is_import, call_of, declared_callee, first_of, writes, predefined_call, called, with_result, typed, all_typed, call_typed, malloc_typed, calloc_typed, cast_typed, cast_bounds, is_array, local_standing}
 use Rattle.region_typing_rules.proofs.Knowledge.{crossing_promises}
 use Rattle.region_typing_rules.proofs.Kept.{passing_any}
 use Rattle.region_typing_rules.proofs.Memory.{IsCount, OfBytes, OfOne, OfLeft, OfRight, malloc_promises, calloc_promises, cast_promises}
@@ -48,6 +48,7 @@ LightPlace n ForNothing = Unit {0}
 LightPlace n ForArray = Unit {0}
 LightPlace n (For (OfLocal k)) = Unit {0}
 LightPlace n (For (OfCell p)) = place_weight p < n
+LightPlace n (For (OfBounded k b)) = place_weight (core.Direct k 0) < n
 
 abbrev pub Light : ℕ → Typed → Type 0
 Light n (Value type zero value place) = (expression_weight value < n) × LightPlace n place
@@ -65,6 +66,7 @@ light_place_more n m ForNothing le h = tt
 light_place_more n m ForArray le h = tt
 light_place_more n m (For (OfLocal k)) le h = tt
 light_place_more n m (For (OfCell p)) le h = omega arith
+light_place_more n m (For (OfBounded k b)) le h = omega arith
 
 light_more : (n m : ℕ) (t : Typed) → n ≤ m → Light n t → Light m t
 light_more n m (Value type zero value place) le h = let first = h.0 in (omega arith, light_place_more n m place le h.1)
@@ -122,9 +124,16 @@ local_light n structs f k Char array site h = (h, standing_light n k array)
 local_light n structs f k (Struct number) array site h = tt
 local_light n structs f k (Pointer m d t) array site h = (h, standing_light n k array)
 
+object_light : (n : ℕ) (structs : List Structure) (k : ℕ) (t : CType) (bounds : Option Bounds) (site : Site) → 2 < n → Light n (object_typed structs k t bounds site)
+object_light n structs k t None site h = at_place_light n t (core.Direct k 0) (omega arith)
+object_light n structs k Int (Some b) site h = (omega arith, omega arith)
+object_light n structs k Char (Some b) site h = (omega arith, omega arith)
+object_light n structs k (Struct number) (Some b) site h = omega arith
+object_light n structs k (Pointer m d t) (Some b) site h = (omega arith, omega arith)
+
 name_light : (n : ℕ) (s : Scope) (x : Named) (site : Site) → 2 < n → Light n (name_typed s x site)
 name_light n s (Local k t) site h = local_light n s.structs s.flow k t (is_array s.arrays k) site (omega arith)
-name_light n s (Object k t) site h = at_place_light n t (core.Direct k 0) (omega arith)
+name_light n s (Object k t b) site h = object_light n s.structs k t b site h
 name_light n s (Array k t length) site h = (omega arith, tt)
 name_light n s Nothing site h = (omega arith, tt)
 
@@ -141,8 +150,10 @@ address_light n (Value type zero value ForNothing) site span h = tt
 address_light n (Value type zero value ForArray) site span h = tt
 address_light n (Value type zero value (For (OfLocal k))) site span h = tt
 address_light n (Value type zero value (For (OfCell p))) site span h = pointer_light n type p site h.1
+address_light n (Value type zero value (For (OfBounded k b))) site span h = tt
 address_light n (AStruct number (OfLocal k)) site span h = tt
 address_light n (AStruct number (OfCell p)) site span h = pointer_light n (Struct number) p site h
+address_light n (AStruct number (OfBounded k b)) site span h = tt
 
 pointed_light : (n : ℕ) (t : CType) (value : core.Expression) (site : Site) (span : Span) → IsLight n value → Promises (Light (n + 3)) (pointed_at t value site span)
 pointed_light n Int value site span h = tt
@@ -169,6 +180,7 @@ dotted_light : (n : ℕ) (s : Scope) (a : Typed) (name : ℕ) (site : Site) (spa
 dotted_light n s (Value type zero value place) name site span two h = tt
 dotted_light n s (AStruct number (OfLocal k)) name site span two h = member_at_light (n + 2) s number (core.Through (core.Local k None) core.First 0 site) name site span (omega arith)
 dotted_light n s (AStruct number (OfCell p)) name site span two h = member_at_light (n + 2) s number p name site span (omega arith)
+dotted_light n s (AStruct number (OfBounded k b)) name site span two h = member_at_light (n + 2) s number (core.Direct k 0) name site span (omega arith)
 
 pointed_by_light : (n : ℕ) (s : Scope) (t : CType) (value : core.Expression) (name : ℕ) (site : Site) (span : Span) → IsLight n value → Promises (Light (n + 3)) (pointed_by s t value name site span)
 pointed_by_light n s Int value name site span h = tt

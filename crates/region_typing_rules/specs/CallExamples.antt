@@ -45,7 +45,8 @@ without_pointer = at_call (None ∷ []) (None ∷ []) (record { base = Some 0; l
 abbrev pub result : Type 0
 result =
     (result_at (Some (variable 5 (pos 3)) ∷ []) (Some (up_to (variable 0 (pos 0)))) ≡ Some (up_to (variable 5 (pos 3))))
-    × (result_at (None ∷ []) (Some (up_to (variable 0 (pos 0)))) ≡ None) × (result_at (None ∷ []) (Some (up_to (constant (pos 2)))) ≡ Some (up_to (constant (pos 2))))
+    × (result_at (None ∷ []) (Some (up_to (variable 0 (pos 0)))) ≡ None)
+    × (result_at (None ∷ []) (Some (up_to (constant (pos 2)))) ≡ Some (up_to (constant (pos 2))))
 
 -- ---- declarations
 

@@ -57,10 +57,11 @@ use Rattle.region_typing_rules.specs.Types.{converts}
 use Rattle.region_typing_rules.specs.Cells.{cells_with}
 use Rattle.region_typing_rules.specs.DeclaredBounds.{declared_bounds}
 
--- where a value may be stored: a local, or a cell
+-- where a value may be stored: a local, a cell, or a file-level pointer for which bounds are declared
 pub data Lvalue : Type 0 where
   OfLocal : (local : ℕ) → Lvalue
   OfCell : (place : core.Place) → Lvalue
+  OfBounded : (object : ℕ) (bounds : Bounds) → Lvalue
 
 -- what an expression stands for beside its value: nothing, the name of an array, or where a value may be stored
 pub data Standing : Type 0 where
@@ -179,7 +180,7 @@ at_place Char place = Value Char false (core.Load Char place None) (For (OfCell 
 at_place (Pointer mode kind target) place = Value (Pointer mode kind target) false (core.Load (Pointer mode kind target) place None) (For (OfCell place))
 at_place (Struct number) place = AStruct number (OfCell place)
 
--- the bounds in force of a local pointer, at its node
+-- the bounds in force of a pointer, at its node
 abbrev pub in_force : List Structure → Kind → CType → Option Bounds → Site → Option PointerBounds
 in_force structs kinds.Array target (Some b) site = Some (record { bounds = b; size = size_of structs target; site = site })
 in_force structs kinds.Array target None site = None
@@ -209,9 +210,23 @@ array_typed structs object type length site =
     Value (Pointer modes.Checked kinds.Array type) false
     (core.AddressOf (core.Direct object 0) (Some (record { bounds = row_of length; size = size_of structs type; site = site }))) ForArray
 
+-- a file-level pointer with the bounds that are declared for it; no other type has any
+abbrev pub pointer_typed : List Structure → ℕ → CType → Bounds → Site → Typed
+pointer_typed structs object Int b site = at_place Int (core.Direct object 0)
+pointer_typed structs object Char b site = at_place Char (core.Direct object 0)
+pointer_typed structs object (Struct number) b site = at_place (Struct number) (core.Direct object 0)
+pointer_typed structs object (Pointer mode kind target) b site =
+    Value (Pointer mode kind target) false
+    (core.Load (Pointer mode kind target) (core.Direct object 0) (in_force structs kind target (Some b) site)) (For (OfBounded object b))
+
+-- a file-level variable
+abbrev pub object_typed : List Structure → ℕ → CType → Option Bounds → Site → Typed
+object_typed structs object type None site = at_place type (core.Direct object 0)
+object_typed structs object type (Some b) site = pointer_typed structs object type b site
+
 abbrev pub name_typed : Scope → Named → Site → Typed
 name_typed s (Local local type) site = local_typed s.structs s.flow local type (is_array s.arrays local) site
-name_typed s (Object object type) site = at_place type (core.Direct object 0)
+name_typed s (Object object type bounds) site = object_typed s.structs object type bounds site
 name_typed s (Array object type length) site = array_typed s.structs object type length site
 name_typed s Nothing site = Value Int true (core.Number (pos 0)) ForNothing
 
@@ -225,6 +240,7 @@ member_place (core.Through pointer index first before) offset site = core.Throug
 abbrev pub struct_place : Lvalue → Site → core.Place
 struct_place (OfLocal local) site = core.Through (core.Local local None) core.First 0 site
 struct_place (OfCell place) site = place
+struct_place (OfBounded object bounds) site = core.Direct object 0
 
 -- a member of a struct, where these are the names of its members: its number, and its type
 abbrev pub member_from : ℕ → List ℕ → List Member → ℕ → Option (ℕ × CType)
@@ -295,8 +311,10 @@ address_at type ForNothing site span = breaks E12 span
 address_at type ForArray site span = breaks E22 span
 address_at type (For (OfLocal local)) site span = breaks E22 span
 address_at type (For (OfCell place)) site span = Passes (pointer_to type place site)
+address_at type (For (OfBounded object bounds)) site span = breaks E22 span
 
--- address-of-place: a variable, an element or a member (E12). address-allowed: no local and no array (E22)
+-- address-of-place: a variable, an element or a member (E12). address-allowed: no local, no array, and no pointer for which bounds are
+-- declared (E22)
 abbrev pub address : Typed → Site → Span → Verdict Typed
 address (Value type zero value place) site span = address_at type place site span
 address (AStruct number place) site span = address_at (Struct number) (For place) site span

@@ -31,7 +31,7 @@ use Rattle.bounds_flow.specs.Flows.{Knowledge, at_entry, entered}
 use Rattle.pointer_modes.specs.Types as types
 use Rattle.pointer_modes.specs.Types.{CType, Int, Char, Struct, Pointer, Structure, members_of}
 use Rattle.pointer_modes.specs.Layout.{size_of}
-use Rattle.ckc_core.specs.Programs.{Initial, Variable, open_variable}
+use Rattle.ckc_core.specs.Programs.{Initial, Variable}
 use Rattle.ckc_core.specs.Core as core
 use Rattle.ckc_core.specs.States.{same_type}
 use Rattle.ckc_core.specs.Steps.{low_byte}
@@ -213,8 +213,9 @@ object_cells given structs type (Some length) Missing span = Passes (zeros_of le
 object_cells given structs type (Some length) (Written value t) span = breaks E13 span
 object_cells given structs type (Some length) (Constants cs) span = listed_cells structs type length cs span
 
-abbrev pub with_variable : ℕ → CType → Option ℕ → Scope → Scope
-with_variable name type length g = record g { variables = g.variables ++ record { name = name; type = type; length = length } ∷ [] }
+abbrev pub with_variable : ℕ → CType → Option ℕ → Option Bounds → Scope → Scope
+with_variable name type length bounds g =
+    record g { variables = g.variables ++ record { name = name; type = type; length = length; bounds = bounds } ∷ [] }
 
 -- of how many values of its type a variable consists
 abbrev pub count_of : Option ℕ → ℕ
@@ -240,10 +241,24 @@ room_for w base span d =
     (passing (written_size w.scope base d.stars) (λ size.
     needs (is_length (length_of d)) E08 span (few_bytes (w.taken + (rounded_up (count_of (length_of d) * size) + 16)) span)))
 
+-- what bounds of a variable are for: an array is no pointer
+abbrev pub bounded_type : Option ℕ → CType → CType
+bounded_type None t = t
+bounded_type (Some length) t = Int
+
+-- where the bounds of a file-level variable are read: it is the one local that they may name, so that their ends are constants
+abbrev pub with_own : ℕ → CType → Scope → Scope
+with_own name t g = record g { locals = t ∷ []; visible = record { name = name; local = 0 } ∷ [] }
+
+-- the bounds of a file-level variable (E16)
+abbrev pub object_bounds : Scope → Declarator → CType → Verdict (Option Bounds)
+object_bounds g d t = declared_bounds (with_own d.name.number t g) (bounded_type (length_of d) t) 0 d.bounds
+
 -- a variable whose children were walked
 pub record WalkedVariable : Type 0 where
   pub type : CType
   pub length : Option ℕ
+  pub bounds : Option Bounds
   pub initial : Walked
 
 abbrev pub variables : Places → Walk → TypeTree → CType → Span → List Declarator → List WalkedVariable → Verdict (Walk × List WalkedVariable)
@@ -251,14 +266,19 @@ variables at w base type span [] done = Passes (w, done)
 variables at w base type span (d ∷ ds) done =
     passing (room_for w base span d) (λ taken.
     passing (without_stars base d.stars type) (λ t.
-    passing (initializer at (with_variable d.name.number t (length_of d) w.scope) d.initializer) (λ initial.
-    variables at (record w { scope = with_variable d.name.number t (length_of d) w.scope; taken = taken }) base type span ds (done
-    ++ record { type = t; length = length_of d; initial = initial } ∷ []))))
+    passing (object_bounds w.scope d t) (λ bounds.
+    passing (initializer at (with_variable d.name.number t (length_of d) bounds w.scope) d.initializer) (λ initial.
+    variables at (record w { scope = with_variable d.name.number t (length_of d) bounds w.scope; taken = taken }) base type span ds (done
+    ++ record { type = t; length = length_of d; bounds = bounds; initial = initial } ∷ [])))))
 
 -- whether there is room for the first variable is asked before the type that all share is walked
 abbrev pub room_for_first : Walk → i.Global → List Declarator → Verdict ℕ
 room_for_first w g [] = Passes w.taken
 room_for_first w g (d ∷ ds) = room_for w g.base g.span d
+
+-- a variable with its cells: no place leads to a pointer for which bounds are declared
+abbrev pub variable_of : Option Bounds → List Initial → Variable
+variable_of bounds cells = record { cells = cells; is_sealed = is_some bounds }
 
 -- the initialisers are judged behind the children of all. variable-has-cells: a struct is declared, and has members (E10); those
 -- of a source whose names have a meaning are
@@ -266,7 +286,7 @@ abbrev pub with_objects : Walk → Span → List WalkedVariable → Verdict Walk
 with_objects w span [] = Passes w
 with_objects w span (v ∷ vs) =
     passing (object_cells w.scope.given w.scope.structs v.type v.length v.initial span) (λ cells.
-    needs (nat_lt 0 (length cells)) E10 span (with_objects (record w { objects = w.objects ++ open_variable cells ∷ [] }) span vs))
+    needs (nat_lt 0 (length cells)) E10 span (with_objects (record w { objects = w.objects ++ variable_of v.bounds cells ∷ [] }) span vs))
 
 abbrev pub global : Places → Walk → i.Global → Verdict Walk
 global at w g =

@@ -21,3 +21,4 @@ pub mod CallExamples
 pub mod KeptParameters
 pub mod KeptExamples
 pub mod MemoryExamples
+pub mod FileLevelExamples

@@ -31,28 +31,28 @@ use Rattle.region_typing_rules.specs.Expressions.{Typed, Value, ForArray, For, O
 use Rattle.region_typing_rules.specs.Statements.{both, assigned, declarator}
 use Rattle.region_typing_rules.specs.Items.{nothing_known}
 
-abbrev here : Span
+abbrev pub here : Span
 here = record { from = 0; to = 0 }
 
-abbrev site : Site
+abbrev pub site : Site
 site = record { place = record { line = 1; col = 1 } }
 
 abbrev given : Given
 given = record { null = 100; next_input = 101; print_int = 102; putchar = 103; main = 104 }
 
-abbrev scope : Scope
+abbrev pub scope : Scope
 scope = record (nothing_known given) {
   locals = Int ∷ Pointer modes.Checked kinds.Array Int ∷ [];
   visible = record { name = 1; local = 1 } ∷ record { name = 0; local = 0 } ∷ [];
   flow = at_entry 2;
 }
 
-abbrev name : ℕ → Expression
+abbrev pub name : ℕ → Expression
 name number = e.Name (record { name = []; number = number; span = here })
 
 -- ---- numbers of elements
 
-abbrev number : ℕ → core.Expression
+abbrev pub number : ℕ → core.Expression
 number k = core.Number (pos k)
 
 abbrev times : core.Expression → core.Expression → core.Expression
@@ -86,16 +86,16 @@ bytes =
 
 -- ---- casts
 
-abbrev term : Option ℕ → ℕ → Term
+abbrev pub term : Option ℕ → ℕ → Term
 term var plus = record { var = var; plus = pos plus }
 
-abbrev from_to : Option ℕ → Term → Term → Bounds
+abbrev pub from_to : Option ℕ → Term → Term → Bounds
 from_to base lo hi = record { base = base; lo = lo; hi = hi }
 
-abbrev at_node : Bounds → Option PointerBounds
+abbrev pub at_node : Bounds → Option PointerBounds
 at_node b = Some (record { bounds = b; size = 4; site = site })
 
-abbrev three : Bounds
+abbrev pub three : Bounds
 three = from_to None (term None 0) (term None 3)
 
 -- p with three elements, without bounds, and as it is cast to two elements from itself or from its place
@@ -118,7 +118,7 @@ bases =
     × (has_base (Some 1) (cast None) ≡ false) × (has_base None (cast None) ≡ true)
     × (based_bounds (cast (Some 1)) ≡ Some (two_from (Some 1))) × (has_base (Some 1) unknown ≡ false)
 
-abbrev row : CType
+abbrev pub row : CType
 row = Pointer modes.Checked kinds.Array Int
 
 abbrev single : CType

@@ -27,11 +27,12 @@ pub record Signature : Type 0 where
   pub result : Option CType
   pub result_bounds : WrittenBounds
 
--- a file-level variable; an array has so many elements of the type
+-- a file-level variable; an array has so many elements of the type, and a pointer may have bounds that are declared for it
 pub record FileVariable : Type 0 where
   pub name : ℕ
   pub type : CType
   pub length : Option ℕ
+  pub bounds : Option Bounds
 
 -- a local that is visible: its name, and its number in its function
 pub record Visible : Type 0 where
@@ -67,7 +68,8 @@ pub record Scope : Type 0 where
 -- what a name stands for as an expression
 pub data Named : Type 0 where
   Local : (local : ℕ) (type : CType) → Named
-  Object : (object : ℕ) (type : CType) → Named
+  -- a file-level variable, with the bounds that are declared for it
+  Object : (object : ℕ) (type : CType) (bounds : Option Bounds) → Named
   -- an array of so many elements
   Array : (object : ℕ) (type : CType) (length : ℕ) → Named
   -- `NULL`
@@ -86,14 +88,14 @@ abbrev pub local_named : List CType → List Visible → ℕ → Option Named
 local_named types [] name = None
 local_named types (v ∷ visible) name = found_if (name == v.name) (local_if (slice_get types v.local) v.local) (local_named types visible name)
 
-abbrev pub object_of : ℕ → CType → Option ℕ → Named
-object_of number type None = Object number type
-object_of number type (Some length) = Array number type length
+abbrev pub object_of : ℕ → FileVariable → Option ℕ → Named
+object_of number v None = Object number v.type v.bounds
+object_of number v (Some length) = Array number v.type length
 
 -- the file-level variable of a name, where the first of these has a number
 abbrev pub object_named : ℕ → List FileVariable → ℕ → Option Named
 object_named number [] name = None
-object_named number (v ∷ variables) name = found_if (name == v.name) (Some (object_of number v.type v.length)) (object_named (suc number) variables name)
+object_named number (v ∷ variables) name = found_if (name == v.name) (Some (object_of number v v.length)) (object_named (suc number) variables name)
 
 abbrev pub or_else : Option Named → Option Named → Option Named
 or_else (Some this) other = Some this

@@ -29,7 +29,7 @@ use Rattle.region_typing_rules.specs.Verdicts.{Verdict, Passes, passing, needs, 
 use Rattle.region_typing_rules.specs.Scopes.{Scope}
 use Rattle.region_typing_rules.specs.Types.{is_scalar, without_stars, base_type}
 use Rattle.region_typing_rules.specs.Expressions.{Places, Typed, Value, AStruct, ForNothing, ForArray, For, Called, Gives, GivesNothing, asked_of, meets}
-use Rattle.region_typing_rules.specs.Expressions.{Lvalue, OfLocal, OfCell, site_at}
+use Rattle.region_typing_rules.specs.Expressions.{Lvalue, OfLocal, OfCell, OfBounded, site_at}
 use Rattle.region_typing_rules.specs.Expressions.{typed, call_typed, scalar_of, converted, bounds_met, number_of, two_numbers}
 use Rattle.region_typing_rules.specs.Expressions.{without_ptr, operator_along, sum_node, row_of, allocation}
 use Rattle.region_typing_rules.specs.Cells.{is_length}
@@ -50,6 +50,7 @@ both first second = core.Block (core.Then first (core.Then second core.NoMore))
 abbrev pub store : Lvalue → CType → core.Expression → core.Statement
 store (OfLocal local) type value = core.SetLocal local value
 store (OfCell place) type value = core.Store type place value
+store (OfBounded object bounds) type value = core.Store type (core.Direct object 0) value
 
 -- the checks of an update name the whole assignment
 abbrev pub updated_place : core.Place → Site → core.Place
@@ -59,6 +60,7 @@ updated_place (core.Through pointer index offset before) site = core.Through poi
 abbrev pub update : Lvalue → CType → Operator → core.Expression → Site → core.Statement
 update (OfLocal local) type operator value site = core.UpdateLocal (is_char type) local operator value site
 update (OfCell place) type operator value site = core.Update type (updated_place place site) operator value site
+update (OfBounded object bounds) type operator value site = core.Update type (core.Direct object 0) operator value site
 
 -- target-is-place: a variable, an element or a member, and no array (E12). target-is-scalar: E13
 abbrev pub assigned : Typed → Span → (CType → Lvalue → Verdict core.Statement) → Verdict core.Statement
@@ -67,19 +69,36 @@ assigned (Value type zero value ForArray) span next = breaks E12 span
 assigned (Value type zero value (For place)) span next = next type place
 assigned (AStruct number place) span next = breaks E13 span
 
+-- the bounds that are declared for where a value goes, which it is asked for at once; those of a local are asked when what is known is settled
+abbrev pub declared_for : Lvalue → Option Bounds
+declared_for (OfLocal local) = None
+declared_for (OfCell place) = None
+declared_for (OfBounded object bounds) = Some bounds
+
+-- the bounds of a value meet those that are declared for where it goes, and those of the type there
+abbrev pub meets_declared : Knowledge → Option Bounds → Typed → CType → Bool
+meets_declared f None (Value type zero value place) to = zero || meets f value (asked_of type to)
+meets_declared f (Some b) (Value type zero value place) to = zero || (meets f value (asked_of type to) && meets f value (Some b))
+meets_declared f bounds (AStruct number place) to = true
+
 -- right-side-converts: E13. bounds-are-met: E17
 abbrev pub set_to : Knowledge → Typed → Typed → Span → Verdict core.Statement
 set_to f target right span =
-    assigned target span (λ type place. converted right type span (λ value. bounds_met f right type span (Passes (store place type value))))
+    assigned target span (λ type place. converted right type span (λ value.
+    needs (meets_declared f (declared_for place) right type) E17 span (Passes (store place type value))))
 
--- a local pointer becomes a sum of it; a pointer in a cell has no bounds, so it has no sums
-abbrev pub moved : Lvalue → core.Expression → Span → Verdict core.Statement
-moved (OfLocal local) sum span = Passes (core.SetLocal local sum)
-moved (OfCell place) sum span = breaks E18 span
+-- a pointer with bounds becomes a sum of it, which a file-level pointer is asked for its bounds (E17); a pointer in a cell has no bounds, so it
+-- has no sums
+abbrev pub moved : Knowledge → Lvalue → CType → core.Expression → Span → Verdict core.Statement
+moved f (OfLocal local) type sum span = Passes (core.SetLocal local sum)
+moved f (OfCell place) type sum span = breaks E18 span
+moved f (OfBounded object bounds) type sum span =
+    needs (meets f sum (Some bounds)) E17 span (Passes (core.Store type (core.Direct object 0) sum))
 
 abbrev pub updated_as : Scope → Direction → CType → Lvalue → Typed → Typed → Site → Span → Verdict core.Statement
 updated_as g direction (Pointer mode kind target) place (Value type zero pointer old) right site span =
-    number_of right span (λ value. moved place (core.Sum pointer direction value site (sum_node g.locals direction pointer value site)) span)
+    number_of right span (λ value.
+    moved g.flow place (Pointer mode kind target) (core.Sum pointer direction value site (sum_node g.locals direction pointer value site)) span)
 updated_as g direction type place target right site span =
     two_numbers target right span (λ old value. Passes (update place type (operator_along direction) value site))
 
@@ -298,15 +317,9 @@ abbrev pub alone : Called → core.Statement
 alone (Gives type value) = core.Evaluate value
 alone (GivesNothing call) = call
 
--- the bounds of what is returned meet those that are declared for the result, or those of its type
-abbrev pub result_meets : Knowledge → Option Bounds → Typed → CType → Bool
-result_meets f None (Value type zero value place) to = zero || meets f value (asked_of type to)
-result_meets f (Some b) (Value type zero value place) to = zero || (meets f value (asked_of type to) && meets f value (Some b))
-result_meets f bounds (AStruct number place) to = true
-
 abbrev pub returned : Knowledge → Option CType → Option Bounds → Typed → Span → Verdict core.Statement
 returned f None bounds t span = breaks E13 span
-returned f (Some type) bounds t span = converted t type span (λ v. needs (result_meets f bounds t type) E17 span (Passes (core.Return v)))
+returned f (Some type) bounds t span = converted t type span (λ v. needs (meets_declared f bounds t type) E17 span (Passes (core.Return v)))
 
 abbrev pub returned_nothing : Option CType → Span → Verdict core.Statement
 returned_nothing None span = Passes core.ReturnNothing

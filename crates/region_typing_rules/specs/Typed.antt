@@ -26,7 +26,7 @@ use Rattle.ckc_core.specs.Programs.{Initial, Variable, Import}
 use Rattle.ckc_core.specs.Core as core
 use Rattle.ckc_core.specs.Core.{Parted, Function, Expression, Arguments, Place, Statement, Statements}
 use Rattle.ckc_core.specs.declared.program.Direction.{Direction}
-use Rattle.ckc_core.specs.States.{Value, Number, Null, At, Local, State, Shape, shape, has_type, initial_value, object_block}
+use Rattle.ckc_core.specs.States.{Value, Number, Null, At, Local, State, Shape, shape, type_at, has_type, initial_value, object_block}
 use Rattle.ckc_core.specs.Meaning.{bounds_of}
 use Rattle.ckc_core.specs.Steps.{is_char}
 use Rattle.ckc_core.specs.Pointers.{element_size}
@@ -38,13 +38,14 @@ use Rattle.region_typing_rules.specs.Expressions.{bounds_at, row_of, one_element
 use Rattle.region_typing_rules.specs.KnownIsSo.{HasLocals, IsKnown, AreLimited}
 use Rattle.region_typing_rules.specs.Lowerable.{IsRoomy}
 
--- what the parts of a program are typed in: its two sides, its structs, and for each trusted function the bounds of its parameters and those of its
--- result
+-- what the parts of a program are typed in: its two sides, its structs, for each trusted function the bounds of its parameters and those of its
+-- result, and for each file-level variable those that are declared for it
 pub record Frame : Type 0 where
   pub program : Parted
   pub structs : List Structure
   pub bounds : List (List (Option Bounds))
   pub result_bounds : List (Option Bounds)
+  pub object_bounds : List (Option Bounds)
 
 -- ---- values
 
@@ -104,6 +105,25 @@ pub data IsCallee (g : Frame) : Callee → List CType → List (Option Bounds) �
       → IsCallee g (callees.Trusted n) (take f.parameters f.locals) bounds f.result result_bounds
   tainted : {n : ℕ} {i : Import} {site : Site} → slice_get g.program.imports n ≡ Some i → IsNumberResult i.result
       → IsCallee g (callees.Tainted n site) (replicate i.parameters Int) [] i.result None
+
+-- ---- file-level pointers
+
+-- bounds that count from the pointer itself, between constants
+pub record AreConstant (b : Bounds) : Type 0 where
+  pub base : b.base ≡ None
+  pub lo : b.lo.var ≡ None
+  pub hi : b.hi.var ≡ None
+
+-- a file-level pointer with the bounds that are declared for it, to which no other place leads
+pub record IsBoundedObject (g : Frame) (object : ℕ) (mode : Mode) (t : CType) (b : Bounds) : Type 0 where
+  pub variable : Variable
+  pub found : slice_get g.program.objects object ≡ Some variable
+  pub declared : slice_get g.object_bounds object ≡ Some (Some b)
+  pub sealed : variable.is_sealed ≡ true
+  pub pointer : type_at (shape (object_block variable)) 0 ≡ Some (Pointer mode kinds.Array t)
+  pub some : 0 < size_of g.structs t
+  pub limited : AreLimited b
+  pub constant : AreConstant b
 
 -- ---- bounds
 
@@ -251,6 +271,10 @@ mutual
         → HasType g locals here e (Pointer mode kinds.Array t)
     load : {here : Scope} {t : CType} {p : Place} {b : Option PointerBounds} → is_scalar t ≡ true → HasPlace g locals here p t → HasBounds g.structs t b
         → HasType g locals here (core.Load t p b) t
+    -- a file-level pointer with the bounds that are declared for it
+    bounded_object : {here : Scope} {object : ℕ} {mode : Mode} {t : CType} {p : PointerBounds} → IsBoundedObject g object mode t p.bounds
+        → p.size ≡ size_of g.structs t
+        → HasType g locals here (core.Load (Pointer mode kinds.Array t) (core.Direct object 0) (Some p)) (Pointer mode kinds.Array t)
     address_of : {here : Scope} {mode : Mode} {t : CType} {p : Place} {b : Option PointerBounds} → HasPlace g locals here p t
         → HasBounds g.structs (Pointer mode kinds.One t) b → HasType g locals here (core.AddressOf p b) (Pointer mode kinds.One t)
     -- an array of 1 to 8,192 elements
@@ -334,6 +358,10 @@ pub data IsSimple (g : Frame) (locals : List CType) (here : Scope) : Statement �
   set_local : {k : ℕ} {t : CType} {e : Expression} → slice_get locals k ≡ Some t → HasType g locals here e t → IsSimple g locals here (core.SetLocal k e)
   store : {t : CType} {p : Place} {e : Expression} → is_scalar t ≡ true → HasPlace g locals here p t → HasType g locals here e t
       → IsSimple g locals here (core.Store t p e)
+  -- a file-level pointer is asked for the bounds that are declared for it
+  store_bounded : {object : ℕ} {mode : Mode} {t : CType} {b : Bounds} {e : Expression} → IsBoundedObject g object mode t b
+      → HasType g locals here e (Pointer mode kinds.Array t) → IsAsked g.structs here e b
+      → IsSimple g locals here (core.Store (Pointer mode kinds.Array t) (core.Direct object 0) e)
   update_local : {char : Bool} {k : ℕ} {t : CType} {operator : Operator} {e : Expression} {site : Site} → slice_get locals k ≡ Some t
       → is_number t ≡ true → is_char t ≡ char → HasType g locals here e Int → IsSimple g locals here (core.UpdateLocal char k operator e site)
   update : {t : CType} {p : Place} {operator : Operator} {e : Expression} {site : Site} → is_number t ≡ true → HasPlace g locals here p t
@@ -397,7 +425,13 @@ pub record IsTyped (program : Parted) : Type 0 where
   pub structs : List Structure
   pub bounds : List (List (Option Bounds))
   pub result_bounds : List (Option Bounds)
+  pub object_bounds : List (Option Bounds)
   pub objects : AllByRecursion (λ (v : Variable). AllByRecursion (IsInitial structs) v.cells) program.objects
-  pub functions : AllByRecursion (IsFunction (record { program = program; structs = structs; bounds = bounds; result_bounds = result_bounds }))
-      program.functions
+  pub functions : AllByRecursion (IsFunction (record {
+    program = program;
+    structs = structs;
+    bounds = bounds;
+    result_bounds = result_bounds;
+    object_bounds = object_bounds;
+  })) program.functions
   pub main : (f : Function) × (slice_get program.functions program.main ≡ Some f) × (f.parameters ≡ 0) × (f.result ≡ Some Int)

@@ -23,6 +23,7 @@ ghost use Rattle.region_typing_rules.specs.KnowingExamples as knowing;
 ghost use Rattle.region_typing_rules.specs.CallExamples as calls;
 ghost use Rattle.region_typing_rules.specs.KeptExamples as kept;
 ghost use Rattle.region_typing_rules.specs.MemoryExamples as memory;
+ghost use Rattle.region_typing_rules.specs.FileLevelExamples as file_level;
 
 /// Programs and what they become, worked out from the rules.
 pub fn examples()
@@ -78,6 +79,13 @@ pub fn memory()
     ensures bases { memory.bases }
     ensures casts { memory.casts }
     ensures arrays { memory.arrays }
+{}
+
+/// What a file-level pointer is for which bounds are declared.
+pub fn file_level()
+    ensures declared { file_level.declared }
+    ensures names { file_level.names }
+    ensures assigned { file_level.assigned }
 {}
 
 /// Bounds that are declared for a local or a parameter are formed: they are of a pointer to elements that have bytes, their ends speak of `int` locals, their

@@ -1,10 +1,11 @@
 -- What a flow entails of variables that it hasn't, and values of types that they convert to.
-use Rattle.std.proofs.Common.{◌≡◌, ℕ, zero, suc, ◌+◌, ◌<◌, ◌≤◌, pos, Bool, true, false, ◌||◌, Option, Some, None, [], get_or, ◌⊎◌, inl, inr, refl, ap, sym, ◌∙◌, arith}
+use Rattle.std.proofs.Common.{◌≡◌, ℕ, zero, suc, ◌+◌, ◌<◌, ◌≤◌, pos, Bool, true, false, Option, Some, None, [], get_or, ◌⊎◌, inl, inr, refl, ap, sym, ◌∙◌, arith}
 use Rattle.std.specs.Prelude.{nat_lt}
 use Rattle.std.proofs.lemmas.Bool.Decides.{nat_tests}
 use Rattle.ckc_text.specs.declared.place.Span.{Span}
 use Rattle.ckc_text.specs.declared.code.Code.{Code}
 use Rattle.ckc_text.specs.declared.code.Code.TheVariants.{E13, E17}
+use Rattle.bounds_exprs.specs.declared.term.Bounds.{Bounds}
 use Rattle.bounds_exprs.specs.declared.term.Term.{Term}
 use Rattle.subsumption.specs.ClosedTables.{Pairs, Rows, ClosedTable, Contradiction, Least, values_below, rows_of, entry, entails_terms}
 use Rattle.subsumption.specs.TableLaws.{IsTable}
@@ -14,9 +15,10 @@ use Rattle.pointer_modes.specs.Types.{CType}
 use Rattle.ckc_core.specs.Core as core
 use Rattle.region_typing_rules.specs.Verdicts.{Verdict, Passes, passing, needs}
 use Rattle.region_typing_rules.specs.Types.{converts}
-use Rattle.region_typing_rules.specs.Expressions.{Typed, Value, AStruct, converted, bounds_met, meets, asked_of}
+use Rattle.region_typing_rules.specs.Expressions.{Typed, Value, AStruct, converted, bounds_met}
+use Rattle.region_typing_rules.specs.Statements.{meets_declared}
 use Rattle.region_typing_rules.specs.Knowing.{is_below}
-use Rattle.region_typing_scope.specs.Entailing.{is_met_as, fitted}
+use Rattle.region_typing_scope.specs.Entailing.{fitted}
 
 -- ---- variables that a table hasn't
 
@@ -78,9 +80,10 @@ both_needed true false span v = refl
 both_needed false b span v = refl
 
 -- a value that converts, and whose bounds are met
-pub fitted_parts : (f : Knowledge) (t : Typed) (to : CType) (span : Span) → fitted f t to span ≡ passing (converted t to span Passes) (λ v. passing (needs (is_met_as f t to) E17 span (Passes tt)) (λ (u : Unit {0}). Passes v))
-fitted_parts f (Value type null value place) to span = both_needed (converts type null to) (null || meets f value (asked_of type to)) span _
-fitted_parts f (AStruct number place) to span = refl
+pub fitted_parts : (f : Knowledge) (b : Option Bounds) (t : Typed) (to : CType) (span : Span)
+    → fitted f b t to span ≡ passing (converted t to span Passes) (λ v. passing (needs (meets_declared f b t to) E17 span (Passes tt)) (λ (u : Unit {0}). Passes v))
+fitted_parts f b (Value type null value place) to span = both_needed (converts type null to) (meets_declared f b (Value type null value place) to) span _
+fitted_parts f b (AStruct number place) to span = refl
 
 fitting : {A B : Type 0} (a b : Bool) (span : Span) (v : A) (next : A → Verdict B) → needs a E13 span (needs b E17 span (next v)) ≡ passing (needs a E13 span (needs b E17 span (Passes v))) next
 fitting true true span v next = refl
@@ -88,7 +91,13 @@ fitting true false span v next = refl
 fitting false b span v next = refl
 
 -- a value that fits, and what comes behind it
+pub fits_then : {A : Type 0} (f : Knowledge) (b : Option Bounds) (t : Typed) (to : CType) (span : Span) (next : core.Expression → Verdict A)
+    → converted t to span (λ v. needs (meets_declared f b t to) E17 span (next v)) ≡ passing (fitted f b t to span) next
+fits_then f b (Value type null value place) to span next = fitting (converts type null to) (meets_declared f b (Value type null value place) to) span _ next
+fits_then f b (AStruct number place) to span next = refl
+
+-- the same where no bounds are declared
 pub fitted_then : {A : Type 0} (f : Knowledge) (t : Typed) (to : CType) (span : Span) (next : core.Expression → Verdict A)
-    → converted t to span (λ v. bounds_met f t to span (next v)) ≡ passing (fitted f t to span) next
-fitted_then f (Value type null value place) to span next = fitting (converts type null to) (null || meets f value (asked_of type to)) span _ next
+    → converted t to span (λ v. bounds_met f t to span (next v)) ≡ passing (fitted f None t to span) next
+fitted_then f (Value type null value place) to span next = fits_then f None (Value type null value place) to span next
 fitted_then f (AStruct number place) to span next = refl

@@ -38,10 +38,10 @@ pub object_found : (name : ℕ) (n : ℕ) (vs : List code.Variable.Variable) →
 object_found name n [] = refl
 object_found name n (v ∷ vs) = by (name == v.name) (place_of (λ w. name == w.name) vs) (object_found name (suc n) vs)
   where
-    by : (b : Bool) (o : Option ℕ) → object_named (suc n) (map variable vs) name ≡ object_at (suc n) vs o → found_if b (Some (object_of n (ctype v.ctype) v.length)) (object_named (suc n) (map variable vs) name) ≡ object_at n (v ∷ vs) (cond b (Some 0) (option_map suc o))
-    by true o rest = let e : n ≡ n + 0 = omega arith in ap (λ k. Some (object_of k (ctype v.ctype) v.length)) e
+    by : (b : Bool) (o : Option ℕ) → object_named (suc n) (map variable vs) name ≡ object_at (suc n) vs o → found_if b (Some (object_of n (variable v) v.length)) (object_named (suc n) (map variable vs) name) ≡ object_at n (v ∷ vs) (cond b (Some 0) (option_map suc o))
+    by true o rest = let e : n ≡ n + 0 = omega arith in ap (λ k. Some (object_of k (variable v) v.length)) e
     by false None rest = rest
-    by false (Some k) rest = let e : suc n + k ≡ n + suc k = omega arith in rest ∙ ap (λ j. option_map (λ w. object_of j (ctype w.ctype) w.length) (slice_get vs k)) e
+    by false (Some k) rest = let e : suc n + k ≡ n + suc k = omega arith in rest ∙ ap (λ j. option_map (λ w. object_of j (variable w) w.length) (slice_get vs k)) e
 
 pub member_found : (name : ℕ) (n : ℕ) (names : List ℕ) (ms : List code_member.Member) → member_from n names (map member ms) name ≡ member_at n ms (place_of (λ other. name == other) names)
 member_found name n [] ms = refl
@@ -75,10 +75,10 @@ read_at p xs slice k x found same is =
 pub none_at : {X : Type 0} (p : X → Bool) (xs slice : List X) → position p slice ≡ None → slice ≡ xs → place_of p xs ≡ None
 none_at p xs slice found same = sym (place_found p xs) ∙ ap (position p) (sym same) ∙ found
 
-pub object_there : (name : ℕ) (vs : List code.Variable.Variable) (k : ℕ) (v : code.Variable.Variable) → place_of (λ w. name == w.name) vs ≡ Some k → slice_get vs k ≡ Some v → Some (object_of k (ctype v.ctype) v.length) ≡ object_named 0 (map variable vs) name
+pub object_there : (name : ℕ) (vs : List code.Variable.Variable) (k : ℕ) (v : code.Variable.Variable) → place_of (λ w. name == w.name) vs ≡ Some k → slice_get vs k ≡ Some v → Some (object_of k (variable v) v.length) ≡ object_named 0 (map variable vs) name
 object_there name vs k v place at =
     let e : 0 + k ≡ k = omega arith in
-    sym (object_found name 0 vs ∙ ap (object_at 0 vs) place ∙ ap (option_map (λ w. object_of (0 + k) (ctype w.ctype) w.length)) at ∙ ap (λ j. Some (object_of j (ctype v.ctype) v.length)) e)
+    sym (object_found name 0 vs ∙ ap (object_at 0 vs) place ∙ ap (option_map (λ w. object_of (0 + k) (variable w) w.length)) at ∙ ap (λ j. Some (object_of j (variable v) v.length)) e)
 
 pub member_there : (name : ℕ) (names : List ℕ) (ms : List code_member.Member) (k : ℕ) (m : code_member.Member) → place_of (λ other. name == other) names ≡ Some k → slice_get ms k ≡ Some m → member_from 0 names (map member ms) name ≡ Some (k, ctype m.ctype)
 member_there name names ms k m place at =

@@ -20,6 +20,15 @@ pub record Grows (old new : code.Scope.Scope) : Type 0 where
   pub breaks : Option Knowledge
   pub continues : Option Knowledge
   pub file : scope new
-      ≡ record (scope old) { locals = types; arrays = arrays; visible = names; in_loop = loop; outside = outside; flow = flow; breaks = breaks; continues = continues }
+      ≡ record (scope old) {
+        locals = types;
+        arrays = arrays;
+        visible = names;
+        in_loop = loop;
+        outside = outside;
+        flow = flow;
+        breaks = breaks;
+        continues = continues;
+      }
   pub count : length (scope old).locals ≤ length types
   pub size : flow.vars ≡ old.flow.vars

@@ -6,12 +6,12 @@ use Rattle.pointer_modes.specs.Types.{CType, ctype}
 use Rattle.region_typing_rules.specs.Scopes.{Named, Signature, object_of}
 use Rattle.region_typing_scope.specs.declared.scope as code
 use Rattle.region_typing_scope.specs.declared.signature.Signature as code_signature
-use Rattle.region_typing_scope.specs.Views.{signature}
+use Rattle.region_typing_scope.specs.Views.{signature, variable}
 
 -- what stands at a place that is found, where the first has a number
 abbrev pub object_at : ℕ → List code.Variable.Variable → Option ℕ → Option Named
 object_at n vs None = None
-object_at n vs (Some k) = option_map (λ v. object_of (n + k) (ctype v.ctype) v.length) (slice_get vs k)
+object_at n vs (Some k) = option_map (λ v. object_of (n + k) (variable v) v.length) (slice_get vs k)
 
 abbrev pub member_at : ℕ → List code_member.Member → Option ℕ → Option (ℕ × CType)
 member_at n ms None = None

@@ -9,7 +9,8 @@ use Rattle.ckc_core.specs.Core.{expression, place}
 use Rattle.region_typing_rules.specs.Verdicts.{Verdict, passing}
 use Rattle.region_typing_rules.specs.Scopes.{Scope}
 use Rattle.region_typing_rules.specs.Types.{type_named}
-use Rattle.region_typing_rules.specs.Expressions.{constant_typed, number, Lvalue, OfLocal, OfCell, Typed, Value, AStruct, ForNothing, ForArray, For, local_standing}
+use Rattle.region_typing_rules.specs.Expressions.{constant_typed, number, Lvalue, OfLocal, OfCell, OfBounded, local_standing}
+use Rattle.region_typing_rules.specs.Expressions.{Typed, Value, AStruct, ForNothing, ForArray, For}
 use Rattle.region_typing_scope.specs.declared.typed.Base as code_base
 use Rattle.region_typing_scope.specs.declared.typed.Base.TheVariants as bases
 use Rattle.region_typing_scope.specs.declared.typed.StructPlace as code_place
@@ -33,6 +34,8 @@ abbrev pub typed : code.Typed → Typed
 typed (forms.Value type zero value) = Value (ctype type) zero (expression value.value) ForNothing
 typed (forms.Local type local is_array bounds) = Value (ctype type) false (core.Local local bounds) (local_standing is_array local)
 typed (forms.Cell type at bounds) = Value (ctype type) false (core.Load (ctype type) (place at) bounds) (For (OfCell (place at)))
+typed (forms.Bounded type object declared bounds) =
+    Value (ctype type) false (core.Load (ctype type) (core.Direct object 0) bounds) (For (OfBounded object declared))
 typed (forms.Array type object bounds) = Value (ctype type) false (core.AddressOf (core.Direct object 0) bounds) ForArray
 typed (forms.Struct struct at) = AStruct struct (struct_place at)
 

@@ -3,13 +3,18 @@ use Rattle.std.specs.Prelude.{ℕ, map, reverse, Vec}
 use Rattle.std.proofs.Common.{Global}
 use Rattle.std.specs.Option.{option_map}
 use Rattle.pointer_modes.specs.Types.{ctype}
-use Rattle.region_typing_rules.specs.Scopes.{FileVariable, Scope}
+use Rattle.region_typing_rules.specs.Scopes.{FileVariable, Named, Scope, object_of}
 use Rattle.region_typing_scope.specs.declared.scope as code
+use Rattle.region_typing_scope.specs.declared.lookups as lookups_code
 pub use Rattle.region_typing_scope.specs.Signatures.{signature}
 pub use Rattle.region_typing_scope.specs.Visibles.{visible}
 
 abbrev pub variable : code.Variable.Variable → FileVariable
-variable v = record { name = v.name; type = ctype v.ctype; length = v.length }
+variable v = record { name = v.name; type = ctype v.ctype; length = v.length; bounds = v.bounds }
+
+-- what the name of a file-level variable stands for
+abbrev pub known_object : lookups_code.KnownObject.KnownObject → Named
+known_object k = object_of k.number (variable k.variable.now) k.variable.now.length
 
 abbrev pub scope : code.Scope.Scope → Scope
 scope s = record {

@@ -79,7 +79,7 @@ pub fn bounds_in_force(flow: &Flow, local: u32) -> Option<Bounds>
     }
 }
 
-/// The bounds in force of a local pointer to such elements, at its node.
+/// The bounds in force of a pointer to such elements, at its node.
 pub fn in_force(
     structs: &Structs,
     kind: Kind,
@@ -196,6 +196,20 @@ fn noted_at(context: &Context, structs: &Structs, t: Typed, site: Site) -> Resul
             Ok(Typed::Cell {
                 ctype,
                 place,
+                bounds,
+            })
+        }
+        Typed::Bounded {
+            ctype,
+            object,
+            declared,
+            bounds,
+        } => {
+            let bounds = noted_as(bounds_at(structs, &ctype, site), bounds);
+            Ok(Typed::Bounded {
+                ctype,
+                object,
+                declared,
                 bounds,
             })
         }

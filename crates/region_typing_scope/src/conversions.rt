@@ -11,12 +11,13 @@ ghost use Rattle.region_typing_scope.specs.OnHeap.{typed};
 ghost use Rattle.region_typing_scope.specs.Views.{scope as scope_of};
 
 use crate::context::Context;
-use crate::entailment::is_met;
+use crate::entailment::meets_declared;
 use crate::operands::{Operand, value_of};
 use crate::refusals::{CheckError, needs};
 use crate::scope::Scope;
 use crate::typed::Typed;
 use crate::types::{converts, is_number};
+use bounds_exprs::term::Bounds;
 use ckc_core::program::Expr;
 use ckc_text::code::Code;
 use ckc_text::place::Span;
@@ -59,17 +60,19 @@ pub fn converted(
     Ok(in_type(to, null, value))
 }
 
-/// A value as one of a type that it converts to, where its bounds meet those that it is asked for.
+/// A value as one of a type that it converts to, where its bounds meet those of the type, and those that are declared for
+/// where it goes, if there are any.
 pub fn fitted(
     context: &Context,
     scope: &Scope,
+    declared: &Option<Bounds>,
     t: Box<Typed>,
     to: &CType,
     span: Span,
 ) -> Result<Expr, CheckError>
-    ensures { Answers expression (fitted_to (scope_of scope.now).flow (typed t) (ctype_of to.now) span) result }
+    ensures { Answers expression (fitted_to (scope_of scope.now).flow declared.now (typed t) (ctype_of to.now) span) result }
 {
-    let met = is_met(&scope.flow, &t, to)?;
+    let met = meets_declared(&scope.flow, declared, &t, to)?;
     let value = converted(context, t, to, span)?;
     needs(met, Code::E17, span)?;
     Ok(value)

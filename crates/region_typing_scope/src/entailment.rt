@@ -1,12 +1,14 @@
 // Whether what is known where the walk stands entails the bounds that a pointer is asked for.
 
-ghost use Rattle.std.specs.Prelude.{◌≡◌, IfOk};
+ghost use Rattle.std.specs.Prelude.{◌≡◌, Some, IfOk};
 ghost use Rattle.pointer_modes.specs.Types.{ctype as ctype_of};
+ghost use Rattle.ckc_core.specs.Core.{expression};
 ghost use Rattle.subsumption.specs.ClosedTables.{entails_terms};
 ghost use Rattle.subsumption.specs.ShownTables.{is_yes as says_yes};
 ghost use Rattle.bounds_flow.specs.Settling.{ends_find, bounds_find};
-ghost use Rattle.region_typing_rules.specs.Expressions.{is_met as is_met_by, asked_as as asked_of_kinds, asked_of as asked_of_types};
-ghost use Rattle.region_typing_scope.specs.Entailing.{asked_for as asked_for_in, has_bounds as has_bounds_as, is_met_as, own_of, based_of};
+ghost use Rattle.region_typing_rules.specs.Expressions.{is_met as is_met_by, asked_as as asked_of_kinds, asked_of as asked_of_types, meets as meets_in};
+ghost use Rattle.region_typing_rules.specs.Statements.{meets_declared as meets_declared_in};
+ghost use Rattle.region_typing_scope.specs.Entailing.{asked_for as asked_for_in, has_bounds as has_bounds_as, is_met_as, is_unasked as is_unasked_in, own_of, based_of};
 ghost use Rattle.region_typing_scope.specs.Typed.{typed};
 
 use crate::bounds::row_of;
@@ -14,6 +16,7 @@ use crate::typed::Typed;
 use bounds_exprs::expression::constant;
 use bounds_exprs::term::{Bounds, Term};
 use bounds_flow::flow::Flow;
+use ckc_core::program::Expr;
 use ckc_text::fault::NoMemory;
 use pointer_modes::ctype::{CType, Kind};
 use region_typing_flow::conditions::is_null;
@@ -63,9 +66,10 @@ fn asked_for(t: &Typed, to: &CType) -> Option<Bounds>
                 asked_of(ctype, to)
             }
         }
-        Typed::Local { ctype, .. } | Typed::Cell { ctype, .. } | Typed::Array { ctype, .. } => {
-            asked_of(ctype, to)
-        }
+        Typed::Local { ctype, .. }
+        | Typed::Cell { ctype, .. }
+        | Typed::Bounded { ctype, .. }
+        | Typed::Array { ctype, .. } => asked_of(ctype, to),
         Typed::Struct { .. } => None,
     }
 }
@@ -76,12 +80,13 @@ fn own(t: &Typed) -> Option<Bounds>
 {
     match t {
         Typed::Value { value, .. } => own_bounds(value),
-        Typed::Local { bounds, .. } | Typed::Cell { bounds, .. } | Typed::Array { bounds, .. } => {
-            match bounds {
-                None => None,
-                Some(noted) => Some(noted.bounds),
-            }
-        }
+        Typed::Local { bounds, .. }
+        | Typed::Cell { bounds, .. }
+        | Typed::Bounded { bounds, .. }
+        | Typed::Array { bounds, .. } => match bounds {
+            None => None,
+            Some(noted) => Some(noted.bounds),
+        },
         Typed::Struct { .. } => None,
     }
 }
@@ -93,7 +98,8 @@ fn based(t: &Typed) -> Option<Bounds>
     match t {
         Typed::Value { value, .. } => based_bounds(value),
         Typed::Local { local, bounds, .. } => local_bounds(*local, *bounds),
-        Typed::Cell { .. } | Typed::Array { .. } | Typed::Struct { .. } => None,
+        Typed::Cell { .. } | Typed::Bounded { .. } | Typed::Array { .. } | Typed::Struct { .. } =>
+            None,
     }
 }
 
@@ -157,4 +163,50 @@ pub fn is_met(flow: &Flow, t: &Typed, to: &CType) -> Result<bool, NoMemory>
         None => Ok(true),
         Some(asked) => has_bounds(flow, t, &asked),
     }
+}
+
+/// Whether what is given is asked for no bounds: null isn't, nor is a struct.
+pub fn is_unasked(t: &Typed) -> bool
+    ensures { result ≡ is_unasked_in (typed t.now) }
+{
+    match t {
+        Typed::Value { zero, value, .. } => *zero || is_null(value),
+        Typed::Local { .. } | Typed::Cell { .. } | Typed::Bounded { .. } | Typed::Array { .. } =>
+            false,
+        Typed::Struct { .. } => true,
+    }
+}
+
+/// Whether the bounds of an expression as a value of a type meet those of the type, and those that are declared for where it
+/// goes, if there are any.
+pub fn meets_declared(
+    flow: &Flow,
+    declared: &Option<Bounds>,
+    t: &Typed,
+    to: &CType,
+) -> Result<bool, NoMemory>
+    ensures { IfOk result (λ met. met ≡ meets_declared_in flow.now declared.now (typed t.now) (ctype_of to.now)) }
+{
+    if !is_met(flow, t, to)? {
+        return Ok(false);
+    }
+    match declared {
+        None => Ok(true),
+        Some(asked) => {
+            if is_unasked(t) {
+                return Ok(true);
+            }
+            has_bounds(flow, t, asked)
+        }
+    }
+}
+
+/// Whether the bounds of a value, without a base or with one, are entailed to lie around others; null is asked for none.
+pub fn value_meets(flow: &Flow, value: &Expr, asked: &Bounds) -> Result<bool, NoMemory>
+    ensures { IfOk result (λ met. met ≡ meets_in flow.now (expression value.now) (Some asked.now)) }
+{
+    if is_null(value) || bounds_meet(flow, asked, &own_bounds(value))? {
+        return Ok(true);
+    }
+    bounds_meet(flow, asked, &based_bounds(value))
 }

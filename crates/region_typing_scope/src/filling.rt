@@ -99,15 +99,16 @@ impl Scope {
         self.structs.give(number, members);
     }
 
-    /// A file-level variable more; an array has so many elements of the type.
+    /// A file-level variable more; an array has so many elements of the type, and a pointer may have bounds.
     pub fn add_variable(
         &mut self,
         name: usize,
         ctype: CType,
         elements: Option<u32>,
+        bounds: Option<Bounds>,
     ) -> Result<(), NoMemory>
         requires { length self.old.variables.items < 4096 }
-        ensures { OnOk result (scope_of self.new ≡ with_variable name (ctype_of ctype) elements (scope_of self.old)) }
+        ensures { OnOk result (scope_of self.new ≡ with_variable name (ctype_of ctype) elements bounds (scope_of self.old)) }
     {
         self.variables.reserve(1)?;
         self.variable_places.note(name, self.variables.len())?;
@@ -115,6 +116,7 @@ impl Scope {
             name,
             ctype,
             length: elements,
+            bounds,
         });
         Ok(())
     }

@@ -3,12 +3,12 @@
 ghost use Rattle.std.specs.Prelude.{◌≡◌, ◌≤◌, ◌==◌, true, position, length, map};
 ghost use Rattle.std.specs.Option.{option_map};
 ghost use Rattle.pointer_modes.specs.Types.{ctype as ctype_of};
-ghost use Rattle.region_typing_rules.specs.Scopes.{Local, object_of, struct_named, members_named as names_of_members, local_named, object_named, function_named};
-ghost use Rattle.region_typing_scope.specs.Views.{scope as scope_of, signature};
+ghost use Rattle.region_typing_rules.specs.Scopes.{Local, struct_named, members_named as names_of_members, local_named, object_named, function_named};
+ghost use Rattle.region_typing_scope.specs.Views.{scope as scope_of, known_object, signature};
 ghost use Rattle.region_typing_scope.specs.Tables.{side_before as side_before_of};
 ghost use Rattle.region_typing_rules.specs.Expressions.{side_number as side_number_of, is_array as is_array_of};
 
-use crate::scope::Scope;
+use crate::scope::{Scope, Variable};
 use crate::signature::Signature;
 use crate::visible::{innermost, is_array};
 use pointer_modes::ctype::CType;
@@ -20,12 +20,11 @@ pub struct Known<'a> {
     pub ctype: &'a CType,
 }
 
-/// A file-level variable that a name stands for: its number, its type, and how many elements of it an array has.
+/// A file-level variable that a name stands for, with its number.
 #[derive(Clone, Copy)]
 pub struct KnownObject<'a> {
     pub number: u32,
-    pub ctype: &'a CType,
-    pub length: Option<u32>,
+    pub variable: &'a Variable,
 }
 
 impl Scope {
@@ -86,14 +85,13 @@ impl Scope {
 
     /// The file-level variable of a name.
     pub fn object(&self, name: usize) -> Option<KnownObject<'_>>
-        ensures { option_map (λ k. object_of k.number (ctype_of k.ctype.now) k.length) result ≡ object_named 0 (scope_of self.now).variables name }
+        ensures { option_map known_object result ≡ object_named 0 (scope_of self.now).variables name }
     {
         let number = self.variable_place(name)?;
         let variable = &self.variables[number];
         Some(KnownObject {
             number: number as u32,
-            ctype: &variable.ctype,
-            length: variable.length,
+            variable,
         })
     }
 

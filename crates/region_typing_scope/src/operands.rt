@@ -51,6 +51,21 @@ pub fn value_of(context: &Context, t: Box<Typed>, span: Span) -> Result<Operand,
             };
             read(context, copy, value)
         }
+        Typed::Bounded {
+            ctype,
+            object,
+            bounds,
+            ..
+        } => {
+            let copy = copied(context, &ctype)?;
+            let cell = CellPlace::Direct { object, offset: 0 };
+            let value = Expr::Load {
+                ctype,
+                cell,
+                bounds,
+            };
+            read(context, copy, value)
+        }
         Typed::Array {
             ctype,
             object,

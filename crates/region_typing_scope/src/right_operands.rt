@@ -74,7 +74,8 @@ fn value_told(
             };
             told(locals, &value, truth, flow)
         }
-        Typed::Cell { .. } | Typed::Array { .. } | Typed::Struct { .. } => Ok(()),
+        Typed::Cell { .. } | Typed::Bounded { .. } | Typed::Array { .. } | Typed::Struct { .. } =>
+            Ok(()),
     }
 }
 

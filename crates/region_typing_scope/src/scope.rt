@@ -17,12 +17,13 @@ use ckc_names_rules::given::Given;
 use pointer_modes::ctype::CType;
 use pointer_modes::structs::Structs;
 
-/// A file-level variable; an array has so many elements of the type.
+/// A file-level variable; an array has so many elements of the type, and a pointer may have bounds that are declared for it.
 #[derive(Drop)]
 pub struct Variable {
     pub name: usize,
     pub ctype: CType,
     pub length: Option<u32>,
+    pub bounds: Option<Bounds>,
 }
 
 /// Where a block begins: how many names are visible and how many locals there are, and whether a loop is around.

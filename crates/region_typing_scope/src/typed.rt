@@ -3,13 +3,14 @@
 ghost use Rattle.std.specs.Prelude.{◌≡◌, IfOk, false};
 ghost use Rattle.pointer_modes.specs.Types.{ctype as ctype_of};
 ghost use Rattle.ckc_core.specs.Core.{expression, place as place_of};
-ghost use Rattle.region_typing_rules.specs.Expressions.{Value, ForNothing, at_place, local_typed};
+ghost use Rattle.region_typing_rules.specs.Expressions.{Value, ForNothing, at_place, local_typed, object_typed, pointer_typed};
 ghost use Rattle.region_typing_rules.specs.Items.{is_zero as zero_typed};
 ghost use Rattle.region_typing_scope.specs.Typed.{typed, base_place};
 ghost use Rattle.region_typing_scope.specs.OnHeap.{typed as typed_on_heap};
 
 use crate::bounds::{bounds_in_force, in_force};
 use crate::context::Context;
+use bounds_exprs::term::Bounds;
 use bounds_flow::flow::Flow;
 use ckc_core::program::{CellPlace, Expr, Index, PointerBounds, Site};
 use ckc_text::fault::NoMemory;
@@ -61,6 +62,13 @@ pub enum Typed {
         place: CellPlace,
         bounds: Option<PointerBounds>,
     },
+    /// What a file-level pointer holds for which these bounds are declared, with those at its node.
+    Bounded {
+        ctype: CType,
+        object: u32,
+        declared: Bounds,
+        bounds: Option<PointerBounds>,
+    },
     /// The name of a file-level array: a pointer to its first element, with all of them.
     Array {
         ctype: CType,
@@ -92,9 +100,11 @@ pub fn is_zero(t: &Typed) -> bool
 {
     match t {
         Typed::Value { zero, .. } => *zero,
-        Typed::Local { .. } | Typed::Cell { .. } | Typed::Array { .. } | Typed::Struct { .. } => {
-            false
-        }
+        Typed::Local { .. }
+        | Typed::Cell { .. }
+        | Typed::Bounded { .. }
+        | Typed::Array { .. }
+        | Typed::Struct { .. } => false,
     }
 }
 
@@ -137,6 +147,40 @@ pub fn first_cell(base: Base) -> CellPlace
             offset: 0,
             site,
         },
+    }
+}
+
+// What a file-level pointer holds, with the bounds that are declared for one to an array at its node.
+fn at_pointer(structs: &Structs, ctype: CType, object: u32, declared: Bounds, site: Site) -> Typed
+    ensures { typed result ≡ pointer_typed structs.now object (ctype_of ctype) declared site }
+{
+    match ctype {
+        CType::Pointer(mode, kind, target) => {
+            let bounds = in_force(structs, kind, &target, Some(declared), site);
+            Typed::Bounded {
+                ctype: CType::Pointer(mode, kind, target),
+                object,
+                declared,
+                bounds,
+            }
+        }
+        ctype => at_base(ctype, Base::Object(object)),
+    }
+}
+
+/// What a file-level variable holds that is no array, with the bounds that are declared for a pointer at its node.
+pub fn at_object(
+    structs: &Structs,
+    ctype: CType,
+    object: u32,
+    declared: Option<Bounds>,
+    site: Site,
+) -> Typed
+    ensures { typed result ≡ object_typed structs.now object (ctype_of ctype) declared site }
+{
+    match declared {
+        None => at_base(ctype, Base::Object(object)),
+        Some(declared) => at_pointer(structs, ctype, object, declared, site),
     }
 }
 

@@ -10,4 +10,3 @@ pub mod Settling
 pub mod Ways
 pub mod MarkedLocals
 pub mod KeptLocals
-pub mod ReturnedBounds

@@ -15,7 +15,7 @@ use Rattle.region_typing_rules.specs.Expressions.{Places, typed, converted, call
 use Rattle.region_typing_rules.specs.Readings.{told}
 use Rattle.region_typing_rules.specs.Knowing.{knowing, when, with_others, at_loop}
 use Rattle.region_typing_rules.specs.Statements.{both, alone, statement, behind_block, meeting}
-use Rattle.region_typing_rules.specs.Statements.{condition, optional_condition, optional_step, first_part, result_meets, returned}
+use Rattle.region_typing_rules.specs.Statements.{condition, optional_condition, optional_step, first_part, meets_declared, returned}
 use Rattle.region_typing_rules.specs.Scopes.{Scope}
 use Rattle.region_typing_statements.specs.declared.statements.Branch as code
 use Rattle.region_typing_scope.specs.OnHeap as on_heap
@@ -109,7 +109,7 @@ refused_value at g e span = passing (typed at g e) (λ t. breaks E13 span)
 
 abbrev pub converted_return : Places → Scope → CType → Expression → Span → Verdict core.Statement
 converted_return at g type e span =
-    passing (typed at g e) (λ t. converted t type span (λ v. needs (result_meets g.flow g.result_bounds t type) E17 span (Passes (core.Return v))))
+    passing (typed at g e) (λ t. converted t type span (λ v. needs (meets_declared g.flow g.result_bounds t type) E17 span (Passes (core.Return v))))
 
 abbrev pub value_returned : Places → Scope → Option CType → Expression → Span → Verdict core.Statement
 value_returned at g result e span = passing (typed at g e) (λ t. returned g.flow result g.result_bounds t span)

@@ -39,7 +39,7 @@ fn initial_value(
     ensures { Answers statement_of (initial_value_as (place_at context.now) (scope_of scope.now) (expression_tree value.now) (ctype_of t.now) local span) result }
 {
     let given = typed(context, scope, value)?;
-    let value = fitted(context, scope, given, t, span)?;
+    let value = fitted(context, scope, &None, given, t, span)?;
     Ok(context.boxed(Stmt::SetLocal { local, value })?)
 }
 

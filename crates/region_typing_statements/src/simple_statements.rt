@@ -10,12 +10,11 @@ ghost use Rattle.ckc_text.specs.declared.code.Code.TheVariants.{E30};
 ghost use Rattle.ckc_core.specs.Core.{Break, Continue};
 ghost use Rattle.region_typing_rules.specs.Verdicts.{Passes, passing, needs as needs_in};
 ghost use Rattle.region_typing_rules.specs.Knowing.{cut, broken, continued};
-ghost use Rattle.region_typing_rules.specs.Statements.{return as return_of, returned_nothing as nothing_as, result_meets as result_meets_in, alone as alone_of, assigning};
+ghost use Rattle.region_typing_rules.specs.Statements.{return as return_of, returned_nothing as nothing_as, alone as alone_of, assigning};
 ghost use Rattle.region_typing_scope.specs.Answering.{Answers};
 ghost use Rattle.region_typing_scope.specs.Views.{scope as scope_of};
 ghost use Rattle.region_typing_expressions.specs.Calls.{called as called_as};
 ghost use Rattle.region_typing_scope.specs.OnHeap.{statement};
-ghost use Rattle.region_typing_scope.specs.Typed.{typed as inline_typed};
 ghost use Rattle.region_typing_statements.specs.Parts.{call_statement, value_returned as value_returned_in, converted_return, refused_value as refused_value_in};
 ghost use Rattle.region_typing_statements.specs.Walks.{Walks};
 
@@ -26,16 +25,13 @@ use ckc_text::place::Span;
 use ckc_tree::expr::Expr;
 use ckc_tree::stmt::Assignment;
 use pointer_modes::ctype::CType;
-use region_typing_expressions::argument_bounds::is_unasked;
 use region_typing_expressions::assignments::assignment;
 use region_typing_expressions::calls::Called;
 use region_typing_expressions::expressions::{call_typed, typed};
 use region_typing_scope::context::Context;
-use region_typing_scope::conversions::converted;
-use region_typing_scope::entailment::{has_bounds, is_met};
+use region_typing_scope::conversions::fitted;
 use region_typing_scope::refusals::{CheckError, needs, refusal};
 use region_typing_scope::scope::Scope;
-use region_typing_scope::typed::Typed;
 
 // A call whose result is left.
 fn alone(context: &Context, call: Called) -> Result<Box<Stmt>, NoMemory>
@@ -85,24 +81,6 @@ fn refused_value(
     Err(refusal(Code::E13, span))
 }
 
-// Whether the bounds of what is returned meet those of its type, and those that are declared for the result.
-fn result_meets(scope: &Scope, t: &Typed, to: &CType) -> Result<bool, NoMemory>
-    ensures { IfOk result (λ met. met ≡ result_meets_in (scope_of scope.now).flow (scope_of scope.now).result_bounds (inline_typed t.now) (ctype_of to.now)) }
-{
-    if !is_met(&scope.flow, t, to)? {
-        return Ok(false);
-    }
-    match &scope.result_bounds {
-        None => Ok(true),
-        Some(asked) => {
-            if is_unasked(t) {
-                return Ok(true);
-            }
-            has_bounds(&scope.flow, t, asked)
-        }
-    }
-}
-
 // A return of a value that converts, and whose bounds are met.
 fn return_value(
     context: &Context,
@@ -114,9 +92,7 @@ fn return_value(
     ensures { Answers statement (converted_return (place_at context.now) (scope_of scope.now) (ctype_of t.now) (expression_tree written.now) span) result }
 {
     let given = typed(context, scope, written)?;
-    let met = result_meets(scope, &given, t)?;
-    let value = converted(context, given, t, span)?;
-    needs(met, Code::E17, span)?;
+    let value = fitted(context, scope, &scope.result_bounds, given, t, span)?;
     Ok(context.boxed(Stmt::Return(value))?)
 }
 

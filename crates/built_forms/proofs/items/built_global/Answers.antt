@@ -8,4 +8,4 @@ pub returns : goal.returns
 returns c =
     behind _ _ _ (ap not c.if-written.false)
     (behind _ _ _ (sym c.built_type.ensures ∙ c.if-not-built_type.false)
-    (seen built.built_variable declarator c.as_slice.result.now c.args.written.now.declarators.items c.built_variables.result c.built_variables.ensures c.as_slice.ensures.value))
+    (seen built.built_declarator declarator c.as_slice.result.now c.args.written.now.declarators.items c.built_declarators.result c.built_declarators.ensures c.as_slice.ensures.value))

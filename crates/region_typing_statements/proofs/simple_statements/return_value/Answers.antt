@@ -1,13 +1,10 @@
 use Rattle.std.proofs.Common.{sym, ap}
 use Rattle.pointer_modes.specs.Types.{ctype}
-use Rattle.ckc_text.specs.declared.code.Code.TheVariants.{E17}
 use Rattle.ckc_core.specs.Core as core
-use Rattle.region_typing_rules.specs.Verdicts.{Passes, needs}
-use Rattle.region_typing_rules.specs.Statements.{result_meets}
+use Rattle.region_typing_rules.specs.Verdicts.{Passes}
 use Rattle.region_typing_scope.specs.OnHeap.{typed}
 use Rattle.region_typing_scope.proofs.Going.{goes_on, refused}
-use Rattle.region_typing_scope.proofs.Entailing.{converted_then}
-use Rattle.region_typing_statements.proofs.Testing.{holds, fails}
+use Rattle.region_typing_scope.proofs.Entailing.{fits_then}
 use Rattle.region_typing_statements.proofs.simple_statements.return_value.Goals as goal
 
 pub returns-in_err-given : goal.returns-in_err-given
@@ -16,23 +13,11 @@ returns-in_err-given c = refused _ c.from_residual.result c.from_residual.ensure
 pub returns-in_err-value : goal.returns-in_err-value
 returns-in_err-value c =
     let g = c.args.scope.now in
-    let t = typed c.in_ok-given.given in
-    let met = result_meets g.flow g.result_bounds t (ctype c.args.t.now) in
-    goes_on _ c.in_ok-given.ensures (rw (converted_then t (ctype c.args.t.now) c.args.span (λ v. needs met E17 c.args.span (Passes (core.Return v))))
+    goes_on _ c.in_ok-given.ensures (rw (fits_then g.flow g.result_bounds (typed c.in_ok-given.given) (ctype c.args.t.now) c.args.span (λ v. Passes (core.Return v)))
     (refused _ c.from_residual-in_err-value.result c.from_residual-in_err-value.ensures.1 c.in_err-value.ensures))
-
-pub returns-in_err-needs : goal.returns-in_err-needs
-returns-in_err-needs c =
-    let g = c.args.scope.now in
-    let t = typed c.in_ok-given.given in
-    let met = result_meets g.flow g.result_bounds t (ctype c.args.t.now) in
-    goes_on _ c.in_ok-given.ensures (rw (converted_then t (ctype c.args.t.now) c.args.span (λ v. needs met E17 c.args.span (Passes (core.Return v))))
-    (goes_on _ c.in_ok-value.ensures (fails _ _ _ _ _ c.from_residual-in_err-needs.result (rw c.deref.ensures at c.in_ok-met.ensures) c.from_residual-in_err-needs.ensures.1 c.in_err-needs.ensures)))
 
 pub returns : goal.returns
 returns c =
     let g = c.args.scope.now in
-    let t = typed c.in_ok-given.given in
-    let met = result_meets g.flow g.result_bounds t (ctype c.args.t.now) in
-    goes_on _ c.in_ok-given.ensures (rw (converted_then t (ctype c.args.t.now) c.args.span (λ v. needs met E17 c.args.span (Passes (core.Return v))))
-    (goes_on _ c.in_ok-value.ensures (holds _ _ _ _ _ (rw c.deref.ensures at c.in_ok-met.ensures) c.in_ok-needs.ensures (record { so = ap (λ s. Passes (core.statement s)) (sym c.in_ok-boxed.ensures) }))))
+    goes_on _ c.in_ok-given.ensures (rw (fits_then g.flow g.result_bounds (typed c.in_ok-given.given) (ctype c.args.t.now) c.args.span (λ v. Passes (core.Return v)))
+    (goes_on _ c.in_ok-value.ensures (record { so = ap (λ s. Passes (core.statement s)) (sym c.in_ok-boxed.ensures) })))
