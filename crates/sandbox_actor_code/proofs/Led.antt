@@ -25,7 +25,7 @@ lowers_from (Call k words) before more after h l = tt
 lowers_from (Return value) before more after h l = tt
 lowers_from Stop before more after h l = tt
 
-lowers_behind : (image : Image) (budget : ℕ) (a : Act) (t : State) (before : ℕ) → Lowers turns.Sandbox a before (steps_left image budget t) → Lowers turns.Sandbox a before (steps_left_of image budget (behind_act a t))
+pub lowers_behind : (image : Image) (budget : ℕ) (a : Act) (t : State) (before : ℕ) → Lowers turns.Sandbox a before (steps_left image budget t) → Lowers turns.Sandbox a before (steps_left_of image budget (behind_act a t))
 lowers_behind image budget Go t before l = l
 lowers_behind image budget (Read at len) t before l = l
 lowers_behind image budget (Write at bytes) t before l = l

@@ -4,4 +4,4 @@ mod Paces
 mod StepsFall
 mod Led
 mod Shown
-mod OneAnswer
+pub mod OneAnswer

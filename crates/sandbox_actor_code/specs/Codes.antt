@@ -22,7 +22,7 @@ use Rattle.sandbox_actor_code.specs.declared.waiting_calls.WaitingCall.{WaitingC
 use Rattle.sandbox_actor_code.specs.declared.code_actor.Phase.{Phase}
 use Rattle.sandbox_actor_code.specs.declared.code_actor.Phase.TheVariants as phases
 use Rattle.sandbox_actor_code.specs.Answering.{CodeState, behind_act}
-use Rattle.sandbox_actor_code.specs.StepsLeft.{steps_left, steps_left_of}
+use Rattle.sandbox_actor_code.specs.StepsLeft.{steps_left, left_to}
 
 -- the image, the budget, the ticks that were spent, what the code does, the call that runs if one does, and those that wait
 pub record Code : Type 0 where
@@ -131,7 +131,7 @@ resume_step fun (Some w) f s = resumed_if (nat_lt (length f.stack) fun.stack) w 
 
 -- how many steps are left
 abbrev pub code_left : Code → ℕ
-code_left c = steps_left_of c.image c.budget (state_in c.phase c)
+code_left c = left_to (code_state c)
 
 -- what was shown leads the code on, with no more steps left, or it stops
 abbrev pub Shows : Option Seen → State → Code → Option code.Act.Act → Code → Type 0

@@ -4,6 +4,7 @@ use Rattle.std.specs.Prelude.{ℕ, ◌+◌, ◌-◌, ◌*◌, List, [], ◌∷�
 use Rattle.code_words.specs.Images.{Image}
 use Rattle.code_words.specs.Left.{longest, ops_of, rest_in}
 use Rattle.code_words.specs.SandboxCode.{Frame, Held, Calls, Entered, CallsBack, Doing, Runs, Looks, Rests, State, function_of}
+use Rattle.sandbox_actor_code.specs.Answering.{CodeState}
 
 -- of an open call, up to its next tick
 abbrev pub rest_of : Image → Frame → ℕ
@@ -29,3 +30,7 @@ steps_left image budget s = (budget - s.ticks) * (6 * longest image.sandbox.funs
 abbrev pub steps_left_of : Image → ℕ → Option State → ℕ
 steps_left_of image budget None = 0
 steps_left_of image budget (Some s) = steps_left image budget s
+
+-- to code in this state
+abbrev pub left_to : CodeState → ℕ
+left_to c = steps_left_of c.image c.budget c.state
