@@ -8,7 +8,7 @@ use Rattle.std.proofs.lemmas.Bool.Decides.{nat_tests}
 use Rattle.std.proofs.lemmas.List.Elements.{All-nil, All-cons}
 use Rattle.act_words.specs.Checks.{is_word_number}
 use Rattle.act_words.specs.Limits.{AreAllowed}
-use Rattle.ccbox_call_words.specs.Requests.{Options, no_options, Check, Split, Run, Exec, Request, settings_of, inputs_of, may_name_file, digits_number, in_range, number_from, base_from, negative, input_number, pieces_of, numbers_in, few, input_list, cut_at, Choice, ActsFrom, InputOf, BudgetOf, SandboxOf, TrustedOf, BaseOf, View, Releases, Dump, acts_choice, input_choice, value_choice, word_choice, pair_choice, choice_then, choices_of, unless_chosen, unless_set, chosen, all_chosen, options_of, alone, request_if, exec_request, command_request, request_of}
+use Rattle.ccbox_call_words.specs.Requests.{Options, no_options, Check, Split, Run, Exec, Request, settings_of, inputs_of, may_name_file, digits_number, in_range, number_from, base_from, negative, input_number, pieces_of, numbers_in, few, input_list, cut_at, Choice, ActsFrom, InputOf, BudgetOf, SandboxOf, TrustedOf, BaseOf, View, Releases, Dump, acts_choice, input_choice, value_choice, word_choice, pair_choice, choice_then, choices_of, unless_chosen, unless_set, chosen, all_chosen, options_of, alone, request_if, command_request, request_of}
 
 -- a fact of what an option holds, if it holds something
 abbrev In : {A : Type 0} → (A → Type 0) → Option A → Type 0
@@ -195,17 +195,14 @@ alone_kept : (words : List (List ℕ)) (request : Request) → OfRequest request
 alone_kept [] request h = h
 alone_kept (word ∷ words) request h = _
 
-exec_kept : (file : List ℕ) (options : Options) → Holds options → In OfRequest (exec_request file options)
-exec_kept file options h = mapped (λ acts. Unit {0}) OfRequest (λ acts. Exec file options) options.acts (λ acts _. h) (anything options.acts)
-
 command_kept : (command file : List ℕ) (words : List (List ℕ)) → In OfRequest (command_request command file words)
 command_kept command file words =
     if_kept OfRequest (bytes_eq command (codes "check")) (alone words (Check file)) _ (alone_kept words (Check file) _)
     (if_kept OfRequest (bytes_eq command (codes "split")) (alone words (Split file)) _ (alone_kept words (Split file) _)
     (if_kept OfRequest (bytes_eq command (codes "run")) (option_map (Run file) (options_of words)) _
     (mapped Holds OfRequest (Run file) (options_of words) (λ options h. h) (options_kept words))
-    (if_kept OfRequest (bytes_eq command (codes "exec")) (option_and_then (exec_request file) (options_of words)) None
-    (bound Holds OfRequest (exec_request file) (options_of words) (exec_kept file) (options_kept words)) _)))
+    (if_kept OfRequest (bytes_eq command (codes "exec")) (option_map (Exec file) (options_of words)) None
+    (mapped Holds OfRequest (Exec file) (options_of words) (λ options h. h) (options_kept words)) _)))
 
 request_kept : (words : List (List ℕ)) → In OfRequest (request_of words)
 request_kept [] = _

@@ -38,7 +38,7 @@ commands =
     × (request_of (codes "check" ∷ codes "a.c" ∷ codes "--view" ∷ []) ≡ None)
     × (request_of (codes "split" ∷ codes "a.c" ∷ codes "--base=16" ∷ []) ≡ None)
 
--- listings are run with the options of sources, and with a file of acts
+-- listings are run with the options of sources
 abbrev pub listings : Type 0
 listings =
     (request_of (codes "exec" ∷ codes "a.txt" ∷ codes "--acts=f" ∷ []) ≡ Some (Exec (codes "a.txt") (record no_options { acts = Some (codes "f") })))
@@ -49,8 +49,9 @@ listings =
           ∷ []);
       dump = true;
     })))
-    × (request_of (codes "exec" ∷ codes "a.txt" ∷ []) ≡ None)
-    × (request_of (codes "exec" ∷ codes "a.txt" ∷ codes "--view" ∷ []) ≡ None)
+    × (request_of (codes "exec" ∷ codes "a.txt" ∷ []) ≡ Some (Exec (codes "a.txt") no_options))
+    × (request_of (codes "exec" ∷ codes "a.txt" ∷ codes "--view" ∷ []) ≡ Some (Exec (codes "a.txt") (record no_options { view = true })))
+    × (request_of (codes "exec" ∷ []) ≡ None)
     × (request_of (codes "exec" ∷ codes "--acts=f" ∷ []) ≡ None)
     × (request_of (codes "exec" ∷ codes "-a" ∷ codes "--acts=f" ∷ []) ≡ None)
     × (request_of (codes "exec" ∷ codes "a.txt" ∷ codes "--acts=f" ∷ codes "b.txt" ∷ []) ≡ None)

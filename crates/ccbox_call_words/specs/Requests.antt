@@ -222,18 +222,14 @@ abbrev pub alone : List (List ℕ) → Request → Option Request
 alone [] request = Some request
 alone (word ∷ words) request = None
 
--- the run of a listing, whose acts come from a file
-abbrev pub exec_request : List ℕ → Options → Option Request
-exec_request file options = option_map (λ acts. Exec file options) options.acts
-
--- what a command asks about a file, with the words behind both: `check FILE`, `split FILE`, `run FILE` and options in any order, or
--- `exec FILE` and options in any order, among them the file of acts
+-- what a command asks about a file, with the words behind both: `check FILE`, `split FILE`, or `run FILE` or `exec FILE` and options
+-- in any order
 abbrev pub command_request : List ℕ → List ℕ → List (List ℕ) → Option Request
 command_request command file words =
     if bytes_eq command (codes "check") then alone words (Check file)
     else if bytes_eq command (codes "split") then alone words (Split file)
     else if bytes_eq command (codes "run") then option_map (Run file) (options_of words)
-    else if bytes_eq command (codes "exec") then option_and_then (exec_request file) (options_of words)
+    else if bytes_eq command (codes "exec") then option_map (Exec file) (options_of words)
     else None
 
 -- the request that the words spell, if they spell one

@@ -2,7 +2,7 @@
 
 ghost use Rattle.std.specs.Prelude.{◌≡◌, ◌≤◌, ◌∷◌, IfOk, IfSome, option_map, map, drop, length};
 ghost use Rattle.std.specs.Option.{option_and_then};
-ghost use Rattle.ccbox_call_words.specs.Requests.{settings_of, inputs_of, may_name_file, acts_choice, input_choice, cut_at, value_choice, word_choice, pair_choice, choices_of, chosen, options_of, alone, exec_request, command_request, request_of};
+ghost use Rattle.ccbox_call_words.specs.Requests.{settings_of, inputs_of, may_name_file, acts_choice, input_choice, cut_at, value_choice, word_choice, pair_choice, choices_of, chosen, options_of, alone, command_request, request_of};
 ghost use Rattle.ccbox_call_words.specs.Requested.{request as request_view, requested, options as options_view, choice as choice_view};
 
 use crate::inputs::InputList;
@@ -14,7 +14,7 @@ use std::alloc::Global;
 /// What is asked for beside the file.
 #[derive(Clone, Copy)]
 pub struct Options<'a> {
-    /// The file of the sandbox's acts. Without one there are none.
+    /// The file of the sandbox's acts. Without one they are those of its own code.
     pub acts: Option<&'a str>,
     /// The input numbers. Without them there are none.
     pub input: Option<InputList<'a>>,
@@ -150,19 +150,9 @@ fn command_request<'a>(command: &str, file: &'a str, rest: &[&'a str]) -> Option
         }
         "exec" => {
             let options = options_from(rest)?;
-            exec_request(file, options)
+            Some(Request::Exec { file, options })
         }
         _ => None,
-    }
-}
-
-// The run of a listing, whose acts come from a file.
-fn exec_request<'a>(file: &'a str, options: Options<'a>) -> Option<Request<'a>>
-    ensures { requested result ≡ exec_request file.now (options_view options.entry) }
-{
-    match options.acts {
-        Some(_) => Some(Request::Exec { file, options }),
-        None => None,
     }
 }
 
