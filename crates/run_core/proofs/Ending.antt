@@ -24,7 +24,7 @@ module _ {S : Type 0} (answers : Answering S) (files : Option Files) (image : Im
 
   -- how far the actor had come where the run had come to its end, or to an act that can't be given
   came_to : (outcome : Outcome) (text : List ℕ) → Comes answers files image settings inputs first last outcome text → CameTo answers files image settings inputs first last
-  came_to outcome text (Comes.ended acts events blocks chain ends) = CameTo.given acts chain
+  came_to outcome text (Comes.ended acts events blocks chain gave ends) = CameTo.given acts chain
   came_to outcome text (Comes.ran_out acts t chain due ended run) = CameTo.answered acts chain due ended
   came_to outcome text (Comes.refused acts events chain due answered) = CameTo.answered acts chain due answered
   came_to outcome text (Comes.missing acts events chain due answered) = CameTo.answered acts chain due answered

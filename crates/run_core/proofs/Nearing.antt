@@ -11,7 +11,7 @@ use Rattle.run_core.specs.declared.play.Progressed.TheVariants as progressed
 use Rattle.run_core.specs.Progress.{IsAsked, IsOnward, FallsUnless, NearsBy, Nears, ending_in}
 
 -- an act that leaves the turn lowers the measure
-lowers_by : (turn : Turn) (act : Act) (before after : ℕ) → Lowers turn act before after → LeavesTurn act turn → after < before
+pub lowers_by : (turn : Turn) (act : Act) (before after : ℕ) → Lowers turn act before after → LeavesTurn act turn → after < before
 lowers_by turns.Trusted Go before after h leaves = absurd leaves
 lowers_by turns.Sandbox Go before after h leaves = h
 lowers_by turns.Trusted (Read at len) before after h leaves = h

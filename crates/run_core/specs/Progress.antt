@@ -28,6 +28,7 @@ use Rattle.run_core.specs.Moments.{due_in, IsDue}
 use Rattle.run_core_transcript.specs.Asked.{Answering}
 use Rattle.run_core_transcript.specs.Touched.{last_of, touched}
 use Rattle.run_core.specs.Chains.{Chain}
+use Rattle.run_core.specs.Gave.{Gave}
 use Rattle.run_core.specs.Runs.{Ends, LineRefused, FileMissing, Comes, ShelfFault, CameTo}
 
 -- ---- where a machine stands
@@ -69,7 +70,7 @@ blocks_of m = blocks_held (state_of m [] [] [])
 pub data Progress {S : Type 0} (answers : Answering S) (files : Option Files) (image : Image) (settings : Settings) (inputs : List ℤ)
     (first now : S) (m : Machine) (left : List ℤ) (text : List ℕ) : Option Seen → Bool → Type 0 where
   going : {last : Option Seen} (acts : List Act) (events : List Event) → Chain answers files image settings inputs first acts now
-      → Going image settings inputs acts events last left m → text ≡ events_text settings events
+      → Gave answers files first None events now → Going image settings inputs acts events last left m → text ≡ events_text settings events
       → Progress answers files image settings inputs first now m left text last false
   out_of_acts : {last : Option Seen} {mid : S} {moment : Moment} {before : List Event} (acts : List Act) (events : List Event)
       → Chain answers files image settings inputs first acts mid → IsDue image settings inputs acts moment before → answers mid files moment Ended now

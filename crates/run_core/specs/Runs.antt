@@ -21,6 +21,7 @@ use Rattle.run_core_transcript.specs.Texts.{run_text, front_text}
 use Rattle.run_core.specs.Moments.{due_in, IsDue}
 use Rattle.run_core_transcript.specs.Asked.{Answering}
 use Rattle.run_core.specs.Chains.{Chain}
+use Rattle.run_core.specs.Gave.{Gave}
 
 -- what a run comes to where no device fails: an ending, or an act that can't be given
 pub data Outcome : Type 0 where
@@ -40,9 +41,10 @@ pub record EndsBefore (image : Image) (settings : Settings) (inputs : List ℤ) 
 -- the image's run with an actor, from one state of it to another, comes to this, with this text
 pub data Comes {S : Type 0} (answers : Answering S) (files : Option Files) (image : Image) (settings : Settings) (inputs : List ℤ) (first : S)
     : S → Outcome → List ℕ → Type 0 where
-  -- the run ended by itself, or by its last act
+  -- the run ended by itself, or by its last act, and the acts of its events are the actor's
   ended : {last : S} {ending : Ending} (acts : List Act) (events : List Event) (blocks : List Shown)
-      → Chain answers files image settings inputs first acts last → EndsBefore image settings inputs acts ending events blocks
+      → Chain answers files image settings inputs first acts last → Gave answers files first None events last
+      → EndsBefore image settings inputs acts ending events blocks
       → Comes answers files image settings inputs first last (Ends ending) (run_text settings events ending blocks)
   -- the run needed an act where the actor had none left
   ran_out : {mid last : S} {ending : Ending} {moment : Moment} {events : List Event} (acts : List Act) (t : State)
