@@ -13,10 +13,10 @@ use Rattle.act_words.specs.declared.ending.Ending.{Ending}
 use Rattle.act_words.specs.declared.ending.Ending.TheVariants.{Exit, Check, Stop}
 use Rattle.ckc_core.specs.Core.{Core}
 use Rattle.act_words.specs.Shown.{Shown}
+use Rattle.act_words.specs.Acts.{Act}
 use Rattle.act_words.specs.World.{Event}
 use Rattle.code_words.specs.Images.{Image}
-use Rattle.code_words.specs.Runs.{CodeRun}
-use Rattle.sandbox_actor.specs.ActLists.{ActList, RefusedLine}
+use Rattle.sandbox_actor.specs.ActLists.{RefusedLine}
 use Rattle.run_core.specs.Runs.{Counts}
 use Rattle.check_insertion.specs.Insert.{inserted}
 use Rattle.lowering_code.specs.Images.{image_of}
@@ -26,7 +26,8 @@ use Rattle.ccbox_call_words.specs.Requests as requests
 use Rattle.act_recorder.specs.Diagnostics.{accepted_text, usage_text, missing_text, refused_text, listing_refused_text, unfit_text}
 use Rattle.ccbox_call_words.specs.Given.{TextGiven, all, failed, LineGiven, given, unmade}
 use Rattle.ccbox_call.specs.Acceptance.{Accepts, IsRefused, IsAcceptedCore}
-use Rattle.ccbox_call.specs.Answers.{needed_line, text_with, status_with, ran, RunAnswer, acts_missing, acts, CheckAnswer, says_so, SplitAnswer, lists, ExecAnswer, unfit, fits, SourceAnswer, refused, accepted, ListingAnswer, refused_at, spells, missing, is_there, AskedOfCore, AskedOfImage, BytesAnswer, RequestAnswer, Answer, IsFailure, WritesFront, GivesFront, IsCutShort, GivesWhole, Exactly, AsksAbout, AsksAboutSource, AsksAboutListing, AsksOf, AsksToRun, AsksFor, SourceIsRefused, ListingFails, SourceIsChecked, CodeIsListed, RunEndsWith, RunExits, Succeeds, CheckFails, RunStops, LineIsRefused, FileIsMissing, PrintsRun, PrintedRun, PrintedImageRun, PrintedAccepted, IsComplete, IsQuiet, IsUntouched}
+use Rattle.ccbox_call.specs.Supplies.{Supply, Supplied, needed_line}
+use Rattle.ccbox_call.specs.Answers.{text_with, status_with, ran, RunAnswer, acts_missing, acts, CheckAnswer, says_so, SplitAnswer, lists, ExecAnswer, unfit, fits, SourceAnswer, refused, accepted, ListingAnswer, refused_at, spells, missing, is_there, AskedOfCore, AskedOfImage, BytesAnswer, RequestAnswer, Answer, IsFailure, WritesFront, GivesFront, IsCutShort, GivesWhole, Exactly, AsksAbout, AsksAboutSource, AsksAboutListing, AsksOf, AsksToRun, AsksFor, SourceIsRefused, ListingFails, SourceIsChecked, CodeIsListed, RunEndsWith, RunExits, Succeeds, CheckFails, RunStops, LineIsRefused, FileIsMissing, PrintsRun, PrintedRun, PrintedImageRun, PrintedAccepted, IsComplete, IsQuiet, IsUntouched}
 use Rattle.ccbox_call.specs.Answers as answers
 use Rattle.ccbox_call.specs.PrintedCode.{SpellsAlone, PrintedCode}
 use Rattle.ccbox_call.specs.Programs.{Program, Meant, Coded, Runs}
@@ -34,7 +35,7 @@ use Rattle.ccbox_call.specs.ReadListings.{Spells, IsRefusedAt}
 use Rattle.ccbox_call.specs.Calls.{StatusCounts, Gives, answered, output_failed, files_failed, no_memory, no_memory_behind, IsFileOf, IsInFormat, IsGiven, CallEnds, usage, asked}
 use Rattle.ccbox_call.proofs.OneAnswer.{one_answer}
 use Rattle.ccbox_call.proofs.PrintedCode.{parts_kept, spells_alone, kept_code, does_as}
-use Rattle.ccbox_call.proofs.Runs.{ends_over, view_over, view_before_over, image_ends_over, image_view_over, image_view_before_over}
+use Rattle.ccbox_call.proofs.SuppliedRuns.{ends_over, view_over, view_before_over, image_ends_over, image_view_over, image_view_before_over}
 
 -- ---- from what is asked for to its Answer
 
@@ -44,8 +45,8 @@ program_answer files words options (Meant c) a x = answers.asked (Run a.name opt
 program_answer files words options (Coded image) a x = answers.asked (Exec a.name options) (a.asks).spelled (is_there a.listed (a.asks).there (spells image a.spells_it (fits a.fits_settings x)))
 
 -- so the run of a program that is asked for has its Answer
-pub run_answer : (files : Files) (words : List (List ℕ)) (options : Options) (list : ActList) (program : Program) (ending : Ending) (events : List Event) (blocks : List Shown) → AsksFor files words options list program → Runs program (settings_of options) (inputs_of options) list.acts ending events blocks → Answer files words (text_with (settings_of options) (needed_line list events) events ending blocks) (status_with (needed_line list events) ending)
-run_answer files words options list program ending events blocks a runs = program_answer files words options program a.asks (acts list a.acts_are (ran ending events blocks runs))
+pub run_answer : (files : Files) (words : List (List ℕ)) (options : Options) (supply : Supply) (program : Program) (taken : List Act) (ending : Ending) (events : List Event) (blocks : List Shown) → AsksFor files words options supply program → Runs program (settings_of options) (inputs_of options) taken ending events blocks → Supplied program (settings_of options) supply taken events → Answer files words (text_with (settings_of options) (needed_line supply events) events ending blocks) (status_with (needed_line supply events) ending)
+run_answer files words options supply program taken ending events blocks a runs from = program_answer files words options program a.asks (acts supply a.supply_is (ran taken ending events blocks runs from))
 
 -- so has the line of an accepted source, and the listing of its code
 check_answer : (files : Files) (words : List (List ℕ)) (name : List ℕ) (c : Core) → AsksOf files words (requests.Check name) c → Answer files words accepted_text 0
@@ -76,8 +77,8 @@ Cause files words n =
 
 run_cause : (files : Files) (words : List (List ℕ)) (options : Options) (program : Program) → AsksToRun files words options program → {text : List ℕ} {n : ℕ} → RunAnswer files options program text n → Cause files words n
 run_cause files words options program asks (acts_missing name e none) = inr (inl (refl, inr (name, options, program, asks, e, none)))
-run_cause files words options program asks (acts list at (ran ending events blocks runs)) =
-    inr (inr (inr (inr (inr (needed_line list events, ending, refl, (options, list, program, events, blocks, record { asks = asks; acts_are = at }, runs, refl))))))
+run_cause files words options program asks (acts supply at (ran taken ending events blocks runs from)) =
+    inr (inr (inr (inr (inr (needed_line supply events, ending, refl, (options, supply, program, taken, events, blocks, record { asks = asks; supply_is = at }, runs, from, refl))))))
 
 check_cause : (files : Files) (words : List (List ℕ)) (name : List ℕ) (c : Core) → AsksOf files words (requests.Check name) c → {text : List ℕ} {n : ℕ} → CheckAnswer text n → Cause files words n
 check_cause files words name c a says_so = inr (inr (inr (inr (inl (refl, inl (name, c, a))))))
@@ -301,29 +302,32 @@ module _ (words : List (List ℕ)) (told : Option Files) (old new : Option (List
     cut_short result (asked request e gives) = cut_gives request result e gives
 
     pub printed_run : (result : ℕ) → CallEnds words told old new before after result → PrintedRun files words old new result
-    printed_run result h options list c a =
-        let e = ends_over files words options list c a in
+    printed_run result h options supply c a =
+        let e = ends_over files words options c supply a in
         record {
-          ending = e.0;
-          last = e.1;
-          runs = e.2;
-          audited = e.3;
-          view = view_over files words options list c e.0 e.1 a e.2;
-          view_before = view_before_over files words options list c e.0 e.1 a e.2;
-          printed = is_given result (settled result h) (run_answer files words options list (Meant c) e.0 (e.1).world.events _ a (record { last = e.1; runs = e.2; events_are = refl; blocks_are = refl }));
+          acts = e.acts;
+          ending = e.ending;
+          last = e.last;
+          runs = e.runs;
+          supplied = e.supplied;
+          audited = e.audited;
+          view = view_over files words options c supply a e.acts e.are e.ending e.last e.runs;
+          view_before = view_before_over files words options c supply a e.acts e.are e.ending e.last e.runs;
+          printed = is_given result (settled result h) (run_answer files words options supply (Meant c) e.acts e.ending (e.last).world.events _ a (record { last = e.last; runs = e.runs; events_are = refl; blocks_are = refl }) e.supplied);
         }
 
     pub printed_image_run : (result : ℕ) → CallEnds words told old new before after result → PrintedImageRun files words old new result
-    printed_image_run result h options list image a =
-        let e = image_ends_over files words options list image a in
-        let run : CodeRun image (settings_of options) (inputs_of options) list.acts e.ending e.last = (e.steps, e.ends) in
+    printed_image_run result h options supply image a =
+        let e = image_ends_over options image ((a.asks).spells_it).paced supply in
         record {
+          acts = e.acts;
           ending = e.ending;
           last = e.last;
-          runs = run;
-          view = image_view_over files words options list image a e.ending e.last run;
-          view_before = image_view_before_over files words options list image a e.ending e.last run;
-          printed = is_given result (settled result h) (run_answer files words options list (Coded image) e.ending (e.last).world.events _ a (record { last = e.last; runs = run; events_are = refl; blocks_are = refl }));
+          runs = e.runs;
+          supplied = e.supplied;
+          view = image_view_over options image e.acts e.ending e.last e.runs;
+          view_before = image_view_before_over options image e.acts e.ending e.last e.runs supply;
+          printed = is_given result (settled result h) (run_answer files words options supply (Coded image) e.acts e.ending (e.last).world.events _ a (record { last = e.last; runs = e.runs; events_are = refl; blocks_are = refl }) e.supplied);
         }
 
     -- a failure is one of memory, where no device fails
@@ -403,7 +407,7 @@ module _ (words : List (List ℕ)) (told : Option Files) (old new : Option (List
     -- the Answer of a run with this line needed and this ending
     run_ended : (needed : Option RefusedLine) (ending : Ending) (n : ℕ) → status_with needed ending ≡ n → RunEndsWith files words needed ending → (text : List ℕ) × Answer files words text n
     run_ended needed ending n e r =
-        (_, subst (λ m. Answer files words (text_with (settings_of r.0) (needed_line r.1 r.3) r.3 ending r.4) m) (ap (λ x. status_with x ending) r.7 ∙ e) (run_answer files words r.0 r.1 r.2 ending r.3 r.4 r.5 r.6))
+        (_, subst (λ m. Answer files words (text_with (settings_of r.0) (needed_line r.1 r.4) r.4 ending r.5) m) (ap (λ x. status_with x ending) r.9 ∙ e) (run_answer files words r.0 r.1 r.2 r.3 ending r.4 r.5 r.6 r.7 r.8))
 
     safe : (n : ℕ) → n ≢ 4 → n ≢ 5 → n ≢ 9 → IsFailure n → ⊥
     safe n a b c (inl e) = a e

@@ -1,5 +1,5 @@
 -- The listing of a source's code has the Answer of the source.
-use Rattle.std.proofs.Common.{◌≡◌, ℕ, false, List, Some, None, sym, ◌∙◌, subst}
+use Rattle.std.proofs.Common.{◌≡◌, ℕ, false, List, Some, None, refl, sym, ◌∙◌, subst}
 use Rattle.ckc_io.specs.Files.{Files, file_at}
 use Rattle.ckc_core.specs.Core.{Core}
 use Rattle.check_insertion.specs.Insert.{inserted}
@@ -21,7 +21,7 @@ module _ (files : Files) (options : Options) (c : Core) (is : IsAcceptedCore c) 
   -- the code fits, and its run is the core's
   of_image : {text : List ℕ} {status : ℕ} → ExecAnswer files options (image_of (inserted c)) text status → RunAnswer files options (Meant c) text status
   of_image (unfit misfit) = absurd (misfit ((kept_code c is).fits (settings_of options) may.settings))
-  of_image (fits f x) = code_run files options c (image_of (inserted c)) is (kept_code c is) may x
+  of_image (fits f x) = code_run files options c (image_of (inserted c)) is (kept_code c is) refl may x
 
   module _ (name listed : List ℕ) (its : Spells listed (image_of (inserted c))) where
     of_listing : {text : List ℕ} {status : ℕ} → ListingAnswer (AskedOfImage files (Exec name options)) listed text status → RunAnswer files options (Meant c) text status

@@ -1,6 +1,6 @@
 -- How the parts of a call give their answers.
 use Rattle.std.proofs.Common.{◌≡◌, ℕ, ℤ, ◌+◌, ◌<◌, ◌≤◌, nat_lt, Bool, true, false, inl, inr, List, ◌++◌, length, take, Option, Some, None, refl, sym, ap, ◌∙◌, subst, arith, length-append, [], ◌∷◌}
-use Rattle.std.specs.Prelude.{IsTrue, Result, Ok, Err, codes, decimal}
+use Rattle.std.specs.Prelude.{Result, Ok, Err, codes, decimal}
 use Rattle.ckc_text.specs.Texts.{number_of, name_of}
 use Rattle.std.proofs.lemmas.Bool.{ltb-true, ltb-false}
 use Rattle.std.proofs.lemmas.List.{take-append-le, take_all, length-take}
@@ -19,10 +19,9 @@ use Rattle.act_words.specs.declared.ending.Ending.TheVariants.{Exit, Check, Stop
 use Rattle.act_words.specs.declared.settings.Settings.{Settings}
 use Rattle.ckc_core.specs.declared.program as code
 use Rattle.ckc_core.specs.Core.{Core, core}
-use Rattle.sandbox_actor.specs.ActLists.{ActList}
 use Rattle.code_words.specs.Images.{Image}
-use Rattle.code_words.specs.Paced.{is_paced}
 use Rattle.lowering_code.specs.Correct.{KeepsMeaning}
+use Rattle.run_core_transcript.specs.Asked.{Answering}
 use Rattle.run_core_transcript.specs.declared.fault.RunFault.{RunFault}
 use Rattle.run_core_transcript.specs.declared.fault.RunFault.TheVariants as faults
 use Rattle.run_core.specs.Runs.{Outcome, Ends, LineRefused, FileMissing, Comes, WritesAll, WritesFront, RunWrites, Counts, RunCounts}
@@ -36,12 +35,13 @@ use Rattle.check_insertion.specs.Insert.{inserted}
 use Rattle.lowering_code.specs.Images.{image_of}
 use Rattle.code_words_listing.specs.Listings.{InFormat}
 use Rattle.ccbox_call.specs.Acceptance.{Accepts, IsAcceptedCore, no_tokens}
-use Rattle.ccbox_call.specs.Answers.{acts_at, ListAnswer, RunAnswer, acts_missing, acts, ExecAnswer, SourceAnswer, refused, accepted, refused_at, spells, missing, is_there, AskedOfCore, BytesAnswer, RequestAnswer}
+use Rattle.ccbox_call.specs.Answers.{SupplyAnswer, RunAnswer, acts_missing, acts, ExecAnswer, SourceAnswer, refused, accepted, refused_at, spells, missing, is_there, AskedOfCore, BytesAnswer, RequestAnswer}
 use Rattle.ccbox_call.specs.Calls.{IsFoundStatus, StatusCounts, Gives, answered, output_failed, files_failed, no_memory, no_memory_behind, RefusedAnswer, NoCoreAnswer, IsFileOf, NoImageAnswer, NoListingAnswer, IsListingOf, IsInFormat, IsGiven, MayRun, SourceRead, ProgramRead, ListingRead, ImageRead}
 use Rattle.ccbox_call.specs.Programs.{Program, Meant, Coded}
 use Rattle.ccbox_call.specs.ReadListings.{Spells}
 use Rattle.ccbox_call.proofs.Fronts.{one_core, core_or_fault, one_refusal}
-use Rattle.ccbox_call.proofs.ListRuns.{FromList, Answers, whole, front, answers, meant_answer}
+use Rattle.ccbox_call.specs.Supplies.{Supply, supply_at}
+use Rattle.ccbox_call.proofs.ListRuns.{Answers, whole, front, meant_answer}
 use Rattle.ccbox_call.proofs.ReadListings.{file_spells, file_refused}
 use Rattle.ccbox_call.proofs.Runs.{acts_there}
 
@@ -82,21 +82,17 @@ line_found = inr (inr (inr (inr (inl refl))))
 unchanged : (ending : Ending) (before : Counts) → StatusCounts (status_of ending) before before
 unchanged ending before = (refl, inr (found ending, refl))
 
-module _ (image : Image) (settings : Settings) (inputs : List ℤ) (list : ActList) (paced : IsTrue (is_paced image)) where
-  abbrev IsAnswer : List ℕ → ℕ → Type 0
-  IsAnswer = ListAnswer (Coded image) settings inputs list
-
-  answers_of : {files : Option Files} {last : ActList} {outcome : Outcome} {text : List ℕ} → Comes FromList files image settings inputs list last outcome text → Answers image settings inputs list paced text outcome
-  answers_of comes = answers image settings inputs list paced comes
-
+-- the text of what a run with an actor comes to is that of an answer, or the front of one
+module _ {S : Type 0} (answering : Answering S) (files : Option Files) (image : Image) (settings : Settings) (inputs : List ℤ) (first : S) (IsAnswer : List ℕ → ℕ → Type 0)
+    (answers_of : (last : S) (outcome : Outcome) (text : List ℕ) → Comes answering files image settings inputs first last outcome text → Answers IsAnswer text outcome) where
   -- a run that ended
-  ended_gives : (text : List ℕ) (ending : Ending) (old new : Option (List ℕ)) (before : Counts) → Answers image settings inputs list paced text (Ends ending) → new ≡ grown old text → Gives IsAnswer old new before before (status_of ending)
+  ended_gives : (text : List ℕ) (ending : Ending) (old new : Option (List ℕ)) (before : Counts) → Answers IsAnswer text (Ends ending) → new ≡ grown old text → Gives IsAnswer old new before before (status_of ending)
   ended_gives text _ old new before (whole ending a) written = answered text (status_of ending) a (unchanged ending before) written refl
 
-  run_gives : {files : Option Files} {last : ActList} {old new : Option (List ℕ)} {before after : Counts} (ending : Ending) (status : ℕ) → WritesAll FromList files image settings inputs list last (Ends ending) old new → after ≡ before → status ≡ status_of ending → Gives IsAnswer old new before after status
-  run_gives {files} {last} {old} {new} {before} {after} ending status w same is_status =
+  run_gives : {last : S} {old new : Option (List ℕ)} {before after : Counts} (ending : Ending) (status : ℕ) → WritesAll answering files image settings inputs first last (Ends ending) old new → after ≡ before → status ≡ status_of ending → Gives IsAnswer old new before after status
+  run_gives {last} {old} {new} {before} {after} ending status w same is_status =
       subst (λ x. Gives IsAnswer old new before x status) (sym same)
-      (subst (Gives IsAnswer old new before before) (sym is_status) (ended_gives w.0 ending old new before (answers_of w.1) w.2))
+      (subst (Gives IsAnswer old new before before) (sym is_status) (ended_gives w.0 ending old new before (answers_of _ _ _ w.1) w.2))
 
   -- a run that needs a refused line, and the line that says so
   behind : (text more : List ℕ) (k : ℕ) (old mid new : Option (List ℕ)) → mid ≡ grown old text → new ≡ grown mid (take k more) → new ≡ grown old (take (length text + k) (text ++ more))
@@ -110,7 +106,7 @@ module _ (image : Image) (settings : Settings) (inputs : List ℤ) (list : ActLi
   refused_long : (line : ℕ) (code : Code) → 0 < length (act_refused_text line code)
   refused_long line code = ends_line (codes "[act line " ++ decimal line ++ codes " " ++ number_of code ++ codes " " ++ name_of code ++ codes "]")
 
-  refused_gives : (text : List ℕ) (line : ℕ) (code : Code) (old mid new : Option (List ℕ)) (m f k k' result : ℕ) → Answers image settings inputs list paced text (LineRefused line code) → mid ≡ grown old text → LineGiven (act_refused_text line code) 8 mid new k k' result →
+  refused_gives : (text : List ℕ) (line : ℕ) (code : Code) (old mid new : Option (List ℕ)) (m f k k' result : ℕ) → Answers IsAnswer text (LineRefused line code) → mid ≡ grown old text → LineGiven (act_refused_text line code) 8 mid new k k' result →
       Gives IsAnswer old new (record { misses = m; faults = f; sink = k }) (record { misses = m; faults = f; sink = k' }) result
   refused_gives text _ _ old mid new m f k k' _ (front line code a) first (given (all second same)) =
       answered (text ++ act_refused_text line code) 8 a (refl, inr (line_found, refl)) (second ∙ ap (λ o. grown o (act_refused_text line code)) first ∙ grown-grown old text (act_refused_text line code)) same
@@ -120,55 +116,55 @@ module _ (image : Image) (settings : Settings) (inputs : List ℤ) (list : ActLi
       subst (Gives IsAnswer old new (record { misses = m; faults = f; sink = k }) (record { misses = m; faults = f; sink = k' })) (sym nine)
       (no_memory_behind (text ++ act_refused_text line code) 8 (length text) a (omega (arith, length-append text (act_refused_text line code), refused_long line code)) (same ∙ first ∙ ap (grown old) (sym (take-append_seam text (act_refused_text line code)))) (omega arith) refl still)
 
-  line_refused_gives : {files : Option Files} {last : ActList} {old mid new : Option (List ℕ)} (line : ℕ) (code : Code) (m m' f f' k j k' result : ℕ) → WritesAll FromList files image settings inputs list last (LineRefused line code) old mid → ◌≡◌ {A = Counts} (record { misses = m'; faults = f'; sink = j }) (record { misses = m; faults = f; sink = k }) → LineGiven (act_refused_text line code) 8 mid new j k' result →
+  line_refused_gives : {last : S} {old mid new : Option (List ℕ)} (line : ℕ) (code : Code) (m m' f f' k j k' result : ℕ) → WritesAll answering files image settings inputs first last (LineRefused line code) old mid → ◌≡◌ {A = Counts} (record { misses = m'; faults = f'; sink = j }) (record { misses = m; faults = f; sink = k }) → LineGiven (act_refused_text line code) 8 mid new j k' result →
       Gives IsAnswer old new (record { misses = m; faults = f; sink = k }) (record { misses = m'; faults = f'; sink = k' }) result
-  line_refused_gives {files} {last} {old} {mid} {new} line code m m' f f' k j k' result w same made =
+  line_refused_gives {last} {old} {mid} {new} line code m m' f f' k j k' result w same made =
       let misses = ap (λ (x : Counts). x.misses) same in
       let faults = ap (λ (x : Counts). x.faults) same in
       let sink = ap (λ (x : Counts). x.sink) same in
-      rw (misses, faults) (refused_gives w.0 line code old mid new m f k k' result (answers_of w.1) w.2 (rw sink at made))
+      rw (misses, faults) (refused_gives w.0 line code old mid new m f k k' result (answers_of _ _ _ w.1) w.2 (rw sink at made))
 
   -- a file of acts was read before the run
-  not_missing : {text : List ℕ} → Answers image settings inputs list paced text FileMissing → ⊥
+  not_missing : {text : List ℕ} → Answers IsAnswer text FileMissing → ⊥
   not_missing a = by FileMissing a refl
     where
-      by : {text : List ℕ} (outcome : Outcome) → Answers image settings inputs list paced text outcome → outcome ≡ FileMissing → ⊥
+      by : {text : List ℕ} (outcome : Outcome) → Answers IsAnswer text outcome → outcome ≡ FileMissing → ⊥
       by _ (whole ending a) e = cc
       by _ (front line code a) e = cc
 
-  never_missing : {files : Option Files} {last : ActList} (old new : Option (List ℕ)) → WritesAll FromList files image settings inputs list last FileMissing old new → ⊥
-  never_missing old new w = not_missing (answers_of w.1)
+  never_missing : {last : S} (old new : Option (List ℕ)) → WritesAll answering files image settings inputs first last FileMissing old new → ⊥
+  never_missing old new w = not_missing (answers_of _ _ _ w.1)
 
   -- a front of a run's text
-  fronted : (text : List ℕ) (outcome : Outcome) (n : ℕ) (old new : Option (List ℕ)) (before after : Counts) → Answers image settings inputs list paced text outcome → n ≤ length text → new ≡ grown old (take n text) → before.misses ≤ after.misses → after.faults ≡ before.faults → Rises before.sink after.sink → Gives IsAnswer old new before after 5
+  fronted : (text : List ℕ) (outcome : Outcome) (n : ℕ) (old new : Option (List ℕ)) (before after : Counts) → Answers IsAnswer text outcome → n ≤ length text → new ≡ grown old (take n text) → before.misses ≤ after.misses → after.faults ≡ before.faults → Rises before.sink after.sink → Gives IsAnswer old new before after 5
   fronted text _ n old new before after (whole ending a) le part misses faults rises = output_failed text (status_of ending) n a misses faults le part rises
   fronted text _ n old new before after (front line code a) le part misses faults rises =
       output_failed (text ++ act_refused_text line code) 8 n a misses faults (omega (arith, length-append text (act_refused_text line code), le)) (part ∙ ap (grown old) (sym (take-append-le n text (act_refused_text line code) le))) rises
 
-  output_gives : {files : Option Files} {last : ActList} {old new : Option (List ℕ)} {before after : Counts} → WritesFront FromList files image settings inputs list last old new → before.misses ≤ after.misses → after.faults ≡ before.faults → Rises before.sink after.sink → Gives IsAnswer old new before after 5
-  output_gives {files} {last} {old} {new} {before} {after} w misses faults rises = fronted w.text w.outcome w.size old new before after (answers_of w.comes) w.fits w.front misses faults rises
+  output_gives : {last : S} {old new : Option (List ℕ)} {before after : Counts} → WritesFront answering files image settings inputs first last old new → before.misses ≤ after.misses → after.faults ≡ before.faults → Rises before.sink after.sink → Gives IsAnswer old new before after 5
+  output_gives {last} {old} {new} {before} {after} w misses faults rises = fronted w.text w.outcome w.size old new before after (answers_of _ _ _ w.comes) w.fits w.front misses faults rises
 
   -- what a run came to, and the line and the status behind it
-  pub outcome_gives : (files : Option Files) (last : ActList) (old mid new : Option (List ℕ)) (outcome : Result Ending RunFault) (m m' f f' k j k' status : ℕ) → RunWrites FromList files image settings inputs list last old mid outcome →
+  pub outcome_gives : (last : S) (old mid new : Option (List ℕ)) (outcome : Result Ending RunFault) (m m' f f' k j k' status : ℕ) → RunWrites answering files image settings inputs first last old mid outcome →
       RunCounts outcome (record { misses = m; faults = f; sink = k }) (record { misses = m'; faults = f'; sink = j }) → OutcomeGiven outcome mid new j k' status → Gives IsAnswer old new (record { misses = m; faults = f; sink = k }) (record { misses = m'; faults = f'; sink = k' }) status
-  outcome_gives files last old mid new (Ok ending) m m' f f' k j k' status w counts made = rw (made.1, made.2) (run_gives ending status w counts made.0)
-  outcome_gives files last old mid new (Err (faults.Line line code)) m m' f f' k j k' status w counts made = line_refused_gives line code m m' f f' k j k' status w counts made
-  outcome_gives files last old mid new (Err faults.Missing) m m' f f' k j k' status w counts made = absurd (never_missing old mid w)
-  outcome_gives files last old mid new (Err faults.ShelfFailed) m m' f f' k j k' status w counts made = rw (made.0, made.1, made.2) (files_failed w.nothing counts.0 counts.1 counts.2)
-  outcome_gives files last old mid new (Err faults.SinkFailed) m m' f f' k j k' status w counts made = rw (made.0, made.1, made.2) (output_gives w counts.0 counts.1 counts.2)
-  outcome_gives files last old mid new (Err faults.NoMemory) m m' f f' k j k' status w counts made = rw (made.0, made.1, made.2) (no_memory w.nothing counts.0 counts.1 counts.2)
+  outcome_gives last old mid new (Ok ending) m m' f f' k j k' status w counts made = rw (made.1, made.2) (run_gives ending status w counts made.0)
+  outcome_gives last old mid new (Err (faults.Line line code)) m m' f f' k j k' status w counts made = line_refused_gives line code m m' f f' k j k' status w counts made
+  outcome_gives last old mid new (Err faults.Missing) m m' f f' k j k' status w counts made = absurd (never_missing old mid w)
+  outcome_gives last old mid new (Err faults.ShelfFailed) m m' f f' k j k' status w counts made = rw (made.0, made.1, made.2) (files_failed w.nothing counts.0 counts.1 counts.2)
+  outcome_gives last old mid new (Err faults.SinkFailed) m m' f f' k j k' status w counts made = rw (made.0, made.1, made.2) (output_gives w counts.0 counts.1 counts.2)
+  outcome_gives last old mid new (Err faults.NoMemory) m m' f f' k j k' status w counts made = rw (made.0, made.1, made.2) (no_memory w.nothing counts.0 counts.1 counts.2)
 
--- ---- from lists to files
+-- ---- from supplies to files
 
--- an answer of a list is one of a run, where the options ask for that list
-pub list_run : (told : Option Files) (options : Options) (program : Program) (settings : Settings) (inputs : List ℤ) (list : ActList) → settings ≡ settings_of options → inputs ≡ inputs_of options → ((files : Files) → told ≡ Some files → acts_at files options.acts ≡ Some list) → (text : List ℕ) (status : ℕ) → ListAnswer program settings inputs list text status → Told told (λ files. RunAnswer files options program text status)
-list_run told options program settings inputs list same same_inputs there text status a = λ files is. acts list (there files is) (subst (λ xs. ListAnswer program (settings_of options) xs list text status) same_inputs (subst (λ s. ListAnswer program s inputs list text status) same a))
+-- an answer of a supply is one of a run, where the options ask for that supply
+pub supply_run : (told : Option Files) (options : Options) (program : Program) (settings : Settings) (inputs : List ℤ) (supply : Supply) → settings ≡ settings_of options → inputs ≡ inputs_of options → ((files : Files) → told ≡ Some files → supply_at files options.acts ≡ Some supply) → (text : List ℕ) (status : ℕ) → SupplyAnswer program settings inputs supply text status → Told told (λ files. RunAnswer files options program text status)
+supply_run told options program settings inputs supply same same_inputs there text status a = λ files is. acts supply (there files is) (subst (λ xs. SupplyAnswer program (settings_of options) xs supply text status) same_inputs (subst (λ s. SupplyAnswer program s inputs supply text status) same a))
 
 -- an answer of a program's code is one of the program
-pub code_run : (files : Files) (options : Options) (c : Core) (image : Image) → IsAcceptedCore c → KeepsMeaning (inserted c) image → MayRun options → {text : List ℕ} {status : ℕ} → RunAnswer files options (Coded image) text status → RunAnswer files options (Meant c) text status
-code_run files options c image is keeps may (acts_missing name e none) = acts_missing name e none
-code_run files options c image is keeps may (acts list at a) =
-    acts list at (meant_answer c image (settings_of options) (inputs_of options) list is keeps may.settings may.inputs (acts_there files options.acts list at) a)
+pub code_run : (files : Files) (options : Options) (c : Core) (image : Image) → IsAcceptedCore c → KeepsMeaning (inserted c) image → image.sandbox.funs ≡ [] → MayRun options → {text : List ℕ} {status : ℕ} → RunAnswer files options (Coded image) text status → RunAnswer files options (Meant c) text status
+code_run files options c image is keeps bare may (acts_missing name e none) = acts_missing name e none
+code_run files options c image is keeps bare may (acts supply at a) =
+    acts supply at (meant_answer c image (settings_of options) (inputs_of options) is keeps bare may.settings may.inputs supply (acts_there files options.acts supply at) a)
 
 -- ---- a file is read up to one byte more than a source may have
 

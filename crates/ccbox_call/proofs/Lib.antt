@@ -1,5 +1,4 @@
 pub mod Fronts
-pub mod OneAnswer
 pub mod Sized
 pub mod Lowering
 pub mod CodeEnds
@@ -8,9 +7,15 @@ pub mod Fitting
 pub mod Runs
 pub mod Formats
 pub mod PrintedCode
+pub mod Bare
 pub mod ListRuns
+pub mod OwnCode
+pub mod OwnRuns
+pub mod OneAnswer
+pub mod SuppliedRuns
 pub mod Giving
 pub mod CodeAnswers
 pub mod Calls
 pub mod SomeAnswer
 pub mod Processes
+pub mod OwnActs

@@ -16,22 +16,23 @@ use Rattle.region_typing_rules.specs.Cores.{checked}
 use Rattle.region_typing_rules.proofs.NamedItems.{all_named}
 use Rattle.ckc_core.specs.Core.{Core}
 use Rattle.act_words.specs.declared.ending.Ending.{Ending}
+use Rattle.act_words.specs.Acts.{Act}
 use Rattle.act_words.specs.Shown.{Shown}
 use Rattle.act_words.specs.World.{Event}
 use Rattle.code_words.specs.Fitting.{Fits}
 use Rattle.code_words.specs.Images.{Image}
-use Rattle.code_words.specs.Runs.{started}
-use Rattle.sandbox_actor.specs.ActLists.{ActList, acts_of_file}
+use Rattle.sandbox_actor.specs.ActLists.{acts_of_file}
 use Rattle.ccbox_call_words.specs.Requests.{Request, Run, Options, file_of, is_of_source, settings_of, inputs_of, request_of}
 use Rattle.ccbox_call_words.specs.Requests as requests
 use Rattle.ccbox_call.specs.Acceptance.{HasTree, Accepts, CoreOrFault, no_tokens, no_tree, not_built, misnamed, breaks}
-use Rattle.ccbox_call.specs.Answers.{acts_at, AsksToRunCore, ran, RunAnswer, acts_missing, acts, says_so, lists, ExecAnswer, unfit, fits, refused, accepted, refused_at, spells, missing, is_there, AskedOfCore, BytesAnswer, Answer, usage, asked}
+use Rattle.ccbox_call.specs.Supplies.{Supply, Listed, supply_at, Supplied}
+use Rattle.ccbox_call.specs.Answers.{AsksToRunCore, ran, RunAnswer, acts_missing, acts, says_so, lists, ExecAnswer, unfit, fits, refused, accepted, refused_at, spells, missing, is_there, AskedOfCore, BytesAnswer, Answer, usage, asked}
 use Rattle.ccbox_call.specs.Programs.{Program, Meant, Coded, Runs}
 use Rattle.ccbox_call.specs.ReadListings.{Spells, ImageOrRefusal}
-use Rattle.ccbox_call.proofs.CodeEnds.{HasEnd, run_ends}
 use Rattle.ccbox_call.proofs.Fitting.{fits_or_not}
 use Rattle.ccbox_call.proofs.ReadListings.{some_image_or_line}
-use Rattle.ccbox_call.proofs.Runs.{ends_over, listing_may_run}
+use Rattle.ccbox_call.proofs.Runs.{listing_may_run}
+use Rattle.ccbox_call.proofs.SuppliedRuns.{ends_over, image_ends_over}
 
 -- ---- a source has a core or a fault
 
@@ -71,35 +72,36 @@ HasAnswer files words = (text : List ℕ) × (status : ℕ) × Answer files word
 abbrev HasSome : Files → Request → Core → Type 0
 HasSome files request c = (text : List ℕ) × (status : ℕ) × AskedOfCore files request c text status
 
--- so has a program whose run ends over each list
+-- so has a program whose run ends with each supply
 abbrev HasRun : Files → Options → Program → Type 0
 HasRun files options program = (text : List ℕ) × (status : ℕ) × RunAnswer files options program text status
 
-abbrev EndsOver : Options → Program → ActList → Type 0
-EndsOver options program list = (ending : Ending) × (events : List Event) × (blocks : List Shown) × Runs program (settings_of options) (inputs_of options) list.acts ending events blocks
+abbrev EndsOver : Options → Program → Supply → Type 0
+EndsOver options program supply =
+    (acts : List Act) × (ending : Ending) × (events : List Event) × (blocks : List Shown) × Runs program (settings_of options) (inputs_of options) acts ending events blocks × Supplied program (settings_of options) supply acts events
 
-module _ (files : Files) (options : Options) (program : Program) (over : (list : ActList) → acts_at files options.acts ≡ Some list → EndsOver options program list) where
-  by_file : (name : List ℕ) → options.acts ≡ Some name → acts_at files (Some name) ≡ None → (o : Option (List ℕ)) → file_at files name ≡ o → HasRun files options program
+module _ (files : Files) (options : Options) (program : Program) (over : (supply : Supply) → supply_at files options.acts ≡ Some supply → EndsOver options program supply) where
+  by_file : (name : List ℕ) → options.acts ≡ Some name → supply_at files (Some name) ≡ None → (o : Option (List ℕ)) → file_at files name ≡ o → HasRun files options program
   by_file name e none None gone = (_, _, acts_missing name e gone)
-  by_file name e none (Some text) found = let wrong : None ≡ Some (acts_of_file text) = sym none ∙ ap (option_map acts_of_file) found in cc
+  by_file name e none (Some text) found = let wrong : None ≡ Some (Listed (acts_of_file text)) = sym none ∙ ap (option_map (λ file. Listed (acts_of_file file))) found in cc
 
-  by_acts : (o : Option (List ℕ)) → options.acts ≡ o → (list : Option ActList) → acts_at files o ≡ list → HasRun files options program
-  by_acts None e None acts_are = absurd (cc)
-  by_acts (Some name) e None acts_are = by_file name e acts_are (file_at files name) refl
-  by_acts o e (Some list) acts_are =
-      let at : acts_at files options.acts ≡ Some list = ap (acts_at files) e ∙ acts_are in
-      let end = over list at in
-      (_, _, acts list at (ran end.0 end.1 end.2 end.3))
+  by_acts : (o : Option (List ℕ)) → options.acts ≡ o → (supply : Option Supply) → supply_at files o ≡ supply → HasRun files options program
+  by_acts None e None supply_is = absurd (cc)
+  by_acts (Some name) e None supply_is = by_file name e supply_is (file_at files name) refl
+  by_acts o e (Some supply) supply_is =
+      let at : supply_at files options.acts ≡ Some supply = ap (supply_at files) e ∙ supply_is in
+      let end = over supply at in
+      (_, _, acts supply at (ran end.0 end.1 end.2 end.3 end.4 end.5))
 
   some_run : HasRun files options program
-  some_run = by_acts options.acts refl (acts_at files options.acts) refl
+  some_run = by_acts options.acts refl (supply_at files options.acts) refl
 
 module _ (files : Files) (words : List (List ℕ)) where
-  core_ends : (name : List ℕ) (options : Options) (src : List ℕ) (c : Core) → request_of words ≡ Some (Run name options) → file_at files name ≡ Some src → Accepts src c → (list : ActList) → acts_at files options.acts ≡ Some list → EndsOver options (Meant c) list
-  core_ends name options src c request at is list acts_are =
+  core_ends : (name : List ℕ) (options : Options) (src : List ℕ) (c : Core) → request_of words ≡ Some (Run name options) → file_at files name ≡ Some src → Accepts src c → (supply : Supply) → supply_at files options.acts ≡ Some supply → EndsOver options (Meant c) supply
+  core_ends name options src c request at is supply supply_is =
       let asks : AsksToRunCore files words options c = record { name = name; src = src; request = request; there = at; accepted = is } in
-      let end = ends_over files words options list c (record { asks = asks; acts_are = acts_are }) in
-      (end.0, _, _, record { last = end.1; runs = end.2; events_are = refl; blocks_are = refl })
+      let end = ends_over files words options c supply (record { asks = asks; supply_is = supply_is }) in
+      (end.acts, end.ending, (end.last).world.events, _, record { last = end.last; runs = end.runs; events_are = refl; blocks_are = refl }, end.supplied)
 
   by_core : (request : Request) (src : List ℕ) (c : Core) → is_of_source request ≡ true → request_of words ≡ Some request → file_at files (file_of request) ≡ Some src → Accepts src c → HasSome files request c
   by_core (requests.Check name) src c of_source e at is = (_, _, says_so)
@@ -107,14 +109,14 @@ module _ (files : Files) (words : List (List ℕ)) where
   by_core (Run name options) src c of_source e at is = some_run files options (Meant c) (core_ends name options src c e at is)
   by_core (requests.Exec name options) src c of_source e at is = absurd (cc)
 
-  image_ends : (options : Options) (listed : List ℕ) (image : Image) → Spells listed image → (list : ActList) → EndsOver options (Coded image) list
-  image_ends options listed image a list =
-      let end : HasEnd image (settings_of options) a.paced (started image (settings_of options) (inputs_of options) list.acts) = run_ends image (settings_of options) a.paced (inputs_of options) list.acts in
-      (end.ending, _, _, record { last = end.last; runs = (end.steps, end.ends); events_are = refl; blocks_are = refl })
+  image_ends : (options : Options) (listed : List ℕ) (image : Image) → Spells listed image → (supply : Supply) → EndsOver options (Coded image) supply
+  image_ends options listed image a supply =
+      let end = image_ends_over options image a.paced supply in
+      (end.acts, end.ending, (end.last).world.events, _, record { last = end.last; runs = end.runs; events_are = refl; blocks_are = refl }, end.supplied)
 
   by_fit : (options : Options) (listed : List ℕ) (image : Image) → Spells listed image → Fits image (settings_of options) ⊎ (Fits image (settings_of options) → ⊥) → (text : List ℕ) × (status : ℕ) × ExecAnswer files options image text status
   by_fit options listed image a (inl f) =
-      let run = some_run files options (Coded image) (λ list at. image_ends options listed image a list) in
+      let run = some_run files options (Coded image) (λ supply at. image_ends options listed image a supply) in
       (run.0, run.1, fits f run.2)
   by_fit options listed image a (inr misfit) = (_, _, unfit misfit)
 

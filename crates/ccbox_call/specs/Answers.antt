@@ -1,5 +1,5 @@
 -- The Answer of the words over files: a text and a status. And what a call says of it.
-use Rattle.std.specs.Prelude.{◌≡◌, ℕ, ◌<◌, ◌≤◌, ◌⊎◌, Bool, true, false, List, ◌++◌, length, take, replicate, Option, Some, None, option_map}
+use Rattle.std.specs.Prelude.{◌≡◌, ℕ, ◌<◌, ◌≤◌, ◌⊎◌, Bool, true, false, List, ◌++◌, length, take, replicate, Option, Some, None}
 use Rattle.std.proofs.Common.{ℤ}
 use Rattle.ckc_io.specs.Files.{Files, file_at}
 use Rattle.ckc_io.specs.Written.{grown}
@@ -24,10 +24,9 @@ use Rattle.code_words.specs.Fitting.{Fits}
 use Rattle.code_words.specs.Images.{Image}
 use Rattle.code_words.specs.Runs.{CodeRun, memory_of}
 use Rattle.code_words.specs.Table as machine
-use Rattle.sandbox_actor.specs.Answers.{Moment}
-use Rattle.sandbox_actor.specs.ActLists.{ActList, RefusedLine, no_acts, acts_of_file}
+use Rattle.sandbox_actor.specs.ActLists.{RefusedLine}
 use Rattle.run_core_transcript.specs.Texts.{run_text, front_text}
-use Rattle.run_core.specs.Moments.{due_in, before_due}
+use Rattle.run_core.specs.Moments.{before_due}
 use Rattle.check_insertion.specs.Insert.{inserted}
 use Rattle.code_words_listing.specs.Listings.{listing}
 use Rattle.lowering_code.specs.Correct.{blocks_meant}
@@ -39,21 +38,9 @@ use Rattle.ccbox_call_words.specs.Statuses.{status_of}
 use Rattle.ccbox_call.specs.Acceptance.{Accepts, IsRefused}
 use Rattle.ccbox_call.specs.Programs.{Program, Meant, Coded, RunsTo, Runs}
 use Rattle.ccbox_call.specs.ReadListings.{Spells, IsRefusedAt}
+use Rattle.ccbox_call.specs.Supplies.{Supply, supply_at, Supplied, needed_line}
 
 -- ---- runs
-
--- the acts that an option asks for, where its file is there
-abbrev pub acts_at : Files → Option (List ℕ) → Option ActList
-acts_at files None = Some no_acts
-acts_at files (Some name) = option_map acts_of_file (file_at files name)
-
--- the line that a run needs and that is refused: an act was due behind the last, and there a line is refused
-abbrev pub needed_from : Option Moment → ActList → Option RefusedLine
-needed_from None list = None
-needed_from (Some moment) list = list.refused
-
-abbrev pub needed_line : ActList → List Event → Option RefusedLine
-needed_line list events = needed_from (due_in events) list
 
 -- the text of a run with these events and these last blocks: up to its end, or up to the act that is refused
 abbrev pub text_with : Settings → Option RefusedLine → List Event → Ending → List Shown → List ℕ
@@ -67,17 +54,18 @@ status_with (Some refused) ending = 8
 
 -- ---- the Answer
 
--- the text and the status of a program with input numbers over a list of acts
-pub data ListAnswer (program : Program) (settings : Settings) (inputs : List ℤ) (list : ActList) : List ℕ → ℕ → Type 0 where
-  ran : (ending : Ending) (events : List Event) (blocks : List Shown) → Runs program settings inputs list.acts ending events blocks
-      → ListAnswer program settings inputs list (text_with settings (needed_line list events) events ending blocks)
-      (status_with (needed_line list events) ending)
+-- the text and the status of a program with input numbers, whose acts come from a supply
+pub data SupplyAnswer (program : Program) (settings : Settings) (inputs : List ℤ) (supply : Supply) : List ℕ → ℕ → Type 0 where
+  ran : (acts : List Act) (ending : Ending) (events : List Event) (blocks : List Shown) → Runs program settings inputs acts ending events blocks
+      → Supplied program settings supply acts events
+      → SupplyAnswer program settings inputs supply (text_with settings (needed_line supply events) events ending blocks)
+      (status_with (needed_line supply events) ending)
 
 -- of a program whose run is asked for
 pub data RunAnswer (files : Files) (options : Options) (program : Program) : List ℕ → ℕ → Type 0 where
   acts_missing : (name : List ℕ) → options.acts ≡ Some name → file_at files name ≡ None → RunAnswer files options program (missing_text name) 3
-  acts : {text : List ℕ} {status : ℕ} (list : ActList) → acts_at files options.acts ≡ Some list
-      → ListAnswer program (settings_of options) (inputs_of options) list text status → RunAnswer files options program text status
+  acts : {text : List ℕ} {status : ℕ} (supply : Supply) → supply_at files options.acts ≡ Some supply
+      → SupplyAnswer program (settings_of options) (inputs_of options) supply text status → RunAnswer files options program text status
 
 -- of a core that is checked
 pub data CheckAnswer : List ℕ → ℕ → Type 0 where
@@ -211,10 +199,10 @@ abbrev pub AsksToRun : Files → List (List ℕ) → Options → Program → Typ
 AsksToRun files words options (Meant c) = AsksToRunCore files words options c
 AsksToRun files words options (Coded image) = AsksToRunImage files words options image
 
--- over these acts
-pub record AsksFor (files : Files) (words : List (List ℕ)) (options : Options) (list : ActList) (program : Program) : Type 0 where
+-- with its acts from here
+pub record AsksFor (files : Files) (words : List (List ℕ)) (options : Options) (supply : Supply) (program : Program) : Type 0 where
   pub asks : AsksToRun files words options program
-  pub acts_are : acts_at files options.acts ≡ Some list
+  pub supply_is : supply_at files options.acts ≡ Some supply
 
 abbrev pub SourceIsRefused : Files → List (List ℕ) → Type 0
 SourceIsRefused files words =
@@ -245,9 +233,9 @@ CodeIsListed files words = (name : List ℕ) × (c : Core) × AsksOf files words
 -- a run is asked for, and ends so, or needs this refused line before
 abbrev pub RunEndsWith : Files → List (List ℕ) → Option RefusedLine → Ending → Type 0
 RunEndsWith files words needed ending =
-    (options : Options) × (list : ActList) × (program : Program) × (events : List Event) × (blocks : List Shown)
-    × AsksFor files words options list program × Runs program (settings_of options) (inputs_of options) list.acts ending events blocks
-    × (needed_line list events ≡ needed)
+    (options : Options) × (supply : Supply) × (program : Program) × (acts : List Act) × (events : List Event) × (blocks : List Shown)
+    × AsksFor files words options supply program × Runs program (settings_of options) (inputs_of options) acts ending events blocks
+    × Supplied program (settings_of options) supply acts events × (needed_line supply events ≡ needed)
 
 abbrev pub RunExits : Files → List (List ℕ) → Type 0
 RunExits files words = (value : ℤ) × RunEndsWith files words None (Exit value)
@@ -287,44 +275,49 @@ pub record Tells (status n old new : ℕ) (Among : Type 0) : Type 0 where
 abbrev pub ViewIsFoldOf : List ℕ → List Act → List Event → Type 0
 ViewIsFoldOf start taken events = view_of events ≡ view_fold start taken (releases_of events)
 
--- the text of a program's run over a list is printed, with its status, unless something fails
-abbrev pub IsPrinted : Options → ActList → Ending → List Event → List Shown → Option (List ℕ) → Option (List ℕ) → ℕ → Type 0
-IsPrinted options list ending events blocks old new status =
-    ((status ≡ status_with (needed_line list events) ending)
-    × (new ≡ grown old (text_with (settings_of options) (needed_line list events) events ending blocks))) ⊎ IsFailure status
+-- the text of a program's run is printed, with its status, unless something fails
+abbrev pub IsPrinted : Options → Supply → Ending → List Event → List Shown → Option (List ℕ) → Option (List ℕ) → ℕ → Type 0
+IsPrinted options supply ending events blocks old new status =
+    ((status ≡ status_with (needed_line supply events) ending)
+    × (new ≡ grown old (text_with (settings_of options) (needed_line supply events) events ending blocks))) ⊎ IsFailure status
 
--- the run of an accepted source is never stuck, and each pointer in it is valid with its bounds; what the sandbox is shown is the
--- fold of its starting memory, the acts that were taken and the releases, and so is what it is shown up to a refused line that the
--- run needs; and the text of the run is printed, unless something fails
-pub record PrintsRun (options : Options) (list : ActList) (c : Core) (old new : Option (List ℕ)) (status : ℕ) : Type 0 where
+-- the run of an accepted source, whose acts come from a supply, is never stuck, and each pointer in it is valid with its bounds; what
+-- the sandbox is shown is the fold of its starting memory, the acts that were taken and the releases, and so is what it is shown up to
+-- a refused line that the run needs; and the text of the run is printed, unless something fails
+pub record PrintsRun (options : Options) (supply : Supply) (c : Core) (old new : Option (List ℕ)) (status : ℕ) : Type 0 where
+  pub acts : List Act
   pub ending : Ending
   pub last : meant.State
-  pub runs : RunsTo c (settings_of options) (inputs_of options) list.acts ending last
-  pub audited : audited_meaning c (settings_of options) (inputs_of options) list.acts ≡ Ends ending last
-  pub view : ViewIsFold (replicate (settings_of options).sandbox 0) list.acts last.world
-  pub view_before : (refused : RefusedLine) → needed_line list last.world.events ≡ Some refused
-      → ViewIsFoldOf (replicate (settings_of options).sandbox 0) list.acts (before_due last.world.events)
-  pub printed : IsPrinted options list ending last.world.events (blocks_meant (settings_of options).base last) old new status
+  pub runs : RunsTo c (settings_of options) (inputs_of options) acts ending last
+  pub supplied : Supplied (Meant c) (settings_of options) supply acts last.world.events
+  pub audited : audited_meaning c (settings_of options) (inputs_of options) acts ≡ Ends ending last
+  pub view : ViewIsFold (replicate (settings_of options).sandbox 0) acts last.world
+  pub view_before : (refused : RefusedLine) → needed_line supply last.world.events ≡ Some refused
+      → ViewIsFoldOf (replicate (settings_of options).sandbox 0) acts (before_due last.world.events)
+  pub printed : IsPrinted options supply ending last.world.events (blocks_meant (settings_of options).base last) old new status
 
 abbrev pub PrintedRun : Files → List (List ℕ) → Option (List ℕ) → Option (List ℕ) → ℕ → Type 0
 PrintedRun files words old new status =
-    (options : Options) (list : ActList) (c : Core) → AsksFor files words options list (Meant c) → PrintsRun options list c old new status
+    (options : Options) (supply : Supply) (c : Core) → AsksFor files words options supply (Meant c) → PrintsRun options supply c old new status
 
--- the run of a listing whose image fits ends, whoever wrote it; what the sandbox is shown is the fold of its starting memory, in which
--- its static blocks stand, the acts that were taken and the releases, and so is what it is shown up to a refused line that the run
--- needs; and the text of the run is printed, unless something fails
-pub record PrintsImageRun (options : Options) (list : ActList) (image : Image) (old new : Option (List ℕ)) (status : ℕ) : Type 0 where
+-- the run of a listing whose image fits ends, whoever wrote it and wherever its acts come from; what the sandbox is shown is the fold
+-- of its starting memory, in which its static blocks stand, the acts that were taken and the releases, and so is what it is shown up to
+-- a refused line that the run needs; and the text of the run is printed, unless something fails
+pub record PrintsImageRun (options : Options) (supply : Supply) (image : Image) (old new : Option (List ℕ)) (status : ℕ) : Type 0 where
+  pub acts : List Act
   pub ending : Ending
   pub last : machine.State
-  pub runs : CodeRun image (settings_of options) (inputs_of options) list.acts ending last
-  pub view : ViewIsFold (memory_of (settings_of options).sandbox image.sandbox.blocks) list.acts last.world
-  pub view_before : (refused : RefusedLine) → needed_line list last.world.events ≡ Some refused
-      → ViewIsFoldOf (memory_of (settings_of options).sandbox image.sandbox.blocks) list.acts (before_due last.world.events)
-  pub printed : IsPrinted options list ending last.world.events (blocks_held last) old new status
+  pub runs : CodeRun image (settings_of options) (inputs_of options) acts ending last
+  pub supplied : Supplied (Coded image) (settings_of options) supply acts last.world.events
+  pub view : ViewIsFold (memory_of (settings_of options).sandbox image.sandbox.blocks) acts last.world
+  pub view_before : (refused : RefusedLine) → needed_line supply last.world.events ≡ Some refused
+      → ViewIsFoldOf (memory_of (settings_of options).sandbox image.sandbox.blocks) acts (before_due last.world.events)
+  pub printed : IsPrinted options supply ending last.world.events (blocks_held last) old new status
 
 abbrev pub PrintedImageRun : Files → List (List ℕ) → Option (List ℕ) → Option (List ℕ) → ℕ → Type 0
 PrintedImageRun files words old new status =
-    (options : Options) (list : ActList) (image : Image) → AsksFor files words options list (Coded image) → PrintsImageRun options list image old new status
+    (options : Options) (supply : Supply) (image : Image) → AsksFor files words options supply (Coded image)
+    → PrintsImageRun options supply image old new status
 
 -- where the words ask whether an accepted source is accepted, the line that says so is printed, unless something fails
 abbrev pub PrintedAccepted : Files → List (List ℕ) → Option (List ℕ) → Option (List ℕ) → ℕ → Type 0

@@ -1,6 +1,8 @@
 pub mod Acceptance
 pub mod ReadListings
 pub mod Programs
+pub mod Supplies
+pub mod OwnExamples
 pub mod Answers
 pub mod PrintedCode
 pub mod Words

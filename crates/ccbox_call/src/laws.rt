@@ -10,6 +10,7 @@ ghost use Rattle.code_words.specs.Images.{Image};
 ghost use Rattle.ccbox_call.specs.Answers.{Answer};
 ghost use Rattle.ccbox_call.specs.ReadListings.{Spells, IsRefusedAt, ImageOrRefusal};
 ghost use Rattle.ccbox_call.specs.PrintedCode.{RunsAsSource};
+ghost use Rattle.ccbox_call.specs.OwnExamples as examples;
 
 /// A source has one core at most, or one fault at most and no core; so has a listing one image, or one refused line and no image; and
 /// words have one text and one status at most.
@@ -36,4 +37,15 @@ pub fn some_answer()
 /// Words that ask to run the listing of a source's code have the Answer of those that ask to run the source with the same options.
 pub fn code_runs_as_source()
     ensures { RunsAsSource }
+{}
+
+/// The acts of small functions of the sandbox, one that stores, one that calls back, one that divides by 0 and one that isn't there,
+/// and those of a source, worked out from the definition.
+pub fn own_code()
+    ensures stores { examples.stores }
+    ensures asks { examples.asks }
+    ensures divides { examples.divides }
+    ensures lacks { examples.lacks }
+    ensures no_others { examples.no_others }
+    ensures bodiless { examples.bodiless }
 {}

@@ -6,7 +6,8 @@ ghost use Rattle.ckc_core.specs.Core.{core};
 ghost use Rattle.ccbox_call.specs.Acceptance.{IsAcceptedCore};
 ghost use Rattle.code_words.specs.Fitting.{Fits};
 ghost use Rattle.code_words.specs.Paced.{is_paced};
-ghost use Rattle.ccbox_call.specs.Answers.{ListAnswer, RunAnswer};
+ghost use Rattle.ccbox_call.specs.Answers.{SupplyAnswer, RunAnswer};
+ghost use Rattle.ccbox_call.specs.Supplies.{Listed, Own};
 ghost use Rattle.ccbox_call.specs.Programs.{Meant, Coded};
 ghost use Rattle.ccbox_call_words.specs.Requests.{Run, settings_of};
 ghost use Rattle.ccbox_call_words.specs.Statuses.{number_of};
@@ -27,6 +28,7 @@ use code_words::image::Image;
 use run_core::run::run;
 use sandbox_actor::actor::ActorFault;
 use sandbox_actor::list_actor::ListActor;
+use sandbox_actor_code::code_actor::CodeActor;
 use std::alloc::Global;
 
 /// Runs the program of a file.
@@ -70,7 +72,7 @@ fn run_program<F: Shelf, K: Sink>(
     }
 }
 
-/// Runs an image with the acts that the options ask for.
+/// Runs an image with the acts that the options ask for: those of a file, or of the sandbox's own code.
 pub fn run_image<F: Shelf, K: Sink>(
     alloc: Global,
     image: &Image,
@@ -92,11 +94,10 @@ pub fn run_image<F: Shelf, K: Sink>(
     };
     let inputs = inputs.as_slice();
     let Some(name) = options.acts else {
-        let mut actor = ListActor::empty(alloc);
-        return run_with(alloc, image, &settings, inputs, &mut actor, shelf, sink);
+        return run_own(alloc, image, &settings, inputs, shelf, sink);
     };
     match ListActor::start(alloc, shelf, name) {
-        Ok(mut actor) => run_with(alloc, image, &settings, inputs, &mut actor, shelf, sink),
+        Ok(mut actor) => run_listed(alloc, image, &settings, inputs, &mut actor, shelf, sink),
         Err(ActorFault::Missing) => give_missing(alloc, name, sink),
         Err(ActorFault::Failed) => Status::FilesFailed,
         Err(ActorFault::NoMemory) => Status::NoMemory,
@@ -105,8 +106,8 @@ pub fn run_image<F: Shelf, K: Sink>(
     }
 }
 
-// Runs an image with an actor.
-fn run_with<F: Shelf, K: Sink>(
+// Runs an image with the acts of a list.
+fn run_listed<F: Shelf, K: Sink>(
     alloc: Global,
     image: &Image,
     settings: &Settings,
@@ -118,11 +119,36 @@ fn run_with<F: Shelf, K: Sink>(
     requires fits { Fits image.now settings.now }
     requires plain { settings.now.code ≡ false }
     requires paced { IsTrue (is_paced image.now) }
-    ensures { Gives (ListAnswer (Coded image.now) settings.now inputs.now actor.old)
+    ensures { Gives (SupplyAnswer (Coded image.now) settings.now inputs.now (Listed actor.old))
         (K.written sink.old) (K.written sink.new)
         (record { misses = F.misses shelf.old; faults = F.faults shelf.old; sink = K.faults sink.old })
         (record { misses = F.misses shelf.new; faults = F.faults shelf.new; sink = K.faults sink.new }) (number_of result) }
 {
     let outcome = run(alloc, image, settings, inputs, actor, shelf, sink);
     give_outcome(alloc, outcome, sink)
+}
+
+// Runs an image with the sandbox's own code.
+fn run_own<F: Shelf, K: Sink>(
+    alloc: Global,
+    image: &Image,
+    settings: &Settings,
+    inputs: &[i32],
+    shelf: &mut F,
+    sink: &mut K,
+) -> Status
+    requires fits { Fits image.now settings.now }
+    requires plain { settings.now.code ≡ false }
+    ensures { Gives (SupplyAnswer (Coded image.now) settings.now inputs.now Own)
+        (K.written sink.old) (K.written sink.new)
+        (record { misses = F.misses shelf.old; faults = F.faults shelf.old; sink = K.faults sink.old })
+        (record { misses = F.misses shelf.new; faults = F.faults shelf.new; sink = K.faults sink.new }) (number_of result) }
+{
+    match CodeActor::start(alloc, image, settings.budget) {
+        Ok(mut actor) => {
+            let outcome = run(alloc, image, settings, inputs, &mut actor, shelf, sink);
+            give_outcome(alloc, outcome, sink)
+        }
+        Err(NoMemory) => Status::NoMemory,
+    }
 }

@@ -141,6 +141,25 @@ pub fn main_prints(alloc: Global, row: &str, expected: &str) -> bool {
     prints(alloc, words, acts, listing.as_str(), expected)
 }
 
+// What stands before and behind the instructions of the sandbox of a case: a `main` that returns what they give it for 6 and 3, a
+// callback that prints a number and replies the next one, and one that prints a letter; a function that adds 10, and four bytes.
+const BEFORE_SANDBOX: &str =
+    "ccbox listing 1\ntrusted\nimport 0 h args 2 result int\nimport 1 k args 1 result int\ncallback 0 fun 1 args 1 result int\narg int @2:1\ncallback 1 fun 2 args 0 result void\nfun 0 main args 0 slots 0 stack 2 result int\nconst 6\nconst 3\ntick\ntcall 0 @1:1\nret\nend\nfun 1 c args 1 slots 1 stack 2 result int\nlocal 0\nprint\nlocal 0\nconst 1\nadd @2:2\nret\nend\nfun 2 v args 0 slots 0 stack 1 result void\nconst 65\nputc\nretv\nend\nmain 0\nsandbox\nblock 0 4 01020304\nfun 0 h args 2 slots 3 stack 4 result int\n";
+
+const BEHIND_SANDBOX: &str =
+    "\nend\nfun 1 k args 1 slots 1 stack 2 result int\nlocal 0\nconst 10\nwadd\nret\nend\nclose\n";
+
+/// Whether the run of a listing with its own sandbox code prints this, which has these instructions, with small memories and few
+/// ticks.
+pub fn sandbox_prints(alloc: Global, instructions: &str, expected: &str) -> bool {
+    let mut listing = String::new(alloc);
+    for piece in [BEFORE_SANDBOX, instructions, BEHIND_SANDBOX] {
+        add(&mut listing, piece);
+    }
+    let words = "exec a.c --sandbox 65536 --trusted 65536 --budget 2000";
+    prints(alloc, words, "", listing.as_str(), expected)
+}
+
 // What stands before and behind the statements of a case.
 const BEFORE: &str =
     "struct s { int a; ptr<struct s> n; }; struct s v; ptr<struct s> p; int g; int f(int a, ptr<int> b) { return a; } void h(void) { } _Tainted int t(int a);\nint main(void) {\n";

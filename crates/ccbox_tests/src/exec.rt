@@ -13,8 +13,7 @@ use std::test::Fail;
 
 // Words that ask for nothing.
 const REFUSED: &str = "[usage] ccbox check|split|run|record|big|exec@exec@@
-[usage] ccbox check|split|run|record|big|exec@exec a.c@@ccbox listing 1¶trusted¶fun 0 main args 0 slots 0 stack 1 result int¶const 7¶ret¶end¶main 0¶sandbox¶close¶
-[usage] ccbox check|split|run|record|big|exec@exec a.c --view@@ccbox listing 1¶trusted¶fun 0 main args 0 slots 0 stack 1 result int¶const 7¶ret¶end¶main 0¶sandbox¶close¶
+[usage] ccbox check|split|run|record|big|exec@exec --view@@
 [usage] ccbox check|split|run|record|big|exec@exec --acts f@@
 [usage] ccbox check|split|run|record|big|exec@exec -a --acts f@@
 [usage] ccbox check|split|run|record|big|exec@exec a.c --acts f --acts f@@
@@ -96,6 +95,106 @@ A¶[exit 0]@@const 65¶putc¶const 0¶ret
 [stop S6 wild step]@@const 1¶const 1¶wdiv¶ret
 [stop S6 wild step]@@drop";
 
+// Each instruction of the sandbox once, called with 6 and 3 by a `main` that returns what comes back; and what makes the act `stop`:
+// a divisor of 0, the last tick, a step that leads nowhere; and accesses past the end of the sandbox's memory.
+const SANDBOX: &str = "[exit 6]@local 0¶ret
+[exit 3]@local 1¶ret
+[exit 0]@local 2¶ret
+[exit -1]@const -1¶ret
+[exit 9]@const 9¶set 2¶local 2¶ret
+[exit 6]@local 0¶local 1¶drop¶ret
+[exit 12]@local 0¶dup¶wadd¶ret
+[exit 16]@saddr 0¶ret
+[exit 9]@local 0¶local 1¶wadd¶ret
+[exit -2147483648]@const 2147483647¶const 1¶wadd¶ret
+[exit 3]@local 0¶local 1¶wsub¶ret
+[exit 18]@local 0¶local 1¶wmul¶ret
+[exit -6]@local 0¶wneg¶ret
+[exit 48]@local 0¶local 1¶wshl¶ret
+[exit 12]@local 0¶const 33¶wshl¶ret
+[exit 3]@local 0¶const 1¶wshr¶ret
+[exit -3]@const -7¶const 2¶wdiv¶ret
+[exit -2147483648]@const -2147483648¶const -1¶wdiv¶ret
+[stop S3 sandbox ended]@local 0¶const 0¶wdiv¶ret
+[exit -1]@const -7¶const 2¶wrem¶ret
+[exit 0]@const -2147483648¶const -1¶wrem¶ret
+[stop S3 sandbox ended]@local 0¶const 0¶wrem¶ret
+[exit 2]@local 0¶local 1¶and¶ret
+[exit 7]@local 0¶local 1¶or¶ret
+[exit 5]@local 0¶local 1¶xor¶ret
+[exit -7]@local 0¶not¶ret
+[exit 0]@local 0¶local 1¶eq¶ret
+[exit 1]@local 0¶local 1¶ne¶ret
+[exit 1]@const -1¶const 1¶lt¶ret
+[exit 1]@const 1¶const 1¶le¶ret
+[exit 0]@const -1¶const 1¶gt¶ret
+[exit 0]@const -1¶const 1¶ge¶ret
+[exit 0]@const -1¶const 1¶ult¶ret
+[exit 1]@const 1¶const 1¶ule¶ret
+[exit 1]@const -1¶const 1¶ugt¶ret
+[exit 1]@const -1¶const 1¶uge¶ret
+[exit 1]@local 2¶zero¶ret
+[exit 0]@local 0¶zero¶ret
+[exit 3]@const 259¶byte¶ret
+[exit 18]@local 0¶local 1¶index 4¶ret
+[exit 1]@saddr 0¶ld1¶ret
+[exit 67305985]@saddr 0¶ld4¶ret
+[exit 67305993]@saddr 0¶const 265¶st1¶saddr 0¶ld4¶ret
+[exit 9]@saddr 0¶const 9¶st4¶saddr 0¶ld4¶ret
+[exit 1]@const 1¶jump 3¶const 2¶ret
+[exit 2]@local 2¶jzero 4¶const 1¶ret¶const 2¶ret
+[exit 1]@local 0¶jzero 4¶const 1¶ret¶const 2¶ret
+[exit 16]@local 0¶tick¶call 1¶ret
+6¶[exit 7]@local 0¶ccall 0¶ret
+A¶[exit 8]@ccall 1¶const 8¶ret
+6¶7¶[exit 8]@local 0¶ccall 0¶ccall 0¶ret
+[exit 0]@retv
+[exit 6]@tick¶local 0¶ret
+[stop S3 sandbox ended]@tick¶jump 0
+[stop S3 sandbox ended]@local 0¶local 1¶tick¶call 0¶ret
+[exit 0]@const 65535¶ld1¶ret
+[stop S4 act 2 sandbox access]@const 65536¶ld1¶ret
+[stop S4 act 2 sandbox access]@const 65533¶ld4¶ret
+[stop S4 act 2 sandbox access]@const 65536¶const 1¶st1¶const 0¶ret
+[stop S4 act 4 sandbox access]@saddr 0¶ld1¶drop¶saddr 0¶const 1¶st1¶const -1¶ld1¶ret
+6¶[stop S4 act 4 sandbox access]@local 0¶ccall 0¶drop¶const -1¶ld1¶ret
+[stop S3 sandbox ended]@ret
+[stop S3 sandbox ended]@local 0
+[stop S3 sandbox ended]@local 3¶ret
+[stop S3 sandbox ended]@local 0¶set 3¶local 0¶ret
+[stop S3 sandbox ended]@const 1¶const 2¶const 3¶const 4¶const 5¶ret
+[stop S3 sandbox ended]@saddr 1¶ret
+[stop S3 sandbox ended]@jump 9
+[stop S3 sandbox ended]@tick¶call 2
+[stop S3 sandbox ended]@ccall 2¶ret
+[stop S3 sandbox ended]@ccall 0¶ret
+[stop S3 sandbox ended]@local 0¶local 1¶add @1:1¶ret
+[stop S3 sandbox ended]@gaddr 0¶ret
+[stop S3 sandbox ended]@local 0¶nonnull @1:1¶ret
+[stop S3 sandbox ended]@local 0¶tld1¶ret
+[stop S3 sandbox ended]@local 0¶print¶local 0¶ret
+[stop S3 sandbox ended]@local 0¶salloc 1¶ret";
+
+// Runs of listings with their own code: without any, and with code that isn't asked; a function without code, and one that takes
+// another count of words; 1,000 open calls of the sandbox, and one more; as many ticks as the budget has, and one more; a callback
+// that spends the last tick of the trusted side; and a result that isn't a character.
+const OWN: &str =
+    "[exit 7]@exec a.c@@ccbox listing 1¶trusted¶fun 0 main args 0 slots 0 stack 1 result int¶const 7¶ret¶end¶main 0¶sandbox¶close¶
+[exit 7]@exec a.c --view --releases@@ccbox listing 1¶trusted¶fun 0 main args 0 slots 0 stack 1 result int¶const 7¶ret¶end¶main 0¶sandbox¶close¶
+[missing nofile]@exec nofile@@
+[listing line 1]@exec a.c@@int main(void) { return 0; }
+[listing unfit]@exec a.c@@ccbox listing 1¶trusted¶sandbox¶close¶
+[stop S3 sandbox ended]@exec a.c@@ccbox listing 1¶trusted¶import 0 h args 0 result int¶fun 0 main args 0 slots 0 stack 1 result int¶tick¶tcall 0 @1:1¶ret¶end¶main 0¶sandbox¶close¶
+[exit 9]@exec a.c@@ccbox listing 1¶trusted¶import 0 h args 0 result int¶fun 0 main args 0 slots 0 stack 1 result int¶tick¶tcall 0 @1:1¶ret¶end¶main 0¶sandbox¶fun 0 h args 0 slots 0 stack 1 result int¶const 9¶ret¶end¶close¶
+[stop S3 sandbox ended]@exec a.c@@ccbox listing 1¶trusted¶import 0 h args 0 result int¶fun 0 main args 0 slots 0 stack 1 result int¶tick¶tcall 0 @1:1¶ret¶end¶main 0¶sandbox¶fun 0 h args 1 slots 1 stack 1 result int¶const 9¶ret¶end¶close¶
+[exit 7]@exec a.c@@ccbox listing 1¶trusted¶import 0 h args 1 result int¶fun 0 main args 0 slots 0 stack 1 result int¶const 999¶tick¶tcall 0 @1:1¶ret¶end¶main 0¶sandbox¶fun 0 h args 1 slots 1 stack 2 result int¶local 0¶jzero 8¶local 0¶const 1¶wsub¶tick¶call 0¶ret¶const 7¶ret¶end¶close¶
+[stop S3 sandbox ended]@exec a.c@@ccbox listing 1¶trusted¶import 0 h args 1 result int¶fun 0 main args 0 slots 0 stack 1 result int¶const 1000¶tick¶tcall 0 @1:1¶ret¶end¶main 0¶sandbox¶fun 0 h args 1 slots 1 stack 2 result int¶local 0¶jzero 8¶local 0¶const 1¶wsub¶tick¶call 0¶ret¶const 7¶ret¶end¶close¶
+[exit 7]@exec a.c --budget 5@@ccbox listing 1¶trusted¶import 0 h args 1 result int¶fun 0 main args 0 slots 0 stack 1 result int¶const 5¶tick¶tcall 0 @1:1¶ret¶end¶main 0¶sandbox¶fun 0 h args 1 slots 1 stack 2 result int¶local 0¶jzero 8¶local 0¶const 1¶wsub¶tick¶call 0¶ret¶const 7¶ret¶end¶close¶
+[stop S3 sandbox ended]@exec a.c --budget 4@@ccbox listing 1¶trusted¶import 0 h args 1 result int¶fun 0 main args 0 slots 0 stack 1 result int¶const 5¶tick¶tcall 0 @1:1¶ret¶end¶main 0¶sandbox¶fun 0 h args 1 slots 1 stack 2 result int¶local 0¶jzero 8¶local 0¶const 1¶wsub¶tick¶call 0¶ret¶const 7¶ret¶end¶close¶
+[stop S1 budget]@exec a.c --budget 1@@ccbox listing 1¶trusted¶import 0 h args 0 result int¶callback 0 fun 1 args 0 result void¶fun 0 main args 0 slots 0 stack 1 result int¶tick¶tcall 0 @1:1¶ret¶end¶fun 1 v args 0 slots 0 stack 1 result void¶retv¶end¶main 0¶sandbox¶fun 0 h args 0 slots 0 stack 1 result int¶ccall 0¶const 9¶ret¶end¶close¶
+[exit 9]@exec a.c --budget 2@@ccbox listing 1¶trusted¶import 0 h args 0 result int¶callback 0 fun 1 args 0 result void¶fun 0 main args 0 slots 0 stack 1 result int¶tick¶tcall 0 @1:1¶ret¶end¶fun 1 v args 0 slots 0 stack 1 result void¶retv¶end¶main 0¶sandbox¶fun 0 h args 0 slots 0 stack 1 result int¶ccall 0¶const 9¶ret¶end¶close¶
+[check C9 3:4 marshalled value]@exec a.c@@ccbox listing 1¶trusted¶import 0 h args 0 result char¶fun 0 main args 0 slots 0 stack 1 result int¶tick¶tcall 0 @3:4¶ret¶end¶main 0¶sandbox¶fun 0 h args 0 slots 0 stack 1 result char¶const 256¶ret¶end¶close¶";
+
 // A listing of as many bytes as one may have, and listings of one byte more, whose last line and whose next line is refused.
 const LARGE: &str =
     "[listing unfit]@exec a.c --acts f@@ccbox listing 1¶trusted¶block 0 8388577 `8388577×00`¶main 0¶sandbox¶close¶
@@ -103,11 +202,13 @@ const LARGE: &str =
 [listing line 7]@exec a.c --acts f@@ccbox listing 1¶trusted¶block 0 8388577 `8388577×00`¶main 0¶sandbox¶close¶x
 [listing line 3]@exec a.c --acts f@@ccbox listing 1¶trusted¶block 0 8388577 `8388577×0g`¶main 10¶sandbox¶close¶";
 
-static TABLES: [Table; 4] = [
+static TABLES: [Table; 6] = [
     Table(Question::Call, REFUSED),
     Table(Question::Call, NOT_RUN),
     Table(Question::Call, CALLS),
     Table(Question::Main, MAINS),
+    Table(Question::Sandbox, SANDBOX),
+    Table(Question::Call, OWN),
 ];
 
 static LARGE_TABLES: [Table; 1] = [Table(Question::Call, LARGE)];
@@ -173,15 +274,21 @@ fn joined(alloc: Global, words: &str, options: &str) -> String {
     text
 }
 
-// Whether a listing is run as a program is.
+// Whether a listing is run as a program is: with the acts of a file, and with its own code.
 fn is_run_as(alloc: Global, listing: &str, run: &Run) -> bool {
+    is_run_with(alloc, "run a.c --acts=f", "exec a.c --acts=f", listing, run)
+        && is_run_with(alloc, "run a.c", "exec a.c", listing, run)
+}
+
+// Whether the answer of words about a listing is that of words about a program, with the options of a run.
+fn is_run_with(alloc: Global, run_words: &str, exec_words: &str, listing: &str, run: &Run) -> bool {
     let Run(options, acts, source) = run;
-    let words = joined(alloc, "run a.c --acts=f", *options);
+    let words = joined(alloc, run_words, *options);
     match outcome(alloc, words.as_str(), *source, *acts) {
         Some((sink, status)) => answers(
             alloc,
             &Call {
-                words: joined(alloc, "exec a.c --acts=f", *options).as_str(),
+                words: joined(alloc, exec_words, *options).as_str(),
                 source: listing,
                 acts: *acts,
                 text: sink.bytes(),

@@ -4,8 +4,8 @@ use crate::actors::gives_all;
 use crate::acts::is_act;
 use crate::calls::{
     arguments_print, body_prints, bounded_print, call_prints, elements_print, head_prints,
-    main_prints, parameters_print, results_print, returns_print, run_prints, statements_print,
-    value_prints,
+    main_prints, parameters_print, results_print, returns_print, run_prints, sandbox_prints,
+    statements_print, value_prints,
 };
 use crate::lines::is_number;
 use crate::shapes::has_shape;
@@ -60,6 +60,8 @@ pub enum Question {
     Call,
     /// What the run of a listing prints; the case has the acts and the instructions of its `main`.
     Main,
+    /// What the run of a listing prints without a file of acts; the case has the instructions of its sandbox.
+    Sandbox,
 }
 
 /// Whether a case has this answer. What is printed stands without its last line feed.
@@ -85,6 +87,7 @@ pub fn is_answer(alloc: Global, question: Question, case: &str, expected: &str) 
         Question::Returns => returns_print(alloc, case, expected),
         Question::Call => call_prints(alloc, case, expected),
         Question::Main => main_prints(alloc, case, expected),
+        Question::Sandbox => sandbox_prints(alloc, case, expected),
     }
 }
 
