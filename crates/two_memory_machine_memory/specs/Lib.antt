@@ -4,3 +4,4 @@ pub mod CallInsides
 pub mod Texts
 pub mod Faults
 pub mod CheckedNumbers
+pub mod NearEnds

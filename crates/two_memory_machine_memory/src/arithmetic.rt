@@ -12,7 +12,7 @@ use ckc_text::code::Code;
 use ckc_text::place::Place;
 
 /// What an arithmetic operator makes of two numbers (C6, C7, C8).
-#[inline]
+#[inline(always)]
 pub fn compute(
     operator: ArithmeticOperator,
     place: Place,
@@ -33,7 +33,7 @@ pub fn compute(
 }
 
 /// The bits that a bitwise operator makes of those of two words.
-#[inline]
+#[inline(always)]
 pub fn combine(operator: BitwiseOperator, left: u32, right: u32) -> u32
     ensures { result ≡ bitwise_result operator left right }
 {
@@ -45,7 +45,7 @@ pub fn combine(operator: BitwiseOperator, left: u32, right: u32) -> u32
 }
 
 /// Whether a comparison holds of two words, which are read with a sign.
-#[inline]
+#[inline(always)]
 pub fn compare(comparison: Comparison, left: u32, right: u32) -> bool
     ensures { result ≡ holds_of_words comparison left right }
 {
@@ -60,7 +60,7 @@ pub fn compare(comparison: Comparison, left: u32, right: u32) -> bool
 }
 
 // The sum (C6).
-#[inline]
+#[inline(always)]
 fn add(place: Place, left: u32, right: u32) -> Result<i32, Ending>
     ensures { checked_of result ≡ sum place (signed left) (signed right) }
 {
@@ -73,7 +73,7 @@ fn add(place: Place, left: u32, right: u32) -> Result<i32, Ending>
 }
 
 // The difference (C6).
-#[inline]
+#[inline(always)]
 fn subtract(place: Place, left: u32, right: u32) -> Result<i32, Ending>
     ensures { checked_of result ≡ difference place (signed left) (signed right) }
 {
@@ -86,7 +86,7 @@ fn subtract(place: Place, left: u32, right: u32) -> Result<i32, Ending>
 }
 
 // The product (C6).
-#[inline]
+#[inline(always)]
 fn multiply(place: Place, left: u32, right: u32) -> Result<i32, Ending>
     ensures { checked_of result ≡ product place (signed left) (signed right) }
 {
@@ -109,7 +109,7 @@ pub fn negate(place: Place, right: u32) -> Result<i32, Ending>
 }
 
 // The quotient, rounded toward zero (C7, C6).
-#[inline]
+#[inline(always)]
 fn divide(place: Place, left: u32, right: u32) -> Result<i32, Ending>
     ensures { checked_of result ≡ quotient_of place (signed left) (signed right) }
 {
@@ -128,7 +128,7 @@ fn divide(place: Place, left: u32, right: u32) -> Result<i32, Ending>
 }
 
 // The remainder modulo a number, with the sign of the left number (C7, C6).
-#[inline]
+#[inline(always)]
 fn remainder(place: Place, left: u32, modulus: u32) -> Result<i32, Ending>
     ensures { checked_of result ≡ remainder_of place (signed left) (signed modulus) }
 {
@@ -147,7 +147,7 @@ fn remainder(place: Place, left: u32, modulus: u32) -> Result<i32, Ending>
 }
 
 // The left number times two as often (C8).
-#[inline]
+#[inline(always)]
 fn shift_left(place: Place, left: u32, count: u32) -> Result<i32, Ending>
     ensures { checked_of result ≡ shifted_left place (signed left) (signed count) }
 {
@@ -164,7 +164,7 @@ fn shift_left(place: Place, left: u32, count: u32) -> Result<i32, Ending>
 }
 
 // The left number divided by two as often, rounded down (C8).
-#[inline]
+#[inline(always)]
 fn shift_right(place: Place, left: u32, count: u32) -> Result<i32, Ending>
     ensures { checked_of result ≡ shifted_right place (signed left) (signed count) }
 {

@@ -1,9 +1,73 @@
 // Checks of elements and of ends against bounds, over whole numbers.
 
-ghost use Rattle.std.specs.Prelude.{◌≡◌, ◌==◌, ◌||◌, not};
+ghost use Rattle.std.specs.Prelude.{◌≡◌, ◌==◌, ◌||◌, ◌<◌, ◌^◌, not, pos, negsuc, ◌≤ℤ◌, IsTrue};
+ghost use Rattle.std.proofs.Common.{◌+ℤ◌, ◌*ℤ◌};
+ghost use Rattle.act_words.specs.Numbers.{signed};
 ghost use Rattle.code_words.specs.Table.{place_at, end_of, is_in, is_up_to, same_number, contains};
+ghost use Rattle.two_memory_machine_memory.specs.NearEnds.{IsNear, AreNear};
 
 use marshalling::ends::Ends;
+
+// So many elements of a small size, in bytes.
+#[inline(always)]
+fn scaled(count: i64, size: u32) -> i64
+    requires low { negsuc (2 ^ 33) ≤ℤ count }
+    requires high { count ≤ℤ pos (2 ^ 33) }
+    requires size { size < 2 ^ 16 }
+    ensures value { result ≡ count *ℤ pos size }
+    ensures low { negsuc (2 ^ 50) ≤ℤ result }
+    ensures high { result ≤ℤ pos (2 ^ 50) }
+{
+    count * i64::from(size)
+}
+
+// A number of elements, and how few more.
+#[inline(always)]
+fn elements(count: u32, plus: i64) -> i64
+    requires { IsNear plus }
+    ensures value { result ≡ signed count +ℤ plus }
+    ensures low { negsuc (2 ^ 33) ≤ℤ result }
+    ensures high { result ≤ℤ pos (2 ^ 33) }
+{
+    i64::from(count.cast_signed()) + plus
+}
+
+// An end whose elements have a small size, and which few elements are added to.
+#[inline(always)]
+fn near_end(base: u32, count: u32, plus: i64, size: u32) -> i64
+    requires plus { IsNear plus }
+    requires size { size < 2 ^ 16 }
+    ensures { result ≡ end_of base count plus size }
+{
+    let scaled = scaled(elements(count, plus), size);
+    i64::from(base) + scaled
+}
+
+// The place of an element of a small size.
+#[inline(always)]
+fn near_place(pointer: u32, index: u32, size: u32) -> i64
+    requires { size < 2 ^ 16 }
+    ensures { result ≡ place_at pointer index size }
+{
+    let scaled = scaled(i64::from(index.cast_signed()), size);
+    i64::from(pointer) + scaled
+}
+
+// Whether few elements are added to an end.
+#[inline(always)]
+fn is_near(plus: i64) -> bool
+    ensures { IsTrue result → IsNear plus }
+{
+    -2_147_483_648 <= plus && plus < 2_147_483_648
+}
+
+// Whether the elements have a small size, and few are added to either end.
+#[inline(always)]
+fn are_near(ends: &Ends) -> bool
+    ensures { IsTrue result → AreNear ends.now }
+{
+    ends.size < 65_536 && is_near(ends.low_plus) && is_near(ends.high_plus)
+}
 
 /// The place of an element, over whole numbers.
 fn place_of(pointer: u32, index: u32, size: u32) -> i128
@@ -13,7 +77,24 @@ fn place_of(pointer: u32, index: u32, size: u32) -> i128
 }
 
 /// Whether an element lies between ends.
+#[inline(always)]
 pub fn holds(ends: &Ends, pointer: u32, index: u32) -> bool
+    ensures { result ≡ is_in
+        (end_of ends.now.base ends.now.low ends.now.low_plus ends.now.size) (place_at pointer index ends.now.size)
+        (end_of ends.now.base ends.now.high ends.now.high_plus ends.now.size) }
+{
+    if !are_near(ends) {
+        return holds_far(ends, pointer, index);
+    }
+    let size = ends.size;
+    let at = near_place(pointer, index, size);
+    near_end(ends.base, ends.low, ends.low_plus, size) <= at
+        && at < near_end(ends.base, ends.high, ends.high_plus, size)
+}
+
+// Whether an element lies between ends, which may be far off.
+#[inline(never)]
+fn holds_far(ends: &Ends, pointer: u32, index: u32) -> bool
     ensures { result ≡ is_in
         (end_of ends.now.base ends.now.low ends.now.low_plus ends.now.size) (place_at pointer index ends.now.size)
         (end_of ends.now.base ends.now.high ends.now.high_plus ends.now.size) }

@@ -182,6 +182,40 @@ impl<'a> CallWords<'a> {
         self.ops.get(self.next)
     }
 
+    /// The instructions from the one that stands next on, unless that one lies past the end.
+    #[inline(always)]
+    pub fn ahead(&self) -> Option<&'a [Op]>
+        ensures ops { IfSome result (λ ops. ops.now ≡ drop self.now.frame.next self.now.fun.ops) }
+        ensures within { IfSome result (λ ops. self.now.frame.next + length ops.now < 2 ^ 64) }
+    {
+        self.ops.get(self.next..)
+    }
+
+    /// The slots.
+    #[inline(always)]
+    pub fn slots(&self) -> &[u32]
+        ensures { result.now ≡ self.now.frame.slots }
+    {
+        &self.words[self.extent.base..self.extent.room]
+    }
+
+    /// How many words the stack has room for beside those on it.
+    #[inline(always)]
+    pub fn free(&self) -> usize
+        ensures { length self.now.frame.stack + result ≡ self.now.fun.stack }
+    {
+        self.extent.top - self.extent.room
+    }
+
+    /// Goes on by so many instructions.
+    #[inline(always)]
+    pub fn skip(&mut self, count: usize)
+        requires { self.old.frame.next + count < 2 ^ 64 }
+        ensures { self.new ≡ at_next (self.old.frame.next + count) self.old }
+    {
+        self.next += count;
+    }
+
     /// The topmost word, if there is one.
     #[inline]
     pub fn word(&self) -> Option<u32>

@@ -2,3 +2,4 @@ pub mod Machines
 pub mod Insides
 pub mod Steps
 pub mod Pushes
+pub mod Ahead

@@ -2,6 +2,7 @@
 #![tactic(auto)]
 
 pub mod acts;
+mod ahead;
 mod callbacks;
 pub mod event;
 pub mod outcome;

@@ -2,3 +2,4 @@ mod Pops
 mod Tries
 pub mod Stepped
 mod Turns
+pub mod MadeTogether

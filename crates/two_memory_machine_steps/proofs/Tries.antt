@@ -55,7 +55,7 @@ told_by None ends = absurd ends
 told_by (Some ending) ends = _
 
 -- what an instruction did that isn't told is a step
-tried : (old new : Machine) (outcome : Outcome) (op : Op) → IsTrue (is_paced old.image) → waiting_of old ≡ waiting.Runs → next_op_of old ≡ Some op → IsGivenTo old.doing (next_op_of old) → is_input (Some op) ≡ false → Acts op old outcome new → IsStep old (event_of outcome new.over) new × IsEndedIf outcome new.over
+pub tried : (old new : Machine) (outcome : Outcome) (op : Op) → IsTrue (is_paced old.image) → waiting_of old ≡ waiting.Runs → next_op_of old ≡ Some op → IsGivenTo old.doing (next_op_of old) → is_input (Some op) ≡ false → Acts op old outcome new → IsStep old (event_of outcome new.over) new × IsEndedIf outcome new.over
 tried old new outcome op paced waits next given other acts =
     let s = stands_in old op next in
     (stepped old new (event_of outcome new.over) op paced waits next given other (acts_told old new outcome op acts), ended _ old new outcome (acts s.f s.here [] [] []))

@@ -1,16 +1,33 @@
 -- Instructions in families, in the order in which the machine asks for them.
-use Rattle.std.specs.Prelude.{◌≡◌, ℕ, false, Option, Some, None}
+use Rattle.std.specs.Prelude.{◌≡◌, ℕ, Bool, true, false, Option, Some, None}
 use Rattle.code_words.specs.declared.op.Op.{Op}
 use Rattle.code_words.specs.declared.op.Op.TheVariants as ops
 use Rattle.two_memory_machine_states.specs.declared.outcome.Outcome.{Outcome}
 use Rattle.two_memory_machine_states.specs.Machines.{Machine, is_input}
 use Rattle.two_memory_machine_states.specs.Steps.{Acts}
+use Rattle.two_memory_machine_steps.specs.Together.{SomeSteps}
 use Rattle.two_memory_machine_steps.specs.Told.{IsTold}
 
 -- an instruction takes no input number, and its step was made; or it writes or waits for a number, and nothing was done
 abbrev pub ActsUnlessTold : Op → Machine → Option Outcome → Machine → Type 0
 ActsUnlessTold op old None new = (new ≡ old) × IsTold (Some op)
 ActsUnlessTold op old (Some outcome) new = (is_input (Some op) ≡ false) × Acts op old outcome new
+
+-- the instructions whose steps are made with some behind them
+abbrev pub leads : Op → Bool
+leads (ops.Const number) = true
+leads (ops.Local slot) = true
+leads (ops.NonNull place) = true
+leads _ = false
+
+abbrev pub ActsIf : Bool → Op → Machine → Outcome → Machine → Type 0
+ActsIf true op old outcome new = SomeSteps old outcome new
+ActsIf false op old outcome new = (is_input (Some op) ≡ false) × Acts op old outcome new
+
+-- an instruction's step was made, and some with it where it leads; or it writes or waits for a number, and nothing was done
+abbrev pub RunsUnlessTold : Op → Machine → Option Outcome → Machine → Type 0
+RunsUnlessTold op old None new = (new ≡ old) × IsTold (Some op)
+RunsUnlessTold op old (Some outcome) new = ActsIf (leads op) op old outcome new
 
 -- the number of an instruction's family
 abbrev pub family : Op → ℕ

@@ -1,3 +1,4 @@
 pub mod Families
 pub mod Running
 pub mod Told
+pub mod Together

@@ -1,23 +1,27 @@
 // Which function makes the step of which instruction.
 
-ghost use Rattle.std.specs.Prelude.{◌≤◌};
-ghost use Rattle.two_memory_machine_steps.specs.Families.{family, ActsUnlessTold};
+ghost use Rattle.std.specs.Prelude.{◌≡◌, ◌≤◌, Some, IsTrue};
+ghost use Rattle.code_words.specs.Paced.{is_paced};
+ghost use Rattle.two_memory_machine_steps.specs.Families.{family, ActsUnlessTold, RunsUnlessTold};
+ghost use Rattle.two_memory_machine_states.specs.Machines.{next_op_of};
 ghost use Rattle.two_memory_machine_states.specs.Steps.{IsReady};
 
-use crate::{bounds, memory, operations, stack, touches};
+use crate::{bounds, memory, operations, stack, together, touches};
 use code_words::op::Op;
 use two_memory_machine_states::outcome::Outcome;
 use two_memory_machine_states::running_image::RunningImage;
 
-/// Makes the step of an instruction, unless it writes or waits for a number.
+/// Makes the step of an instruction, and some with it where it leads, unless it writes or waits for a number.
 #[inline(always)]
 pub fn perform(machine: &mut RunningImage, op: &Op) -> Option<Outcome>
     requires ready { IsReady machine.old }
-    ensures { ActsUnlessTold op.now machine.old result machine.new }
+    requires next { next_op_of machine.old ≡ Some op.now }
+    requires paced { IsTrue (is_paced machine.old.image) }
+    ensures { RunsUnlessTold op.now machine.old result machine.new }
 {
     match op {
-        Op::Const(number) => Some(machine.push(0, number.cast_unsigned())),
-        Op::Local(slot) => Some(machine.local(*slot)),
+        Op::Const(number) => Some(together::constant(machine, *number)),
+        Op::Local(slot) => Some(together::local(machine, *slot)),
         Op::Set(slot) => Some(machine.set(*slot)),
         Op::Discard => Some(operations::discard(machine)),
         Op::Duplicate => Some(operations::duplicate(machine)),
@@ -50,7 +54,7 @@ pub fn perform(machine: &mut RunningImage, op: &Op) -> Option<Outcome>
         Op::UnsignedGreaterEqual => Some(operations::unsigned_greater_equal(machine)),
         Op::Zero => Some(operations::is_zero(machine)),
         Op::Byte => Some(operations::low_byte(machine)),
-        Op::NonNull { place } => Some(bounds::non_null(machine, *place)),
+        Op::NonNull { place } => Some(together::non_null(machine, *place)),
         Op::In {
             low,
             high,
@@ -70,6 +74,22 @@ pub fn perform(machine: &mut RunningImage, op: &Op) -> Option<Outcome>
         Op::SandboxAlloc { size } => Some(machine.sandbox_alloc(*size)),
         Op::TextLength => Some(machine.text_length()),
         _ => check_operands(machine, op),
+    }
+}
+
+/// Makes the step of an instruction alone, unless it writes or waits for a number.
+#[inline(always)]
+pub fn perform_one(machine: &mut RunningImage, op: &Op) -> Option<Outcome>
+    requires ready { IsReady machine.old }
+    requires next { next_op_of machine.old ≡ Some op.now }
+    requires paced { IsTrue (is_paced machine.old.image) }
+    ensures { ActsUnlessTold op.now machine.old result machine.new }
+{
+    match op {
+        Op::Const(number) => Some(together::push(machine, *number)),
+        Op::Local(slot) => Some(machine.local(*slot)),
+        Op::NonNull { place } => Some(bounds::non_null(machine, *place)),
+        _ => perform(machine, op),
     }
 }
 

@@ -8,5 +8,6 @@ mod memory;
 mod operations;
 pub mod running;
 mod stack;
+mod together;
 mod told;
 mod touches;

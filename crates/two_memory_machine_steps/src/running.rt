@@ -3,6 +3,7 @@
 ghost use Rattle.std.specs.Prelude.{◌≡◌, ◌<◌};
 ghost use Rattle.two_memory_machine_states.specs.Machines.{Steps, waiting_of, ending_given, moves_left, TellsSomething};
 ghost use Rattle.two_memory_machine_steps.specs.Running.{StepsOn, TriesStep};
+ghost use Rattle.two_memory_machine_steps.specs.Together.{TriesSteps};
 
 use crate::families;
 use crate::told::told_step;
@@ -35,7 +36,7 @@ pub fn run_on(machine: &mut RunningImage) -> Event
     ensures sooner { moves_left machine.new < moves_left machine.old }
 {
     'steps: loop {
-        match try_step(machine) {
+        match try_steps(machine) {
             Some(Outcome::Ran) => {}
             Some(Outcome::Asks) => return Event::Asks,
             Some(Outcome::Ended) => return machine.event(Outcome::Ended),
@@ -52,6 +53,21 @@ pub fn run_on(machine: &mut RunningImage) -> Event
 fn try_step(machine: &mut RunningImage) -> Option<Outcome>
     requires { waiting_of machine.old ≡ Waiting.Runs }
     ensures { TriesStep machine.old result machine.new }
+{
+    let Some(op) = machine.op() else {
+        return Some(machine.end_wild());
+    };
+    match op {
+        Op::NextInput => None,
+        _ => families::perform_one(machine, op),
+    }
+}
+
+// Makes the next step, and some with it where it leads, unless it writes or takes an input number.
+#[inline(always)]
+fn try_steps(machine: &mut RunningImage) -> Option<Outcome>
+    requires { waiting_of machine.old ≡ Waiting.Runs }
+    ensures { TriesSteps machine.old result machine.new }
 {
     let Some(op) = machine.op() else {
         return Some(machine.end_wild());

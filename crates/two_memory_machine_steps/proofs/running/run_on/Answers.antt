@@ -3,7 +3,7 @@ use Rattle.two_memory_machine_states.specs.declared.event.Event.TheVariants.{Ran
 use Rattle.two_memory_machine_states.specs.Machines.{Steps, moves_left}
 use Rattle.two_memory_machine_states.specs.declared.outcome.Outcome.TheVariants as outcomes
 use Rattle.two_memory_machine_states.specs.Steps.{event_of}
-use Rattle.two_memory_machine_steps.specs.Told.{IsStep}
+use Rattle.two_memory_machine_steps.specs.Together.{RunsTo, EndsIn, SomeSteps}
 use Rattle.two_memory_machine_steps.specs.Running.{StepsOn, IsEndedIf}
 use Rattle.two_memory_machine_steps.proofs.Tries.{runs_again, tells_other, told_by}
 use Rattle.two_memory_machine_steps.proofs.running.run_on.Goals as goal
@@ -14,17 +14,15 @@ steps-init c = record { waits = c.requires; leads = λ event new steps. steps; m
 pub steps-preserved-in-Some-Ran : goal.steps-preserved-in-Some-Ran
 steps-preserved-in-Some-Ran c =
     let at = c.steps.invariant in
-    let now = c.in-Some-Ran.ensures.0 in
-    let ran : Steps c.steps.machine Ran c.try_step.new.machine = rw c.in-Some-Ran.field-0-is at now.steps in
-    let again = runs_again c.steps.machine c.try_step.new.machine ran in
-    record { waits = again; leads = λ event new rest. at.leads event new (StepsOn.more ran again rest); moves = omega (arith, at.moves, now.sooner) }
+    let now : RunsTo c.steps.machine c.try_steps.new.machine = rw c.in-Some-Ran.field-0-is at c.in-Some-Ran.ensures in
+    record { waits = now.waits; leads = λ event new rest. at.leads event new (now.leads event new rest); moves = omega (arith, at.moves, now.sooner) }
 
 pub returns-in-Some-Asks : goal.returns-in-Some-Asks
 returns-in-Some-Asks c =
     let at = c.steps.invariant in
-    let now : IsStep c.steps.machine Asks c.try_step.new.machine = rw c.in-Some-Asks.field-0-is at c.in-Some-Asks.ensures.0 in
+    let now : EndsIn c.steps.machine Asks c.try_steps.new.machine = rw c.in-Some-Asks.field-0-is at c.in-Some-Asks.ensures in
     record {
-      steps = at.leads Asks c.try_step.new.machine (StepsOn.last now.steps);
+      steps = at.leads Asks c.try_steps.new.machine now.steps;
       over = now.over;
       told = _;
       sooner = omega (arith, at.moves, now.sooner);
@@ -33,11 +31,12 @@ returns-in-Some-Asks c =
 pub returns-in-Some-Ended : goal.returns-in-Some-Ended
 returns-in-Some-Ended c =
     let at = c.steps.invariant in
-    let over = c.try_step.new.machine.over in
-    let now : IsStep c.steps.machine (event_of outcomes.Ended over) c.try_step.new.machine = rw c.in-Some-Ended.field-0-is at c.in-Some-Ended.ensures.0 in
-    let ends : IsEndedIf outcomes.Ended over = rw c.in-Some-Ended.field-0-is at c.in-Some-Ended.ensures.1 in
+    let over = c.try_steps.new.machine.over in
+    let all : SomeSteps c.steps.machine outcomes.Ended c.try_steps.new.machine = rw c.in-Some-Ended.field-0-is at c.in-Some-Ended.ensures in
+    let now : EndsIn c.steps.machine (event_of outcomes.Ended over) c.try_steps.new.machine = all.0 in
+    let ends : IsEndedIf outcomes.Ended over = all.1 in
     record {
-      steps = rw c.event.ensures (at.leads _ c.try_step.new.machine (StepsOn.last now.steps));
+      steps = rw c.event.ensures (at.leads _ c.try_steps.new.machine now.steps);
       over = rw c.event.ensures now.over;
       told = rw c.event.ensures (told_by over ends);
       sooner = omega (arith, at.moves, now.sooner);

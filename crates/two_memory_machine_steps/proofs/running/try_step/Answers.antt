@@ -11,4 +11,4 @@ returns-in_default c =
 pub returns-in_default-op : goal.returns-in_default-op
 returns-in_default-op c =
     let next : next_op_of c.args.machine.now ≡ Some c.in-Some.op.now = sym c.in-Some.ensures.op in
-    tried_unless_told c.args.machine.now c.perform.new.machine c.perform.result c.in-Some.op.now c.in-Some.ensures.paced c.requires next c.in-Some.ensures.given c.perform.ensures
+    tried_unless_told c.args.machine.now c.perform_one.new.machine c.perform_one.result c.in-Some.op.now c.in-Some.ensures.paced c.requires next c.in-Some.ensures.given c.perform_one.ensures
