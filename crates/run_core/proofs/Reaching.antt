@@ -85,14 +85,14 @@ unended m = by m.over
 -- ---- steps and numbers
 
 -- from one machine to the next, and on
-leads_on : (first mid last : Machine) (inputs : List ℤ) (event : MachineEvent) → Leads first inputs told_by.Ran mid inputs → Leads mid inputs event last inputs → Leads first inputs event last inputs
-leads_on first mid last inputs event a b =
+leads_on : (first mid last : Machine) (inputs left : List ℤ) (event : MachineEvent) → Leads first inputs told_by.Ran mid left → Leads mid left event last left → Leads first inputs event last left
+leads_on first mid last inputs left event a b =
     record {
       same = (b.same.0 ∙ a.same.0, b.same.1 ∙ a.same.1);
       goes = λ s acts events r.
-          subst (λ image. Reaches image first.settings s last acts inputs (told_behind event events)) a.same.0
-          (subst (λ settings. Reaches mid.image settings s last acts inputs (told_behind event events)) a.same.1
-          (b.goes s acts events (subst (λ image. Reaches image mid.settings s mid acts inputs events) (sym a.same.0) (subst (λ settings. Reaches first.image settings s mid acts inputs events) (sym a.same.1) (a.goes s acts events r)))));
+          subst (λ image. Reaches image first.settings s last acts left (told_behind event events)) a.same.0
+          (subst (λ settings. Reaches mid.image settings s last acts left (told_behind event events)) a.same.1
+          (b.goes s acts events (subst (λ image. Reaches image mid.settings s mid acts left events) (sym a.same.0) (subst (λ settings. Reaches first.image settings s mid acts left events) (sym a.same.1) (a.goes s acts events r)))));
     }
 
 -- the step waits for a number: the table makes no move
@@ -125,7 +125,7 @@ step_leads old new event inputs waits steps = by (waits_for_number old.doing (ne
     }
 
 -- a number is given, and taken
-pub give_leads : (old given new : Machine) (event : MachineEvent) (inputs : List ℤ) (number : ℤ) (after : List ℤ) → waiting_of old ≡ waiting.Number → TakesInput inputs number after → given ≡ record old { doing = HasNumber number } → MachineSteps given event new → Leads old inputs event new after
+give_leads : (old given new : Machine) (event : MachineEvent) (inputs : List ℤ) (number : ℤ) (after : List ℤ) → waiting_of old ≡ waiting.Number → TakesInput inputs number after → given ≡ record old { doing = HasNumber number } → MachineSteps given event new → Leads old inputs event new after
 give_leads old given new event inputs number after waits taken is steps = by inputs taken
   where
     going : old.over ≡ None
@@ -168,4 +168,10 @@ give_leads old given new event inputs number after waits taken is steps = by inp
 pub steps_lead : (old new : Machine) (event : MachineEvent) (inputs : List ℤ) → waiting_of old ≡ waiting.Runs → StepsOn old event new → Leads old inputs event new inputs
 steps_lead old new event inputs waits (StepsOn.last steps) = step_leads old new event inputs waits steps
 steps_lead old new event inputs waits (StepsOn.more {mid = mid} steps again rest) =
-    leads_on old mid new inputs event (step_leads old mid told_by.Ran inputs waits steps) (steps_lead mid new event inputs again rest)
+    leads_on old mid new inputs inputs event (step_leads old mid told_by.Ran inputs waits steps) (steps_lead mid new event inputs again rest)
+
+-- a number is given, and taken, and then come such steps
+pub given_leads : (old given new : Machine) (event : MachineEvent) (inputs : List ℤ) (number : ℤ) (after : List ℤ) → waiting_of old ≡ waiting.Number → TakesInput inputs number after → given ≡ record old { doing = HasNumber number } → StepsOn given event new → Leads old inputs event new after
+given_leads old given new event inputs number after waits taken is (StepsOn.last steps) = give_leads old given new event inputs number after waits taken is steps
+given_leads old given new event inputs number after waits taken is (StepsOn.more {mid = mid} steps again rest) =
+    leads_on old mid new inputs after event (give_leads old given mid told_by.Ran inputs number after waits taken is steps) (steps_lead mid new event after again rest)

@@ -171,7 +171,8 @@ impl<'a> Play<'a> {
         Ok(event.ending())
     }
 
-    // Gives the machine the number that it waits for, which it takes.
+    // Gives the machine the number that it waits for, which it takes, and makes steps on. `run_on` is the one way to make them here, so
+    // that all of it stands in one loop.
     fn give(&mut self, alloc: Global) -> Result<Option<Ending>, NoMemory>
         requires { waiting_of self.old.machine ≡ Waiting.Number }
         ensures steps { OnOk result (Steps self.old self.new) }
@@ -181,7 +182,7 @@ impl<'a> Play<'a> {
     {
         let number = self.next_input();
         self.machine.give(number);
-        let event = self.machine.step();
+        let event = self.machine.run_on();
         self.tell(alloc, &event)?;
         Ok(event.ending())
     }
