@@ -5,6 +5,7 @@ pub mod Files
 pub mod MemShelf
 pub mod MemSink
 pub mod StoredFiles
+pub mod SureSink
 pub mod System
 pub mod Whole
 pub mod Written

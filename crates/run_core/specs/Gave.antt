@@ -19,10 +19,12 @@ Gave answers files before last (NoAct turn ∷ events) after = ⊥
 
 -- from each state of these the actor has one answer at each moment, at most, and one state behind it, which is one of these
 pub record AnswersOnce {S : Type 0} (answers : Answering S) (files : Option Files) (Ok : S → Type 0) : Type 0 where
-  pub one : (before after after' : S) (now : Moment) (x y : Answer) → Ok before → answers before files now x after → answers before files now y after' → (x ≡ y) × (after ≡ after')
+  pub one : (before after after' : S) (now : Moment) (x y : Answer) → Ok before → answers before files now x after
+      → answers before files now y after' → (x ≡ y) × (after ≡ after')
   pub stays : (before after : S) (now : Moment) (x : Answer) → Ok before → answers before files now x after → Ok after
 
 -- and it has an act at each moment, behind which fewer steps are left to it, if the act leaves the turn and makes no touch
 pub record AlwaysActs {S : Type 0} (answers : Answering S) (files : Option Files) (Ok : S → Type 0) (left : S → ℕ) : Type 0 where
   pub some : (before : S) (now : Moment) → Ok before → (act : Act) × (after : S) × answers before files now (Gives act) after
-  pub lowers : (before after : S) (now : Moment) (act : Act) → Ok before → answers before files now (Gives act) after → Lowers now.turn act (left before) (left after)
+  pub lowers : (before after : S) (now : Moment) (act : Act) → Ok before → answers before files now (Gives act) after
+      → Lowers now.turn act (left before) (left after)
