@@ -8,8 +8,15 @@ use Rattle.act_recorder.specs.Diagnostics.{usage_text}
 use Rattle.ccbox_call_words.specs.Given.{all, failed, LineGiven, given, unmade}
 use Rattle.ccbox_call.specs.Answers.{IsFailure, IsStatus, Exactly, Tells}
 use Rattle.ccbox_call.specs.Calls.{IsFoundStatus, StatusCounts, Gives, answered, output_failed, files_failed, no_memory, no_memory_behind, CallEnds, usage, asked}
-use Rattle.ccbox_call.specs.Process.{Answers, IsUnmade, ProcessEnds}
+use Rattle.std.specs.declared.io.ErrorKind.{ErrorKind}
+use Rattle.std.specs.declared.io.ErrorKind.TheVariants.{OutOfMemory}
+use Rattle.ccbox_call.specs.Process.{Answers, IsUnmade, ProcessEnds, words_without}
 use Rattle.ccbox_call.proofs.Calls.{cut_short, front, whole, printed_run, printed_image_run, printed_accepted, printed_code, complete, succeeds, refuses, misses, checks, stops, acts_refused, listing_fails, untouched, usage_line}
+
+-- words that are no text count as none
+pub other_words : (k : ErrorKind) → (k ≡ OutOfMemory → ⊥) → words_without k ≡ Some []
+other_words OutOfMemory other = absurd (other refl)
+other_words _ other = refl
 
 failure : (n : ℕ) → IsFailure n → IsStatus n
 failure n f = inr (inr (inr (inr (inr (inr (inr (inr f)))))))

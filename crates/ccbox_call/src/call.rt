@@ -19,6 +19,7 @@ use ccbox_call_words::request::{Request, request_from};
 use ccbox_call_words::status::Status;
 use ckc_io::shelf::Shelf;
 use ckc_io::sink::Sink;
+use ckc_text::fault::NoMemory;
 use std::alloc::Global;
 
 /// Does what the words after the program's name ask for, with the files of a shelf, and writes to a sink.
@@ -100,11 +101,12 @@ pub(crate) fn status_of_call<F: Shelf, K: Sink>(
         (record { misses = F.misses shelf.old; faults = F.faults shelf.old; sink = K.faults sink.old })
         (record { misses = F.misses shelf.new; faults = F.faults shelf.new; sink = K.faults sink.new }) (number_of result) }
 {
-    match request_from(words) {
-        Some(Request::Check { file }) => check_file(alloc, file, shelf, sink),
-        Some(Request::Split { file }) => split_file(alloc, file, shelf, sink),
-        Some(Request::Run { file, options }) => run_file(alloc, file, &options, shelf, sink),
-        Some(Request::Exec { file, options }) => exec_file(alloc, file, &options, shelf, sink),
-        None => give_usage(alloc, sink),
+    match request_from(alloc, words) {
+        Ok(Some(Request::Check { file })) => check_file(alloc, file, shelf, sink),
+        Ok(Some(Request::Split { file })) => split_file(alloc, file, shelf, sink),
+        Ok(Some(Request::Run { file, options })) => run_file(alloc, file, &options, shelf, sink),
+        Ok(Some(Request::Exec { file, options })) => exec_file(alloc, file, &options, shelf, sink),
+        Ok(None) => give_usage(alloc, sink),
+        Err(NoMemory) => Status::NoMemory,
     }
 }

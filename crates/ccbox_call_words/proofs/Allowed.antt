@@ -8,7 +8,9 @@ use Rattle.std.proofs.lemmas.Bool.Decides.{nat_tests}
 use Rattle.std.proofs.lemmas.List.Elements.{All-nil, All-cons}
 use Rattle.act_words.specs.Checks.{is_word_number}
 use Rattle.act_words.specs.Limits.{AreAllowed}
-use Rattle.ccbox_call_words.specs.Requests.{Options, no_options, Check, Split, Run, Exec, Request, settings_of, inputs_of, may_name_file, digits_number, in_range, number_from, base_from, negative, input_number, pieces_of, numbers_in, few, input_list, cut_at, Choice, ActsFrom, InputOf, BudgetOf, SandboxOf, TrustedOf, BaseOf, View, Releases, Dump, acts_choice, input_choice, value_choice, word_choice, pair_choice, choice_then, choices_of, unless_chosen, unless_set, chosen, all_chosen, options_of, alone, request_if, command_request, request_of}
+use Rattle.ccbox_call_words.specs.CommandLine.{Found, found_by}
+use Rattle.ccbox_call_words.specs.Requests.{Options, Check, Split, Run, Exec, Request, settings_of, inputs_of, digits_number, in_range, number_from, base_from, negative, input_number, pieces_of, numbers_in, few, input_list}
+use Rattle.ccbox_call_words.specs.Requests.{read_if_given, options_with, options_read, options_in, has_options, without_options, command_request, request_by, request_in, request_of}
 
 -- a fact of what an option holds, if it holds something
 abbrev In : {A : Type 0} → (A → Type 0) → Option A → Type 0
@@ -94,56 +96,6 @@ all_words : (inputs : List ℤ) → AreWords inputs → All (λ z. IsTrue (is_wo
 all_words [] words = All-nil (λ z. IsTrue (is_word_number z))
 all_words (z ∷ zs) words = All-cons (λ z. IsTrue (is_word_number z)) z zs words.0 (all_words zs words.1)
 
--- ---- choices
-
-abbrev IsChoice : Choice → Type 0
-IsChoice (ActsFrom file) = Unit {0}
-IsChoice (InputOf numbers) = AreWords numbers
-IsChoice (BudgetOf ticks) = IsWithin 1 1000000000 ticks
-IsChoice (SandboxOf bytes) = IsWithin 65536 16777216 bytes
-IsChoice (TrustedOf bytes) = IsWithin 65536 4194304 bytes
-IsChoice (BaseOf address) = IsBase address
-IsChoice View = Unit {0}
-IsChoice Releases = Unit {0}
-IsChoice Dump = Unit {0}
-
-value_kept : (name value : List ℕ) → In IsChoice (value_choice name value)
-value_kept name value =
-    if_kept IsChoice (bytes_eq name (codes "--acts")) (acts_choice value) _ (if_kept IsChoice (may_name_file value) (Some (ActsFrom value)) None _ _)
-    (if_kept IsChoice (bytes_eq name (codes "--input")) (input_choice value) _ (mapped AreWords IsChoice InputOf (input_list value) (λ numbers h. h) (list_kept value))
-    (if_kept IsChoice (bytes_eq name (codes "--budget")) (option_map BudgetOf (number_from 1 1000000000 value)) _ (mapped (IsWithin 1 1000000000) IsChoice BudgetOf (number_from 1 1000000000 value) (λ n h. h) (number_kept 1 1000000000 value))
-    (if_kept IsChoice (bytes_eq name (codes "--sandbox")) (option_map SandboxOf (number_from 65536 16777216 value)) _ (mapped (IsWithin 65536 16777216) IsChoice SandboxOf (number_from 65536 16777216 value) (λ n h. h) (number_kept 65536 16777216 value))
-    (if_kept IsChoice (bytes_eq name (codes "--trusted")) (option_map TrustedOf (number_from 65536 4194304 value)) _ (mapped (IsWithin 65536 4194304) IsChoice TrustedOf (number_from 65536 4194304 value) (λ n h. h) (number_kept 65536 4194304 value))
-    (if_kept IsChoice (bytes_eq name (codes "--base")) (option_map BaseOf (base_from value)) None (mapped IsBase IsChoice BaseOf (base_from value) (λ n h. h) (base_kept value)) _)))))
-
-word_kept : (word : List ℕ) → In IsChoice (word_choice word)
-word_kept word =
-    if_kept IsChoice (bytes_eq word (codes "--view")) (Some View) _ _
-    (if_kept IsChoice (bytes_eq word (codes "--releases")) (Some Releases) _ _
-    (if_kept IsChoice (bytes_eq word (codes "--dump")) (Some Dump) _ _
-    (bound (λ cut. Unit {0}) IsChoice (λ cut. value_choice cut.0 cut.1) (cut_at 61 word) (λ cut h. value_kept cut.0 cut.1) (anything (cut_at 61 word)))))
-
-pair_kept : (word value : List ℕ) → In IsChoice (pair_choice word value)
-pair_kept word value = if_kept IsChoice (may_name_file value) (value_choice word value) None (value_kept word value) _
-
-abbrev AreChoices : List Choice → Type 0
-AreChoices [] = Unit {0}
-AreChoices (choice ∷ choices) = IsChoice choice × AreChoices choices
-
-before_kept : (choice : Choice) (o : Option (List Choice)) → IsChoice choice → In AreChoices o → In AreChoices (option_map (λ choices. choice ∷ choices) o)
-before_kept choice o h k = mapped AreChoices AreChoices (λ choices. choice ∷ choices) o (λ choices all. (h, all)) k
-
-then_kept : (one pair : Option Choice) (behind_one behind_two : Option (List Choice)) → In IsChoice one → In AreChoices behind_one → In IsChoice pair → In AreChoices behind_two → In AreChoices (choice_then one behind_one pair behind_two)
-then_kept (Some choice) pair behind_one behind_two h k l m = before_kept choice behind_one h k
-then_kept None (Some choice) behind_one behind_two h k l m = before_kept choice behind_two l m
-then_kept None None behind_one behind_two h k l m = _
-
-choices_kept : (words : List (List ℕ)) → In AreChoices (choices_of words)
-choices_kept [] = _
-choices_kept (word ∷ []) = mapped IsChoice AreChoices (λ choice. choice ∷ []) (word_choice word) (λ choice h. (h, _)) (word_kept word)
-choices_kept (word ∷ value ∷ words) =
-    then_kept (word_choice word) (pair_choice word value) (choices_of (value ∷ words)) (choices_of words) (word_kept word) (choices_kept (value ∷ words)) (pair_kept word value) (choices_kept words)
-
 -- ---- options
 
 abbrev Holds : Options → Type 0
@@ -154,34 +106,27 @@ Holds o =
     × IsBase (unwrap_or o.base 65536)
     × AreWords (inputs_of o)
 
-unless_chosen_kept : {A : Type 0} (before : Option A) (o : Options) → Holds o → In Holds (unless_chosen before o)
-unless_chosen_kept None o h = h
-unless_chosen_kept (Some x) o h = _
+-- an option that was read holds what its text holds, and one that wasn't given holds its default
+read_kept : {A : Type 0} (P : A → Type 0) (read : List ℕ → Option A) (default : A) → P default → ((text : List ℕ) → In P (read text)) → (o : Option (List ℕ)) → In (λ (x : Option A). P (unwrap_or x default)) (read_if_given read o)
+read_kept P read default least kept None = least
+read_kept P read default least kept (Some text) = mapped P (λ (x : Option _). P (unwrap_or x default)) (λ x. Some x) (read text) (λ x h. h) (kept text)
 
-unless_set_kept : (before : Bool) (o : Options) → Holds o → In Holds (unless_set before o)
-unless_set_kept false o h = h
-unless_set_kept true o h = _
+module _ (found : Found) where
+  read_options : In Holds (options_read found)
+  read_options =
+      bound (λ i. AreWords (unwrap_or i [])) Holds _ (read_if_given input_list found.input) (λ i words.
+      bound (λ n. IsWithin 1 1000000000 (unwrap_or n 10000000)) Holds _ (read_if_given (number_from 1 1000000000) found.budget) (λ b ticks.
+      bound (λ n. IsWithin 65536 16777216 (unwrap_or n 1048576)) Holds _ (read_if_given (number_from 65536 16777216) found.sandbox) (λ s bytes.
+      bound (λ n. IsWithin 65536 4194304 (unwrap_or n 1048576)) Holds _ (read_if_given (number_from 65536 4194304) found.trusted) (λ t room.
+      mapped (λ n. IsBase (unwrap_or n 65536)) Holds (options_with found i b s t) (read_if_given base_from found.base) (λ a address. (ticks, bytes, room, address, words))
+      (read_kept IsBase base_from 65536 ((omega arith, omega arith), refl) base_kept found.base))
+      (read_kept (IsWithin 65536 4194304) (number_from 65536 4194304) 1048576 (omega arith, omega arith) (number_kept 65536 4194304) found.trusted))
+      (read_kept (IsWithin 65536 16777216) (number_from 65536 16777216) 1048576 (omega arith, omega arith) (number_kept 65536 16777216) found.sandbox))
+      (read_kept (IsWithin 1 1000000000) (number_from 1 1000000000) 10000000 (omega arith, omega arith) (number_kept 1 1000000000) found.budget))
+      (read_kept AreWords input_list [] _ list_kept found.input)
 
-chosen_kept : (o : Options) (choice : Choice) → Holds o → IsChoice choice → In Holds (chosen o choice)
-chosen_kept o (ActsFrom file) h k = unless_chosen_kept o.acts _ h
-chosen_kept o (InputOf numbers) h k = unless_chosen_kept o.input _ (h.0, h.1, h.2, h.3, k)
-chosen_kept o (BudgetOf ticks) h k = unless_chosen_kept o.budget _ (k, h.1, h.2, h.3, h.4)
-chosen_kept o (SandboxOf bytes) h k = unless_chosen_kept o.sandbox _ (h.0, k, h.2, h.3, h.4)
-chosen_kept o (TrustedOf bytes) h k = unless_chosen_kept o.trusted _ (h.0, h.1, k, h.3, h.4)
-chosen_kept o (BaseOf address) h k = unless_chosen_kept o.base _ (h.0, h.1, h.2, k, h.4)
-chosen_kept o View h k = unless_set_kept o.view _ h
-chosen_kept o Releases h k = unless_set_kept o.releases _ h
-chosen_kept o Dump h k = unless_set_kept o.dump _ h
-
-all_kept : (o : Options) (choices : List Choice) → Holds o → AreChoices choices → In Holds (all_chosen o choices)
-all_kept o [] h k = h
-all_kept o (choice ∷ choices) h k = bound Holds Holds (λ p. all_chosen p choices) (chosen o choice) (λ p all. all_kept p choices all k.1) (chosen_kept o choice h k.0)
-
-none_hold : Holds no_options
-none_hold = ((omega arith, omega arith), (omega arith, omega arith), (omega arith, omega arith), ((omega arith, omega arith), refl), _)
-
-options_kept : (words : List (List ℕ)) → In Holds (options_of words)
-options_kept words = bound AreChoices Holds (all_chosen no_options) (choices_of words) (λ choices h. all_kept no_options choices none_hold h) (choices_kept words)
+  options_kept : In Holds (options_in found)
+  options_kept = if_kept Holds found.code None (options_read found) _ read_options
 
 -- ---- requests
 
@@ -191,27 +136,27 @@ OfRequest (Split file) = Unit {0}
 OfRequest (Run file options) = Holds options
 OfRequest (Exec file options) = Holds options
 
-alone_kept : (words : List (List ℕ)) (request : Request) → OfRequest request → In OfRequest (alone words request)
-alone_kept [] request h = h
-alone_kept (word ∷ words) request h = _
+module _ (found : Found) where
+  alone_kept : (request : Request) → OfRequest request → In OfRequest (without_options found request)
+  alone_kept request h = if_kept OfRequest (has_options found) None (Some request) _ h
 
-command_kept : (command file : List ℕ) (words : List (List ℕ)) → In OfRequest (command_request command file words)
-command_kept command file words =
-    if_kept OfRequest (bytes_eq command (codes "check")) (alone words (Check file)) _ (alone_kept words (Check file) _)
-    (if_kept OfRequest (bytes_eq command (codes "split")) (alone words (Split file)) _ (alone_kept words (Split file) _)
-    (if_kept OfRequest (bytes_eq command (codes "run")) (option_map (Run file) (options_of words)) _
-    (mapped Holds OfRequest (Run file) (options_of words) (λ options h. h) (options_kept words))
-    (if_kept OfRequest (bytes_eq command (codes "exec")) (option_map (Exec file) (options_of words)) None
-    (mapped Holds OfRequest (Exec file) (options_of words) (λ options h. h) (options_kept words)) _)))
+  command_kept : (command file : List ℕ) → In OfRequest (command_request command file found)
+  command_kept command file =
+      if_kept OfRequest (bytes_eq command (codes "check")) (without_options found (Check file)) _ (alone_kept (Check file) _)
+      (if_kept OfRequest (bytes_eq command (codes "split")) (without_options found (Split file)) _ (alone_kept (Split file) _)
+      (if_kept OfRequest (bytes_eq command (codes "run")) (option_map (Run file) (options_in found)) _
+      (mapped Holds OfRequest (Run file) (options_in found) (λ options h. h) (options_kept found))
+      (if_kept OfRequest (bytes_eq command (codes "exec")) (option_map (Exec file) (options_in found)) None
+      (mapped Holds OfRequest (Exec file) (options_in found) (λ options h. h) (options_kept found)) _)))
+
+  by_kept : (command first second : Option (List ℕ)) → In OfRequest (request_by command first second found)
+  by_kept None first second = _
+  by_kept (Some command) None second = _
+  by_kept (Some command) (Some file) None = command_kept command file
+  by_kept (Some command) (Some file) (Some word) = _
 
 request_kept : (words : List (List ℕ)) → In OfRequest (request_of words)
-request_kept [] = _
-request_kept (command ∷ []) = _
-request_kept (command ∷ file ∷ words) = by (may_name_file file)
-  where
-    by : (b : Bool) → In OfRequest (request_if b (command_request command file words))
-    by true = command_kept command file words
-    by false = _
+request_kept words = bound (λ found. Unit {0}) OfRequest request_in (found_by words) (λ found h. by_kept found found.command found.first found.second) (anything (found_by words))
 
 module _ (options : Options) (kept : Holds options) where
   settings_kept : AreAllowed (settings_of options)

@@ -3,7 +3,13 @@ use Rattle.std.proofs.Common.{◌≡◌, ℕ, suc, ◌+◌, ◌<◌, ◌==◌, B
 use Rattle.std.specs.Option.{MatchOption}
 use Rattle.std.specs.List.{position_or_len, before_first, after_first}
 use Rattle.std.proofs.lemmas.Str.Pattern.{split_once_first, IsSplitOnceResult}
-use Rattle.ccbox_call_words.specs.Requests.{cut_at, pieces_of, with_byte}
+use Rattle.std.specs.Prelude.{if◌then◌else◌}
+use Rattle.ccbox_call_words.specs.Requests.{pieces_of, with_byte}
+
+-- what stands before the first such byte of a text, and what stands behind it
+abbrev cut_at : ℕ → List ℕ → Option (List ℕ × List ℕ)
+cut_at c [] = None
+cut_at c (b ∷ bs) = if b == c then Some ([], bs) else option_map (λ cut. (b ∷ cut.0, cut.1)) (cut_at c bs)
 
 abbrev more : ℕ → List ℕ × List ℕ → List ℕ × List ℕ
 more b cut = (b ∷ cut.0, cut.1)

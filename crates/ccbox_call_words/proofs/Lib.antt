@@ -1,5 +1,5 @@
 mod Cuts
 mod Digits
 mod Lists
-mod Choices
 pub mod Allowed
+mod Matches

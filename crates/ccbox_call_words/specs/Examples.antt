@@ -36,7 +36,9 @@ commands =
     × (request_of (codes "split" ∷ codes "-x" ∷ []) ≡ None)
     × (request_of (codes "check" ∷ codes "a.c" ∷ codes "b.c" ∷ []) ≡ None)
     × (request_of (codes "check" ∷ codes "a.c" ∷ codes "--view" ∷ []) ≡ None)
+    × (request_of (codes "--code" ∷ codes "check" ∷ codes "a.c" ∷ []) ≡ None)
     × (request_of (codes "split" ∷ codes "a.c" ∷ codes "--base=16" ∷ []) ≡ None)
+    × (request_of (codes "split" ∷ codes "--budget" ∷ codes "1" ∷ codes "a.c" ∷ []) ≡ None)
 
 -- listings are run with the options of sources
 abbrev pub listings : Type 0
@@ -72,11 +74,34 @@ together =
       dump = true;
     })
 
+-- options stand anywhere. Behind `--` each word stands by itself, and so does a lone hyphen
+abbrev pub places : Type 0
+places =
+    (request_of (codes "--view" ∷ codes "run" ∷ codes "a.c" ∷ []) ≡ asks (record no_options { view = true }))
+    × (request_of (codes "run" ∷ codes "--budget" ∷ codes "5" ∷ codes "a.c" ∷ []) ≡ asks (record no_options { budget = Some 5 }))
+    × (request_of (codes "--acts" ∷ codes "f" ∷ codes "exec" ∷ codes "--dump" ∷ codes "a.txt" ∷ [])
+    ≡ Some (Exec (codes "a.txt") (record no_options { acts = Some (codes "f"); dump = true })))
+    × (request_of (codes "run" ∷ codes "--" ∷ codes "-x" ∷ []) ≡ Some (Run (codes "-x") no_options))
+    × (request_of (codes "--view" ∷ codes "--" ∷ codes "run" ∷ codes "a.c" ∷ []) ≡ asks (record no_options { view = true }))
+    × (request_of (codes "run" ∷ codes "a.c" ∷ codes "--" ∷ codes "--view" ∷ []) ≡ None)
+    × (request_of (codes "check" ∷ codes "-" ∷ []) ≡ Some (Check (codes "-")))
+    × (run_with (codes "--acts" ∷ codes "-" ∷ []) ≡ asks (record no_options { acts = Some (codes "-") }))
+    × (run_with (codes "--acts=-f" ∷ []) ≡ asks (record no_options { acts = Some (codes "-f") }))
+    × (run_with (codes "--acts=--view" ∷ []) ≡ asks (record no_options { acts = Some (codes "--view") }))
+
 -- words that spell no request
 abbrev pub refused : Type 0
 refused =
     (request_of [] ≡ None)
     × (request_of (codes "run" ∷ []) ≡ None)
+    × (request_of (codes "--help" ∷ []) ≡ None)
+    × (request_of (codes "-h" ∷ []) ≡ None)
+    × (request_of (codes "help" ∷ codes "run" ∷ []) ≡ None)
+    × (request_of (codes "run" ∷ codes "--help" ∷ codes "a.c" ∷ []) ≡ None)
+    × (request_of (codes "--version" ∷ []) ≡ None)
+    × (request_of (codes "record" ∷ codes "a.c" ∷ []) ≡ None)
+    × (request_of (codes "big" ∷ codes "1" ∷ codes "2" ∷ []) ≡ None)
+    × (request_of (codes "run" ∷ codes "a.c" ∷ codes "b.c" ∷ codes "c.c" ∷ []) ≡ None)
     × (request_of (codes "walk" ∷ codes "a.c" ∷ []) ≡ None)
     × (request_of (codes "run" ∷ codes "-x" ∷ []) ≡ None)
     × (run_with (codes "b.c" ∷ []) ≡ None)
@@ -84,7 +109,10 @@ refused =
     × (run_with (codes "--views" ∷ []) ≡ None)
     × (run_with (codes "--acts" ∷ []) ≡ None)
     × (run_with (codes "--acts" ∷ codes "-f" ∷ []) ≡ None)
-    × (run_with (codes "--acts=-f" ∷ []) ≡ None)
+    × (run_with (codes "--acts" ∷ codes "--view" ∷ []) ≡ None)
+    × (run_with (codes "--vie" ∷ []) ≡ None)
+    × (run_with (codes "-v" ∷ []) ≡ None)
+    × (run_with (codes "--code" ∷ []) ≡ None)
     × (run_with (codes "--sandbox=" ∷ []) ≡ None)
     × (run_with (codes "--sandbox" ∷ codes "+65536" ∷ []) ≡ None)
     × (run_with (codes "--sandbox" ∷ codes "65535" ∷ []) ≡ None)

@@ -2,14 +2,13 @@
 use Rattle.std.specs.Prelude.{ℕ, List, [], Option, Some, None, option_map, unwrap_or}
 use Rattle.std.proofs.Common.{ℤ}
 use Rattle.std.specs.Borrow.{Bor}
-use Rattle.ccbox_call_words.specs.Requests.{Request, Check, Split, Run, Exec, Options, Choice, ActsFrom, InputOf, BudgetOf, SandboxOf, TrustedOf, BaseOf, View}
-use Rattle.ccbox_call_words.specs.Requests.{Releases, Dump, input_list}
+use Rattle.ccbox_call_words.specs.CommandLine.{Found}
+use Rattle.ccbox_call_words.specs.Requests.{Request, Check, Split, Run, Exec, Options, input_list}
+use Rattle.ccbox_call_words.specs.declared.command_line.Found as code_found
 use Rattle.ccbox_call_words.specs.declared.inputs.InputList.{InputList}
 use Rattle.ccbox_call_words.specs.declared.request.Request as code
 use Rattle.ccbox_call_words.specs.declared.request.Request.TheVariants as requests
 use Rattle.ccbox_call_words.specs.declared.request.Options as code_options
-use Rattle.ccbox_call_words.specs.declared.request.Choice as code_choice
-use Rattle.ccbox_call_words.specs.declared.request.Choice.TheVariants as choices
 
 -- the numbers of a list
 abbrev pub numbers_of : InputList → List ℤ
@@ -39,13 +38,25 @@ abbrev pub requested : Option code.Request → Option Request
 requested None = None
 requested (Some r) = Some (request r)
 
-abbrev pub choice : code_choice.Choice → Choice
-choice (choices.ActsFrom file) = ActsFrom file.now
-choice (choices.InputOf list) = InputOf (numbers_of list)
-choice (choices.BudgetOf ticks) = BudgetOf ticks
-choice (choices.SandboxOf bytes) = SandboxOf bytes
-choice (choices.TrustedOf bytes) = TrustedOf bytes
-choice (choices.BaseOf address) = BaseOf address
-choice choices.View = View
-choice choices.Releases = Releases
-choice choices.Dump = Dump
+-- a text, if there is one
+abbrev pub text_of : Option (Bor (List ℕ)) → Option (List ℕ)
+text_of = option_map (λ text. text.now)
+
+-- what is found in words
+abbrev pub found : code_found.Found → Found
+found f =
+    record {
+      command = text_of f.command;
+      first = text_of f.first;
+      second = text_of f.second;
+      acts = text_of f.acts;
+      input = text_of f.input;
+      budget = text_of f.budget;
+      sandbox = text_of f.sandbox;
+      trusted = text_of f.trusted;
+      base = text_of f.base;
+      view = f.view;
+      releases = f.releases;
+      dump = f.dump;
+      code = f.code;
+    }

@@ -1,12 +1,13 @@
 -- What the words of the command line ask for.
-use Rattle.std.specs.Prelude.{ℕ, zero, suc, ◌%◌, Bool, true, false, not, ◌&&◌, ◌==◌, nat_le, if◌then◌else◌, List, [], ◌∷◌, codes, drop, length}
-use Rattle.std.specs.Prelude.{Option, Some, None, option_map, unwrap_or, pos, negsuc}
+use Rattle.std.specs.Prelude.{ℕ, zero, suc, ◌%◌, Bool, true, false, ◌&&◌, ◌||◌, ◌==◌, nat_le, if◌then◌else◌, List, [], ◌∷◌, codes, drop, length}
+use Rattle.std.specs.Prelude.{Option, Some, None, is_some, option_map, unwrap_or, pos, negsuc}
 use Rattle.std.proofs.Common.{ℤ}
 use Rattle.std.specs.Option.{option_and_then}
 use Rattle.std.specs.List.{list_all, starts_with}
 use Rattle.std.specs.Str.{bytes_eq}
 use Rattle.std.specs.Str.Parse.{digits_value}
 use Rattle.act_words.specs.declared.settings.Settings.{Settings}
+use Rattle.ccbox_call_words.specs.CommandLine.{Found, found_by}
 
 -- what is asked for beside the file: the file of acts, the input numbers, the limits of the run, where its memory stands, and
 -- what is printed beside the output
@@ -69,11 +70,6 @@ inputs_of o = unwrap_or o.input []
 
 -- ---- values
 
--- the word may name a file: it doesn't begin with `-`
-abbrev pub may_name_file : List ℕ → Bool
-may_name_file [] = true
-may_name_file (b ∷ bs) = not (b == 45)
-
 abbrev pub is_digit : ℕ → Bool
 is_digit b = nat_le 48 b && nat_le b 57
 
@@ -124,116 +120,74 @@ input_list text = option_and_then few (numbers_in (pieces_of text))
 
 -- ---- options
 
--- one option that is chosen
-pub data Choice : Type 0 where
-  ActsFrom : (file : List ℕ) → Choice
-  InputOf : (numbers : List ℤ) → Choice
-  BudgetOf : (ticks : ℕ) → Choice
-  SandboxOf : (bytes : ℕ) → Choice
-  TrustedOf : (bytes : ℕ) → Choice
-  BaseOf : (address : ℕ) → Choice
-  View : Choice
-  Releases : Choice
-  Dump : Choice
+-- what an option's text is read as, if it was given: none where it is no such text
+abbrev pub read_if_given : {A : Type 0} → (List ℕ → Option A) → Option (List ℕ) → Option (Option A)
+read_if_given read None = Some None
+read_if_given read (Some text) = option_map Some (read text)
 
-abbrev pub acts_choice : List ℕ → Option Choice
-acts_choice file = if may_name_file file then Some (ActsFrom file) else None
+-- the options of a run with these values
+abbrev pub options_with : Found → Option (List ℤ) → Option ℕ → Option ℕ → Option ℕ → Option ℕ → Options
+options_with found input budget sandbox trusted base =
+    record {
+      acts = found.acts;
+      input = input;
+      budget = budget;
+      sandbox = sandbox;
+      trusted = trusted;
+      base = base;
+      view = found.view;
+      releases = found.releases;
+      dump = found.dump;
+    }
 
-abbrev pub input_choice : List ℕ → Option Choice
-input_choice text = option_map InputOf (input_list text)
+-- the options of a run, if each text is what its option takes
+abbrev pub options_read : Found → Option Options
+options_read found =
+    option_and_then (λ input.
+    option_and_then (λ budget.
+    option_and_then (λ sandbox.
+    option_and_then (λ trusted.
+    option_map (options_with found input budget sandbox trusted) (read_if_given base_from found.base))
+    (read_if_given (number_from 65536 4194304) found.trusted))
+    (read_if_given (number_from 65536 16777216) found.sandbox))
+    (read_if_given (number_from 1 1000000000) found.budget))
+    (read_if_given input_list found.input)
 
--- what an option of this name chooses with a value
-abbrev pub value_choice : List ℕ → List ℕ → Option Choice
-value_choice name value =
-    if bytes_eq name (codes "--acts") then acts_choice value
-    else if bytes_eq name (codes "--input") then input_choice value
-    else if bytes_eq name (codes "--budget") then option_map BudgetOf (number_from 1 1000000000 value)
-    else if bytes_eq name (codes "--sandbox") then option_map SandboxOf (number_from 65536 16777216 value)
-    else if bytes_eq name (codes "--trusted") then option_map TrustedOf (number_from 65536 4194304 value)
-    else if bytes_eq name (codes "--base") then option_map BaseOf (base_from value)
-    else None
+-- the same, and `--code` isn't taken
+abbrev pub options_in : Found → Option Options
+options_in found = if found.code then None else options_read found
 
--- what stands before the first such byte of a text, and what stands behind it
-abbrev pub cut_at : ℕ → List ℕ → Option (List ℕ × List ℕ)
-cut_at c [] = None
-cut_at c (b ∷ bs) = if b == c then Some ([], bs) else option_map (λ cut. (b ∷ cut.0, cut.1)) (cut_at c bs)
+-- an option that takes a text was given
+abbrev pub has_texts : Found → Bool
+has_texts found = is_some found.acts || is_some found.input || is_some found.budget || is_some found.sandbox || is_some found.trusted || is_some found.base
 
--- what a word chooses by itself: a flag, or a name with its value behind an equals sign
-abbrev pub word_choice : List ℕ → Option Choice
-word_choice word =
-    if bytes_eq word (codes "--view") then Some View
-    else if bytes_eq word (codes "--releases") then Some Releases
-    else if bytes_eq word (codes "--dump") then Some Dump
-    else option_and_then (λ cut. value_choice cut.0 cut.1) (cut_at 61 word)
-
--- what a word chooses with the word behind it, which doesn't begin with `-`
-abbrev pub pair_choice : List ℕ → List ℕ → Option Choice
-pair_choice word value = if may_name_file value then value_choice word value else None
-
--- the choice of one word and then those behind it, or the choice of two words and then those behind them
-abbrev pub choice_then : Option Choice → Option (List Choice) → Option Choice → Option (List Choice) → Option (List Choice)
-choice_then (Some choice) behind_one pair behind_two = option_map (λ choices. choice ∷ choices) behind_one
-choice_then None behind_one (Some choice) behind_two = option_map (λ choices. choice ∷ choices) behind_two
-choice_then None behind_one None behind_two = None
-
--- what words choose, from left to right
-abbrev pub choices_of : List (List ℕ) → Option (List Choice)
-choices_of [] = Some []
-choices_of (word ∷ []) = option_map (λ choice. choice ∷ []) (word_choice word)
-choices_of (word ∷ value ∷ words) = choice_then (word_choice word) (choices_of (value ∷ words)) (pair_choice word value) (choices_of words)
-
--- an option that wasn't chosen before
-abbrev pub unless_chosen : {A B : Type 0} → Option A → B → Option B
-unless_chosen None chosen = Some chosen
-unless_chosen (Some before) chosen = None
-
-abbrev pub unless_set : {B : Type 0} → Bool → B → Option B
-unless_set false chosen = Some chosen
-unless_set true chosen = None
-
--- one more choice. Each option is chosen once
-abbrev pub chosen : Options → Choice → Option Options
-chosen o (ActsFrom file) = unless_chosen o.acts (record o { acts = Some file })
-chosen o (InputOf numbers) = unless_chosen o.input (record o { input = Some numbers })
-chosen o (BudgetOf ticks) = unless_chosen o.budget (record o { budget = Some ticks })
-chosen o (SandboxOf bytes) = unless_chosen o.sandbox (record o { sandbox = Some bytes })
-chosen o (TrustedOf bytes) = unless_chosen o.trusted (record o { trusted = Some bytes })
-chosen o (BaseOf address) = unless_chosen o.base (record o { base = Some address })
-chosen o View = unless_set o.view (record o { view = true })
-chosen o Releases = unless_set o.releases (record o { releases = true })
-chosen o Dump = unless_set o.dump (record o { dump = true })
-
-abbrev pub all_chosen : Options → List Choice → Option Options
-all_chosen o [] = Some o
-all_chosen o (choice ∷ choices) = option_and_then (λ p. all_chosen p choices) (chosen o choice)
-
--- the options that words spell, if they spell any
-abbrev pub options_of : List (List ℕ) → Option Options
-options_of words = option_and_then (all_chosen no_options) (choices_of words)
+-- an option was given
+abbrev pub has_options : Found → Bool
+has_options found = has_texts found || found.view || found.releases || found.dump || found.code
 
 -- ---- requests
 
-abbrev pub request_if : Bool → Option Request → Option Request
-request_if true request = request
-request_if false request = None
+-- a request that takes no option
+abbrev pub without_options : Found → Request → Option Request
+without_options found request = if has_options found then None else Some request
 
--- a request that takes no further word
-abbrev pub alone : List (List ℕ) → Request → Option Request
-alone [] request = Some request
-alone (word ∷ words) request = None
-
--- what a command asks about a file, with the words behind both: `check FILE`, `split FILE`, or `run FILE` or `exec FILE` and options
--- in any order
-abbrev pub command_request : List ℕ → List ℕ → List (List ℕ) → Option Request
-command_request command file words =
-    if bytes_eq command (codes "check") then alone words (Check file)
-    else if bytes_eq command (codes "split") then alone words (Split file)
-    else if bytes_eq command (codes "run") then option_map (Run file) (options_of words)
-    else if bytes_eq command (codes "exec") then option_map (Exec file) (options_of words)
+-- what a command asks about a file: `check FILE`, `split FILE`, or `run FILE` or `exec FILE` and options
+abbrev pub command_request : List ℕ → List ℕ → Found → Option Request
+command_request command file found =
+    if bytes_eq command (codes "check") then without_options found (Check file)
+    else if bytes_eq command (codes "split") then without_options found (Split file)
+    else if bytes_eq command (codes "run") then option_map (Run file) (options_in found)
+    else if bytes_eq command (codes "exec") then option_map (Exec file) (options_in found)
     else None
+
+-- what a command, one word behind it and none more ask for
+abbrev pub request_by : Option (List ℕ) → Option (List ℕ) → Option (List ℕ) → Found → Option Request
+request_by (Some command) (Some file) None found = command_request command file found
+request_by _ _ _ found = None
+
+abbrev pub request_in : Found → Option Request
+request_in found = request_by found.command found.first found.second found
 
 -- the request that the words spell, if they spell one
 abbrev pub request_of : List (List ℕ) → Option Request
-request_of [] = None
-request_of (command ∷ []) = None
-request_of (command ∷ file ∷ words) = request_if (may_name_file file) (command_request command file words)
+request_of words = option_and_then request_in (found_by words)

@@ -12,6 +12,7 @@ pub fn requests()
     ensures commands { examples.commands }
     ensures listings { examples.listings }
     ensures together { examples.together }
+    ensures places { examples.places }
     ensures refused { examples.refused }
     ensures twice { examples.twice }
     ensures lists { examples.lists }

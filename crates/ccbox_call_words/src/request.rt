@@ -1,10 +1,10 @@
 // What the words of the command line ask for.
 
-ghost use Rattle.std.specs.Prelude.{◌≡◌, ◌≤◌, ◌∷◌, IfOk, IfSome, option_map, map, drop, length};
-ghost use Rattle.std.specs.Option.{option_and_then};
-ghost use Rattle.ccbox_call_words.specs.Requests.{settings_of, inputs_of, may_name_file, acts_choice, input_choice, cut_at, value_choice, word_choice, pair_choice, choices_of, chosen, options_of, alone, command_request, request_of};
-ghost use Rattle.ccbox_call_words.specs.Requested.{request as request_view, requested, options as options_view, choice as choice_view};
+ghost use Rattle.std.specs.Prelude.{◌≡◌, IfOk, option_map, map};
+ghost use Rattle.ccbox_call_words.specs.Requests.{settings_of, inputs_of, number_from, base_from, input_list, read_if_given, options_in, has_texts, has_options, without_options, command_request, request_in, request_of};
+ghost use Rattle.ccbox_call_words.specs.Requested.{request as request_view, requested, options as options_view, found as found_view, numbers_of, text_of};
 
+use crate::command_line::{Found, find};
 use crate::inputs::InputList;
 use crate::numbers::{base_from, number_from};
 use act_words::settings::Settings;
@@ -35,19 +35,6 @@ pub struct Options<'a> {
 }
 
 impl<'a> Options<'a> {
-    // Nothing beside the file.
-    const NONE: Options<'static> = Options {
-        acts: None,
-        input: None,
-        budget: None,
-        sandbox: None,
-        trusted: None,
-        base: None,
-        view: false,
-        releases: false,
-        dump: false,
-    };
-
     /// The settings of a run with these options.
     pub fn settings(&self) -> Settings
         ensures { result ≡ settings_of (options_view self.now) }
@@ -73,45 +60,6 @@ impl<'a> Options<'a> {
             None => Ok(Vec::new(alloc)),
         }
     }
-
-    // These options and one more choice, unless that option is chosen already.
-    fn choose(self, choice: Choice<'a>) -> Option<Options<'a>>
-        ensures { option_map options_view result ≡ chosen (options_view self.entry) (choice_view choice.entry) }
-    {
-        match choice {
-            Choice::ActsFrom(file) if self.acts.is_none() => Some(Options {
-                acts: Some(file),
-                ..self
-            }),
-            Choice::InputOf(list) if self.input.is_none() => Some(Options {
-                input: Some(list),
-                ..self
-            }),
-            Choice::BudgetOf(ticks) if self.budget.is_none() => Some(Options {
-                budget: Some(ticks),
-                ..self
-            }),
-            Choice::SandboxOf(bytes) if self.sandbox.is_none() => Some(Options {
-                sandbox: Some(bytes),
-                ..self
-            }),
-            Choice::TrustedOf(bytes) if self.trusted.is_none() => Some(Options {
-                trusted: Some(bytes),
-                ..self
-            }),
-            Choice::BaseOf(address) if self.base.is_none() => Some(Options {
-                base: Some(address),
-                ..self
-            }),
-            Choice::View if !self.view => Some(Options { view: true, ..self }),
-            Choice::Releases if !self.releases => Some(Options {
-                releases: true,
-                ..self
-            }),
-            Choice::Dump if !self.dump => Some(Options { dump: true, ..self }),
-            _ => None,
-        }
-    }
 }
 
 /// What is asked for.
@@ -128,156 +76,123 @@ pub enum Request<'a> {
 }
 
 /// The request that words spell, if they spell one.
-pub fn request_from<'a>(words: &[&'a str]) -> Option<Request<'a>>
-    ensures { requested result ≡ request_of (map (λ word. word.now) words.now) }
+pub fn request_from<'a>(
+    alloc: Global,
+    words: &'a [&'a str],
+) -> Result<Option<Request<'a>>, NoMemory>
+    ensures { IfOk result (λ request. requested request ≡ request_of (map (λ word. word.now) words.now)) }
 {
-    match words {
-        [command, file, rest @ ..] if may_name_file(file) => command_request(command, file, rest),
+    match find(alloc, words)? {
+        Some(found) => Ok(request_in(&found)),
+        None => Ok(None),
+    }
+}
+
+// What is asked for by what was found in words, if it is a request.
+fn request_in<'a>(found: &Found<'a>) -> Option<Request<'a>>
+    ensures { requested result ≡ request_in (found_view found.now) }
+{
+    match (found.command, found.first, found.second) {
+        (Some(command), Some(file), None) => command_request(command, file, found),
         _ => None,
     }
 }
 
-// What a command asks about a file, with the words behind both.
-fn command_request<'a>(command: &str, file: &'a str, rest: &[&'a str]) -> Option<Request<'a>>
-    ensures { requested result ≡ command_request command.now file.now (map (λ word. word.now) rest.now) }
+// What a command asks about a file.
+fn command_request<'a>(command: &str, file: &'a str, found: &Found<'a>) -> Option<Request<'a>>
+    ensures { requested result ≡ command_request command.now file.now (found_view found.now) }
 {
     match command {
-        "check" => alone(rest, Request::Check { file }),
-        "split" => alone(rest, Request::Split { file }),
+        "check" => without_options(found, Request::Check { file }),
+        "split" => without_options(found, Request::Split { file }),
         "run" => {
-            let options = options_from(rest)?;
+            let options = options_in(found)?;
             Some(Request::Run { file, options })
         }
         "exec" => {
-            let options = options_from(rest)?;
+            let options = options_in(found)?;
             Some(Request::Exec { file, options })
         }
         _ => None,
     }
 }
 
-// A request that takes no further word.
-fn alone<'a>(rest: &[&'a str], request: Request<'a>) -> Option<Request<'a>>
-    ensures { requested result ≡ alone (map (λ word. word.now) rest.now) (request_view request.entry) }
+// A request that takes no option.
+fn without_options<'a>(found: &Found<'a>, request: Request<'a>) -> Option<Request<'a>>
+    ensures { requested result ≡ without_options (found_view found.now) (request_view request.entry) }
 {
-    if rest.is_empty() { Some(request) } else { None }
-}
-
-// The options that words spell, if they spell any.
-fn options_from<'a>(words: &[&'a str]) -> Option<Options<'a>>
-    ensures { option_map options_view result ≡ options_of (map (λ word. word.now) words.now) }
-{
-    let mut options = Options::NONE;
-    let mut taken = 0;
-    while taken < words.len() {
-        let (choice, values) = first_choice(words[taken], &words[taken + 1..])?;
-        options = options.choose(choice)?;
-        taken += 1 + values;
-    }
-    Some(options)
-}
-
-// One option that is chosen.
-#[derive(Clone, Copy)]
-enum Choice<'a> {
-    ActsFrom(&'a str),
-    InputOf(InputList<'a>),
-    BudgetOf(u32),
-    SandboxOf(u32),
-    TrustedOf(u32),
-    BaseOf(u32),
-    View,
-    Releases,
-    Dump,
-}
-
-// The choice that a word begins, and how many of the words behind it belong to that choice.
-fn first_choice<'a>(word: &'a str, behind: &[&'a str]) -> Option<(Choice<'a>, usize)>
-    ensures choices { choices_of (word.now ∷ map (λ word. word.now) behind.now) ≡
-        option_and_then (λ first. option_map (λ choices. choice_view first.0 ∷ choices) (choices_of (drop first.1 (map (λ word. word.now) behind.now)))) result }
-    ensures within { IfSome result (λ first. first.1 ≤ length behind.now) }
-{
-    match (word_choice(word), behind) {
-        (Some(choice), _) => Some((choice, 0)),
-        (None, [value, ..]) => {
-            let choice = pair_choice(word, value)?;
-            Some((choice, 1))
-        }
-        (None, []) => None,
-    }
-}
-
-// What a word chooses by itself: a flag, or a name with its value behind an equals sign.
-fn word_choice<'a>(word: &'a str) -> Option<Choice<'a>>
-    ensures { option_map choice_view result ≡ word_choice word.now }
-{
-    match word {
-        "--view" => Some(Choice::View),
-        "--releases" => Some(Choice::Releases),
-        "--dump" => Some(Choice::Dump),
-        _ => {
-            let (name, value) = name_and_value(word)?;
-            value_choice(name, value)
-        }
-    }
-}
-
-// What stands before the first equals sign of a word, and what stands behind it.
-fn name_and_value(word: &str) -> Option<(&str, &str)>
-    ensures { option_map (λ parts. (parts.0.now, parts.1.now)) result ≡ cut_at 61 word.now }
-{
-    word.split_once('=')
-}
-
-// What a word chooses with the word behind it.
-fn pair_choice<'a>(word: &str, value: &'a str) -> Option<Choice<'a>>
-    ensures { option_map choice_view result ≡ pair_choice word.now value.now }
-{
-    if may_name_file(value) {
-        value_choice(word, value)
-    } else {
+    if has_options(found) {
         None
-    }
-}
-
-// What an option of this name chooses with a value.
-fn value_choice<'a>(name: &str, value: &'a str) -> Option<Choice<'a>>
-    ensures { option_map choice_view result ≡ value_choice name.now value.now }
-{
-    match name {
-        "--acts" => acts_choice(value),
-        "--input" => input_choice(value),
-        "--budget" => Some(Choice::BudgetOf(number_from(1, 1_000_000_000, value)?)),
-        "--sandbox" => Some(Choice::SandboxOf(number_from(65_536, 16_777_216, value)?)),
-        "--trusted" => Some(Choice::TrustedOf(number_from(65_536, 4_194_304, value)?)),
-        "--base" => Some(Choice::BaseOf(base_from(value)?)),
-        _ => None,
-    }
-}
-
-fn acts_choice<'a>(file: &'a str) -> Option<Choice<'a>>
-    ensures { option_map choice_view result ≡ acts_choice file.now }
-{
-    if may_name_file(file) {
-        Some(Choice::ActsFrom(file))
     } else {
-        None
+        Some(request)
     }
 }
 
-fn input_choice<'a>(text: &'a str) -> Option<Choice<'a>>
-    ensures { option_map choice_view result ≡ input_choice text.now }
+// Whether an option was given.
+fn has_options(found: &Found<'_>) -> bool
+    ensures { result ≡ has_options (found_view found.now) }
 {
-    let list = InputList::new(text)?;
-    Some(Choice::InputOf(list))
+    has_texts(found) || found.view || found.releases || found.dump || found.code
 }
 
-// The word may name a file: it doesn't begin with `-`.
-fn may_name_file(word: &str) -> bool
-    ensures { result ≡ may_name_file word.now }
+// Whether an option that takes a text was given.
+fn has_texts(found: &Found<'_>) -> bool
+    ensures { result ≡ has_texts (found_view found.now) }
 {
-    match word.as_bytes() {
-        [first, ..] => *first != b'-',
-        [] => true,
+    found.acts.is_some()
+        || found.input.is_some()
+        || found.budget.is_some()
+        || found.sandbox.is_some()
+        || found.trusted.is_some()
+        || found.base.is_some()
+}
+
+// The options of a run, if each text is what its option takes. `--code` isn't taken.
+fn options_in<'a>(found: &Found<'a>) -> Option<Options<'a>>
+    ensures { option_map options_view result ≡ options_in (found_view found.now) }
+{
+    if found.code {
+        return None;
+    }
+    Some(Options {
+        acts: found.acts,
+        input: list_if_given(found.input)?,
+        budget: number_if_given(1, 1_000_000_000, found.budget)?,
+        sandbox: number_if_given(65_536, 16_777_216, found.sandbox)?,
+        trusted: number_if_given(65_536, 4_194_304, found.trusted)?,
+        base: base_if_given(found.base)?,
+        view: found.view,
+        releases: found.releases,
+        dump: found.dump,
+    })
+}
+
+// The list of input numbers that a text spells, if it was given.
+fn list_if_given<'a>(text: Option<&'a str>) -> Option<Option<InputList<'a>>>
+    ensures { option_map (option_map numbers_of) result ≡ read_if_given input_list (text_of text.entry) }
+{
+    match text {
+        Some(text) => Some(Some(InputList::new(text)?)),
+        None => Some(None),
+    }
+}
+
+// The number from one to another that a text spells, if it was given.
+fn number_if_given(least: u32, most: u32, text: Option<&str>) -> Option<Option<u32>>
+    ensures { result ≡ read_if_given (number_from least most) (text_of text.entry) }
+{
+    match text {
+        Some(text) => Some(Some(number_from(least, most, text)?)),
+        None => Some(None),
+    }
+}
+
+// The address that a text spells, if it was given and a memory may begin there.
+fn base_if_given(text: Option<&str>) -> Option<Option<u32>>
+    ensures { result ≡ read_if_given base_from (text_of text.entry) }
+{
+    match text {
+        Some(text) => Some(Some(base_from(text)?)),
+        None => Some(None),
     }
 }

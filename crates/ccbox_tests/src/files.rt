@@ -1,13 +1,18 @@
 // Files and the output of the operating system, and calls whose files or outputs fail.
 
-use crate::calls::{Call, answers, answers_over, files};
+use crate::calls::{Call, answers, answers_over, files, words_of};
 use crate::lines::{add, add_number};
 use crate::rows::expect;
+use act_recorder::endings::answer_text;
+use act_words::ending::Ending;
+use ccbox_call::call::ccbox;
+use ckc_io::blank_sink::BlankSink;
 use ckc_io::file_shelf::FileShelf;
 use ckc_io::mem_shelf::MemShelf;
 use ckc_io::out_sink::OutSink;
 use ckc_io::shelf::{Shelf, ShelfFault};
 use ckc_io::sink::Sink;
+use ckc_io::sure_sink::SureSink;
 use ckc_io::whole::read_whole;
 use std::alloc::Global;
 use std::test::Fail;
@@ -274,10 +279,42 @@ fn answers_so(alloc: Global) -> bool {
         && takes_reads(alloc, 8193, 4)
 }
 
+// Whether a line is collected twice in a text for which room is taken before, as much as is needed.
+fn collects(alloc: Global) -> bool {
+    let Ok(line) = answer_text(alloc, &Ending::Exit { value: 42 }) else {
+        return false;
+    };
+    let mut text = SureSink::new(alloc);
+    let empty = text.room() == 0 && text.bytes().is_empty();
+    for _ in 0..2 {
+        if text.reserve(line.len()).is_err() || text.room() < line.len() {
+            return false;
+        }
+        text.put(line.as_slice());
+    }
+    let whole = text.bytes() == b"[exit 42]\n[exit 42]\n";
+    empty && whole && text.room() == 0 && text.reserve(usize::MAX).is_err() && text.room() == 0
+}
+
+// Whether a call whose output is dropped has the status of one whose output is kept.
+fn drops(alloc: Global) -> bool {
+    let mut sink = BlankSink::new();
+    let words = words_of(alloc, SOURCE_READ.words);
+    let mut shelf = files(alloc, &SOURCE_READ);
+    let status = ccbox(alloc, words.as_slice(), &mut shelf, &mut sink).number();
+    status == SOURCE_READ.status
+        && matches!(sink.put(b""), Ok(0))
+        && matches!(sink.put(b"abc"), Ok(3))
+}
+
 /// Fails unless files and outputs that fail are answered as they must be.
 pub fn files_and_outputs(rt: &HostRuntime) -> Result<(), Fail> {
     expect(
         "files and outputs",
-        reads_file_of_system(rt) && takes_piece(rt) && answers_so(rt.alloc()),
+        reads_file_of_system(rt)
+            && takes_piece(rt)
+            && answers_so(rt.alloc())
+            && collects(rt.alloc())
+            && drops(rt.alloc()),
     )
 }

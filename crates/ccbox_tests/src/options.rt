@@ -26,7 +26,6 @@ const REFUSED: &str = "[usage] ccbox check|split|run|record|big|exec@@@
 [usage] ccbox check|split|run|record|big|exec@run a.c --dump --dump@@
 [usage] ccbox check|split|run|record|big|exec@run a.c --acts@@
 [usage] ccbox check|split|run|record|big|exec@run a.c --acts -f@@
-[usage] ccbox check|split|run|record|big|exec@run a.c --acts=-f@@
 [usage] ccbox check|split|run|record|big|exec@run a.c --acts=f --acts f@@
 [usage] ccbox check|split|run|record|big|exec@run a.c --sandbox 65535@@
 [usage] ccbox check|split|run|record|big|exec@run a.c --sandbox=16777217@@
@@ -60,13 +59,43 @@ const REFUSED: &str = "[usage] ccbox check|split|run|record|big|exec@@@
 [usage] ccbox check|split|run|record|big|exec@run a.c --view=1@@
 [usage] ccbox check|split|run|record|big|exec@run a.c --dump=@@
 [usage] ccbox check|split|run|record|big|exec@run a.c --what@@
-[usage] ccbox check|split|run|record|big|exec@run --view a.c@@
+[usage] ccbox check|split|run|record|big|exec@--help@@
+[usage] ccbox check|split|run|record|big|exec@-h@@
+[usage] ccbox check|split|run|record|big|exec@run --help a.c@@
+[usage] ccbox check|split|run|record|big|exec@run a.c --help@@
+[usage] ccbox check|split|run|record|big|exec@help run@@
+[usage] ccbox check|split|run|record|big|exec@--version@@
+[usage] ccbox check|split|run|record|big|exec@--view@@
+[usage] ccbox check|split|run|record|big|exec@run a.c --code@@
+[usage] ccbox check|split|run|record|big|exec@--code check a.c@@
+[usage] ccbox check|split|run|record|big|exec@big 0 0@@
+[usage] ccbox check|split|run|record|big|exec@big 1 2@@
+[usage] ccbox check|split|run|record|big|exec@run a.c b.c c.c@@
+[usage] ccbox check|split|run|record|big|exec@run a.c --vie@@
+[usage] ccbox check|split|run|record|big|exec@run a.c -v@@
+[usage] ccbox check|split|run|record|big|exec@run a.c -- --view@@
+[usage] ccbox check|split|run|record|big|exec@run a.c --acts --view@@
+[usage] ccbox check|split|run|record|big|exec@run a.c --acts f g@@
+[usage] ccbox check|split|run|record|big|exec@run a.c --code=1@@
+[usage] ccbox check|split|run|record|big|exec@split --budget 1 a.c@@
+[usage] ccbox check|split|run|record|big|exec@--@@
+[usage] ccbox check|split|run|record|big|exec@-- run@@
 [usage] ccbox check|split|run|record|big|exec@run a.c --view f@@";
 
 // Files, memories, budgets and input numbers.
 const ASKED: &str =
     r#"[missing nofile]@run nofile@@int g = 1; int main(void) { ptr<int> p = &g; *p = 41; return g + 1; }
 [missing ]@run @@int g = 1; int main(void) { ptr<int> p = &g; *p = 41; return g + 1; }
+[missing -f]@run a.c --acts=-f@@int g = 1; int main(void) { ptr<int> p = &g; *p = 41; return g + 1; }
+[missing --view]@run a.c --acts=--view@@int g = 1; int main(void) { ptr<int> p = &g; *p = 41; return g + 1; }
+[missing -]@run a.c --acts -@@int g = 1; int main(void) { ptr<int> p = &g; *p = 41; return g + 1; }
+[missing -x]@run -- -x@@int g = 1; int main(void) { ptr<int> p = &g; *p = 41; return g + 1; }
+[missing -]@run -@@int g = 1; int main(void) { ptr<int> p = &g; *p = 41; return g + 1; }
+[exit 42]@--view run a.c@@int g = 1; int main(void) { ptr<int> p = &g; *p = 41; return g + 1; }
+[exit 42]@--budget 10 run --sandbox=65536 a.c --trusted 65536@@int g = 1; int main(void) { ptr<int> p = &g; *p = 41; return g + 1; }
+[exit 42]@--releases -- run a.c@@int g = 1; int main(void) { ptr<int> p = &g; *p = 41; return g + 1; }
+[missing --view]@run -- --view@@int g = 1; int main(void) { ptr<int> p = &g; *p = 41; return g + 1; }
+[missing a=b]@run a.c --acts=a=b@@int g = 1; int main(void) { ptr<int> p = &g; *p = 41; return g + 1; }
 [exit 42]@run a.c --releases --sandbox 00016777216 --view@@int g = 1; int main(void) { ptr<int> p = &g; *p = 41; return g + 1; }
 [exit 42]@run a.c --trusted 4194304 --sandbox=65536@@int g = 1; int main(void) { ptr<int> p = &g; *p = 41; return g + 1; }
 [exit 6]@run a.c --budget 10@@int main(void) { for (int i = 0; i < 10; i++) ; return 6; }¶
@@ -91,6 +120,7 @@ const CHECKED: &str = r#"[accepted all checked]@check a.c@@int main(void) { retu
 [refused E06 1:27 syntax]@check a.c@@int main(void) { return 1 }
 [refused E02 2:10 no token]@check a.c@@int main(void) {¶  return 07; }
 [missing nofile]@check nofile@@int main(void) { return 0; }
+[missing -x]@check -- -x@@int main(void) { return 0; }
 [missing ]@check @@int main(void) { return 0; }
 [refused E28 1:1 no main]@split a.c@@
 [refused E06 1:27 syntax]@split a.c@@int main(void) { return 1 }
