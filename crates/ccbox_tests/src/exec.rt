@@ -61,6 +61,24 @@ const CALLS: &str =
 [exit 67305985]¶[block 65552 4 01020304]@exec a.c --acts f --dump@@ccbox listing 1¶trusted¶block 0 4 01020304¶fun 0 main args 0 slots 0 stack 1 result int¶gaddr 0¶ld4¶ret¶end¶main 0¶sandbox¶close¶
 [exit 67305985]¶[block 32 4 01020304]@exec a.c --acts f --dump --base=16@@ccbox listing 1¶trusted¶block 0 4 01020304¶fun 0 main args 0 slots 0 stack 1 result int¶gaddr 0¶ld4¶ret¶end¶main 0¶sandbox¶close¶"#;
 
+// Touches of sandbox memory, between which acts fall, and allocations there.
+const TOUCHES: &str =
+    r#"[exit 12]@exec a.c --acts f@{"act":"write","at":16,"hex":"20000000"}¶{"act":"write","at":32,"hex":"05000000"}¶{"act":"go"}¶{"act":"go"}¶{"act":"write","at":16,"hex":"40000000"}¶{"act":"write","at":64,"hex":"07000000"}¶{"act":"go"}¶{"act":"go"}¶@ccbox listing 1¶trusted¶fun 0 main args 0 slots 0 stack 3 result int¶saddr 0¶tld4¶nonnull @4:10¶range 0 4 @4:10¶tld4¶saddr 0¶tld4¶nonnull @4:17¶range 0 4 @4:17¶tld4¶add @4:15¶ret¶end¶main 0¶sandbox¶block 0 4 00000000¶close¶
+[check C1 4:17 null]@exec a.c --acts f@{"act":"write","at":16,"hex":"20000000"}¶{"act":"write","at":32,"hex":"05000000"}¶{"act":"go"}¶{"act":"go"}¶{"act":"write","at":16,"hex":"00000000"}¶{"act":"write","at":64,"hex":"07000000"}¶{"act":"go"}¶{"act":"go"}¶@ccbox listing 1¶trusted¶fun 0 main args 0 slots 0 stack 3 result int¶saddr 0¶tld4¶nonnull @4:10¶range 0 4 @4:10¶tld4¶saddr 0¶tld4¶nonnull @4:17¶range 0 4 @4:17¶tld4¶add @4:15¶ret¶end¶main 0¶sandbox¶block 0 4 00000000¶close¶
+[check C4 4:17 sandbox range]@exec a.c --acts f@{"act":"write","at":16,"hex":"20000000"}¶{"act":"write","at":32,"hex":"05000000"}¶{"act":"go"}¶{"act":"go"}¶{"act":"write","at":16,"hex":"fdff0f00"}¶{"act":"go"}¶{"act":"go"}¶@ccbox listing 1¶trusted¶fun 0 main args 0 slots 0 stack 3 result int¶saddr 0¶tld4¶nonnull @4:10¶range 0 4 @4:10¶tld4¶saddr 0¶tld4¶nonnull @4:17¶range 0 4 @4:17¶tld4¶add @4:15¶ret¶end¶main 0¶sandbox¶block 0 4 00000000¶close¶
+[exit 10]@exec a.c --acts f@{"act":"write","at":16,"hex":"20000000"}¶{"act":"write","at":32,"hex":"05000000"}¶{"act":"go"}¶{"act":"go"}¶{"act":"go"}¶{"act":"go"}¶@ccbox listing 1¶trusted¶fun 0 main args 0 slots 0 stack 3 result int¶saddr 0¶tld4¶nonnull @4:10¶range 0 4 @4:10¶tld4¶saddr 0¶tld4¶nonnull @4:17¶range 0 4 @4:17¶tld4¶add @4:15¶ret¶end¶main 0¶sandbox¶block 0 4 00000000¶close¶
+[stop S3 sandbox ended]@exec a.c --acts f@{"act":"write","at":16,"hex":"20000000"}¶{"act":"write","at":32,"hex":"05000000"}¶{"act":"go"}¶{"act":"go"}¶{"act":"write","at":16,"hex":"40000000"}¶{"act":"write","at":64,"hex":"07000000"}¶{"act":"go"}¶@ccbox listing 1¶trusted¶fun 0 main args 0 slots 0 stack 3 result int¶saddr 0¶tld4¶nonnull @4:10¶range 0 4 @4:10¶tld4¶saddr 0¶tld4¶nonnull @4:17¶range 0 4 @4:17¶tld4¶add @4:15¶ret¶end¶main 0¶sandbox¶block 0 4 00000000¶close¶
+[exit 77]@exec a.c --acts f@{"act":"go"}¶{"act":"go"}¶@ccbox listing 1¶trusted¶fun 0 main args 0 slots 0 stack 3 result int¶saddr 0¶const 333¶tst1¶saddr 0¶tld1¶ret¶end¶main 0¶sandbox¶block 0 4 01020304¶close¶
+[exit 5]@exec a.c --acts f@{"act":"go"}¶{"act":"write","at":16,"hex":"05"}¶{"act":"go"}¶@ccbox listing 1¶trusted¶fun 0 main args 0 slots 0 stack 3 result int¶saddr 0¶const 333¶tst1¶saddr 0¶tld1¶ret¶end¶main 0¶sandbox¶block 0 4 01020304¶close¶
+[exit 77]@exec a.c --acts f@{"act":"write","at":16,"hex":"05"}¶{"act":"go"}¶{"act":"go"}¶@ccbox listing 1¶trusted¶fun 0 main args 0 slots 0 stack 3 result int¶saddr 0¶const 333¶tst1¶saddr 0¶tld1¶ret¶end¶main 0¶sandbox¶block 0 4 01020304¶close¶
+[exit -2]@exec a.c --acts f@{"act":"go"}¶{"act":"go"}¶@ccbox listing 1¶trusted¶fun 0 main args 0 slots 0 stack 3 result int¶saddr 1¶const -2¶tst4¶saddr 1¶tld4¶ret¶end¶main 0¶sandbox¶block 0 17 0000000000000000000000000000000000¶block 1 5 0102030405¶close¶
+[exit 511]@exec a.c --acts f@{"act":"go"}¶{"act":"write","at":64,"hex":"ff010000"}¶{"act":"go"}¶@ccbox listing 1¶trusted¶fun 0 main args 0 slots 0 stack 3 result int¶saddr 1¶const -2¶tst4¶saddr 1¶tld4¶ret¶end¶main 0¶sandbox¶block 0 17 0000000000000000000000000000000000¶block 1 5 0102030405¶close¶
+[exit 16]@exec a.c --acts f@@ccbox listing 1¶trusted¶fun 0 main args 0 slots 0 stack 3 result int¶const 2¶salloc 4¶ret¶end¶main 0¶sandbox¶close¶
+[exit 0]@exec a.c --acts f@@ccbox listing 1¶trusted¶fun 0 main args 0 slots 0 stack 3 result int¶const 0¶salloc 4¶ret¶end¶main 0¶sandbox¶close¶
+[exit 64]@exec a.c --acts f@@ccbox listing 1¶trusted¶fun 0 main args 0 slots 0 stack 3 result int¶const 5¶salloc 4¶drop¶const 1¶salloc 1¶ret¶end¶main 0¶sandbox¶close¶
+[exit 0]@exec a.c --acts f --sandbox 65536@@ccbox listing 1¶trusted¶fun 0 main args 0 slots 0 stack 3 result int¶const 65505¶salloc 1¶ret¶end¶main 0¶sandbox¶close¶
+[exit 16]@exec a.c --acts f --sandbox 65536@@ccbox listing 1¶trusted¶fun 0 main args 0 slots 0 stack 3 result int¶const 65504¶salloc 1¶ret¶end¶main 0¶sandbox¶close¶"#;
+
 // What a `main` of one slot and three words does that nobody checked, with few ticks: it returns, a check of it fails, it spends
 // all ticks, or calls too deep; or it takes a step that leads nowhere, outside its memory, its stack, its slots or its code.
 const MAINS: &str = "[exit 7]@@const 7¶ret
@@ -202,10 +220,11 @@ const LARGE: &str =
 [listing line 7]@exec a.c --acts f@@ccbox listing 1¶trusted¶block 0 8388577 `8388577×00`¶main 0¶sandbox¶close¶x
 [listing line 3]@exec a.c --acts f@@ccbox listing 1¶trusted¶block 0 8388577 `8388577×0g`¶main 10¶sandbox¶close¶";
 
-static TABLES: [Table; 6] = [
+static TABLES: [Table; 7] = [
     Table(Question::Call, REFUSED),
     Table(Question::Call, NOT_RUN),
     Table(Question::Call, CALLS),
+    Table(Question::Call, TOUCHES),
     Table(Question::Main, MAINS),
     Table(Question::Sandbox, SANDBOX),
     Table(Question::Call, OWN),
