@@ -1,11 +1,13 @@
 -- Each step from a flow gives a flow.
+use Rattle.std.specs.Prelude.{◌&&◌, ◌+ℤ◌, is_none, pos}
 use Rattle.std.proofs.Common.{ℕ, ◌<◌, ◌≤◌, Bool, true, false, cond, Option, None, Some, List, [], ◌∷◌, fold, set, subst}
 use Rattle.std.proofs.lemmas.List.{length-map, length-replicate, length-set}
 use Rattle.std.proofs.lemmas.List.Elements.{All-replicate}
 use Rattle.bounds_exprs.specs.declared.term.Term.{Term}
-use Rattle.bounds_exprs.specs.Terms.{is_var}
+use Rattle.bounds_exprs.specs.declared.term.Bounds.{Bounds}
+use Rattle.bounds_exprs.specs.Terms.{is_var, is_within, term_limit}
 use Rattle.subsumption.specs.Facts.{IsBelow, fact_of}
-use Rattle.subsumption.specs.ClosedTables.{ClosedTable, with_fact, without}
+use Rattle.subsumption.specs.ClosedTables.{ClosedTable, entails_terms, with_fact, without}
 use Rattle.subsumption.specs.TableLaws.{IsTable}
 use Rattle.subsumption.proofs.TableSteps.{entails_terms_exactly, give_tables}
 use Rattle.bounds_flow.specs.declared.held.Held.{Held}
@@ -14,9 +16,9 @@ use Rattle.bounds_flow.specs.declared.steps.How.{How}
 use Rattle.bounds_flow.specs.declared.steps.How.TheVariants.{Lt, Le, Gt, Ge, Eq, Ne}
 use Rattle.bounds_flow.specs.declared.steps.Test.{Test}
 use Rattle.bounds_flow.specs.declared.steps.Test.TheVariants.{NotNull, Compare}
-use Rattle.bounds_flow.specs.Pointers.{no_pointer}
-use Rattle.bounds_flow.specs.Flows.{Knowledge, at_entry, number_facts, number_held, assumed, opposite, with_comparison, with_equal, variable, held_at}
-use Rattle.bounds_flow.specs.Conditions.{AreOfVariables, IsFlow, IsHeldBelow, IsTermBelow, IsTestWithin}
+use Rattle.bounds_flow.specs.Pointers.{is_own, no_pointer, one_further, up_to, with_bounds}
+use Rattle.bounds_flow.specs.Flows.{Knowledge, are_equal, at_entry, measured, measured_by, number, number_assigned, number_facts, number_held, assumed, opposite, with_comparison, with_equal, variable, held_at, wider}
+use Rattle.bounds_flow.specs.Conditions.{AreBoundsBelow, AreOfVariables, IsFlow, IsHeldBelow, IsTermBelow, IsTestWithin}
 use Rattle.bounds_flow.specs.Laws.{AreKept, FlowsEntailExactly, GivesFlows}
 use Rattle.bounds_flow.proofs.Pointers.{assigned_below, fresh_below}
 use Rattle.bounds_flow.proofs.Variables.{forgotten, held_below, known, mapped, met_of, none_below, placed, renumbered}
@@ -80,6 +82,53 @@ assumed_is f (Compare how a b) truth is within = record {
   variables = is.variables;
 }
 
+-- ---- null-terminated pointers
+
+pub wider_below : (vars : ℕ) (index : Term) (t : ClosedTable) (o : Option Bounds) → AreBoundsBelow vars o → AreBoundsBelow vars (wider index t o)
+wider_below vars index t None below = tt
+wider_below vars index t (Some b) below = either (is_none b.base && are_equal index b.hi t) (limited (is_within term_limit (b.hi.plus +ℤ pos 1)))
+  where
+    limited : (test : Bool) → AreBoundsBelow vars (up_to b (cond test (Some (record { var = b.hi.var; plus = b.hi.plus +ℤ pos 1 })) None))
+    limited true = record { lo = below.lo; hi = below.hi }
+    limited false = tt
+
+    either : (test : Bool) → AreBoundsBelow vars (one_further b) → AreBoundsBelow vars (cond test (one_further b) None)
+    either true h = h
+    either false h = tt
+
+pub bounded_below : (vars : ℕ) (o : Option Bounds) (h : Held) → AreBoundsBelow vars o → IsHeldBelow vars h → IsHeldBelow vars (with_bounds o h)
+bounded_below vars None h below is = is
+bounded_below vars (Some b) h below is = record { declared = is.declared; bounds = below }
+
+pub measured_below : (vars x : ℕ) (t : ClosedTable) (o : Option Bounds) (h : Held) → x < vars → AreBoundsBelow vars o → IsHeldBelow vars h → IsHeldBelow vars (measured x t o h)
+measured_below vars x t None h lt below is = record { declared = is.declared; bounds = record { lo = tt; hi = lt } }
+measured_below vars x t (Some b) h lt below is = by (entails_terms b.hi (variable x) t)
+  where
+    by : (test : Bool) → IsHeldBelow vars (cond test (record h { bounds = Some (record b { hi = variable x }) }) h)
+    by true = record { declared = is.declared; bounds = record { lo = below.lo; hi = lt } }
+    by false = is
+
+measured_is : (x p : ℕ) (f : Knowledge) → IsFlow f → x < f.vars → IsFlow (measured_by x p f)
+measured_is x p f is lt =
+    let facts = with_fact f.vars (fact_of (number 0) (variable x)) f.facts in
+    let h = held_below f.vars f.held p is.variables.below in
+    record {
+      few = is.few;
+      facts = fact_table f.vars (number 0) (variable x) f.facts tt lt is.facts;
+      variables = placed f.vars f.held f.assigned p _ is.variables (measured_below f.vars x facts (held_at f.held p).bounds (held_at f.held p) lt h.bounds h);
+    }
+
+length_is : (test : Bool) (f g : Knowledge) → IsFlow f → IsFlow g → IsFlow (cond test f g)
+length_is true f g h k = h
+length_is false f g h k = k
+
+assigned_is : (f : Knowledge) (x : ℕ) (to : Option Term) → IsFlow f → x < f.vars → IsTermBelow f.vars to → IsFlow (number_assigned x to f)
+assigned_is f x to is lt below = record {
+  few = is.few;
+  facts = number_table f.vars x to f.facts lt below is.facts;
+  variables = renumbered f.vars _ f.assigned (set f.assigned x true) (number_pointers f.vars x to f.held f.assigned (set f.assigned x true) is.variables) (length-set f.assigned x true);
+}
+
 gives_flows : (f : Knowledge) → IsFlow f → GivesFlows f
 gives_flows f is = record {
   enter = λ x declared below. record { few = is.few; facts = is.facts; variables = placed f.vars f.held f.assigned x _ is.variables (fresh_below f.vars declared below) };
@@ -88,17 +137,20 @@ gives_flows f is = record {
     facts = (give_tables f.vars).kill f.facts x is.facts;
     variables = renumbered f.vars _ f.assigned (set f.assigned x false) (placed f.vars _ f.assigned x no_pointer (mapped f.vars f.held f.assigned f.assigned (Leave x) is.variables) (none_below f.vars)) (length-set f.assigned x false);
   };
-  assign_int = λ x to lt below. record {
-    few = is.few;
-    facts = number_table f.vars x to f.facts lt below is.facts;
-    variables = renumbered f.vars _ f.assigned (set f.assigned x true) (number_pointers f.vars x to f.held f.assigned (set f.assigned x true) is.variables) (length-set f.assigned x true);
-  };
+  assign_int = λ x to lt below. assigned_is f x to is lt below;
   assign_pointer = λ p from moved not_null below. record {
     few = is.few;
     facts = is.facts;
     variables = placed f.vars _ f.assigned p _ (mapped f.vars f.held f.assigned f.assigned (Base p moved) is.variables) (assigned_below f.vars p from moved not_null (held_at f.held p) (held_below f.vars f.held p is.variables.below) below);
   };
   assume = λ test truth within. assumed_is f test truth is within;
+  widen = λ p index. record {
+    few = is.few;
+    facts = is.facts;
+    variables = placed f.vars f.held f.assigned p _ is.variables
+        (let h = held_below f.vars f.held p is.variables.below in bounded_below f.vars _ (held_at f.held p) (wider_below f.vars index f.facts (held_at f.held p).bounds h.bounds) h);
+  };
+  strlen = λ x p lt. (let after = assigned_is f x None is lt tt in length_is (is_own (held_at f.held p).bounds) _ _ (measured_is x p (number_assigned x None f) after lt) after);
   enter_loop = λ changed. record {
     few = is.few;
     facts = killed_table f.vars f.facts changed is.facts;

@@ -11,6 +11,7 @@ use Rattle.bounds_flow.specs.declared.steps.How.TheVariants.{Lt, Ge, Eq, Ne}
 use Rattle.bounds_flow.specs.declared.steps.Test.TheVariants.{NotNull, Compare}
 use Rattle.bounds_flow.specs.Pointers.{no_pointer}
 use Rattle.bounds_flow.specs.Flows.{Knowledge, held_at, at_entry, entered, left, number_assigned, pointer_assigned, assumed, at_head, cut_off, met, settled}
+use Rattle.bounds_flow.specs.Flows.{widened, wider, length_assigned}
 use Rattle.bounds_flow.specs.Settling.{Finding, Meets, WasLost, Falls, finding}
 
 -- ---- terms, bounds and flows
@@ -149,6 +150,43 @@ WaysMeet = let three = number_assigned 0 (Some (number (pos 3))) start_narrow in
     (bounds_in (met start_narrow (start count_n)) 2 ≡ Some count_n) × (bounds_in (met start_narrow start_narrow) 2 ≡ Some count_x)
     × ((met three (start count_n)).facts ≡ no_facts 4) × ((met (cut_off (start count_n)) three).facts ≡ three.facts)
     × (entails_terms (number (pos 1)) (number (pos 0)) (cut_off (start count_n)).facts ≡ true)
+
+-- Where p has the bounds 0 to x: its element at x raises the end to x + 1, and then that at x + 1 to x + 2; its first one raises it where x is 0, and
+-- no other one. Behind an assignment to p the bounds are those that it gives, and behind one to x the declared ones
+abbrev pub TestsWiden : Type 0
+TestsWiden = let once = widened 2 (plus 1 (pos 0)) start_narrow in
+    let at_zero = number_assigned 1 (Some (number (pos 0))) (start count_x) in
+    (bounds_in once 2 ≡ Some (from_itself (number (pos 0)) (plus 1 (pos 1))))
+    × (bounds_in (widened 2 (plus 1 (pos 1)) once) 2 ≡ Some (from_itself (number (pos 0)) (plus 1 (pos 2))))
+    × (widened 2 (plus 1 (pos 1)) start_narrow ≡ start_narrow) × (widened 2 (number (pos 0)) start_narrow ≡ start_narrow)
+    × ((held_at once.held 2).mark ≡ marks.Settled) × (bounds_in (settled once) 2 ≡ Some (from_itself (number (pos 0)) (plus 1 (pos 1))))
+    × (bounds_in (number_assigned 1 None once) 2 ≡ Some count_n)
+    × (bounds_in (pointer_assigned 2 (sources.Known count_n) None false once) 2 ≡ Some count_n)
+    × (wider (number (pos 0)) at_zero.facts (Some (from_itself (number (pos 0)) (plus 1 (pos 0)))) ≡ Some (from_itself (number (pos 0)) (plus 1 (pos 1))))
+
+-- no pointer is widened that counts from a base, or has no bounds, or whose end would leave -2^40 to 2^40
+abbrev pub WideningIsLimited : Type 0
+WideningIsLimited = let based = start (from_base 3 (number (pos 0)) (plus 0 (pos 0))) in
+    let wide = start (from_itself (number (pos 0)) (plus 0 (pos (2 ^ 40)))) in
+    (widened 2 (plus 0 (pos 0)) based ≡ based) × (widened 3 (number (pos 0)) based ≡ based) × (widened 2 (plus 0 (pos (2 ^ 40))) wide ≡ wide)
+
+-- `x = strlen(p)` where p has the bounds 0 to 0, 0 to 3, or 0 to n: x isn't below 0, and the bounds end there where they ended no further on
+abbrev pub LengthsAreBounds : Type 0
+LengthsAreBounds = let zero = length_assigned 1 2 (start (from_itself (number (pos 0)) (number (pos 0)))) in
+    let three = length_assigned 1 2 (start (from_itself (number (pos 0)) (number (pos 3)))) in
+    (bounds_in zero 2 ≡ Some count_x) × (entails_terms (number (pos 0)) (plus 1 (pos 0)) zero.facts ≡ true)
+    × (entails_terms (number (pos 1)) (plus 1 (pos 0)) zero.facts ≡ false) × ((held_at zero.held 2).mark ≡ marks.Settled)
+    × (zero.assigned ≡ false ∷ true ∷ false ∷ false ∷ [])
+    × (bounds_in three 2 ≡ Some (from_itself (number (pos 0)) (number (pos 3)))) × (bounds_in (length_assigned 1 2 (start count_n)) 2 ≡ Some count_n)
+
+-- Bounds that the assignment took become 0 to the length, so that `n = strlen(p)` keeps `count(n)`. Those that it gave back count as bounds that were not
+-- lost, and a pointer with a base, or without bounds, has none of this
+abbrev pub LostLengthsComeBack : Type 0
+LostLengthsComeBack = let own = length_assigned 0 2 (start count_n) in
+    let based = length_assigned 0 2 (start (from_base 3 (number (pos 0)) (plus 0 (pos 0)))) in
+    (bounds_in own 2 ≡ Some count_n) × ((held_at own.held 2).mark ≡ marks.Changed) × (finding_in own 2 ≡ Meets)
+    × (bounds_in (length_assigned 1 2 start_narrow) 2 ≡ Some count_n) × (bounds_in based 2 ≡ None) × (finding_in based 2 ≡ WasLost)
+    × (length_assigned 1 3 (start count_n) ≡ number_assigned 1 None (start count_n))
 
 -- the end of a scope takes a variable's facts away, and bounds that name it
 abbrev pub ScopesEnd : Type 0

@@ -1,18 +1,20 @@
 -- What the checker knows at a point of a function, and what each step makes of it.
-use Rattle.std.specs.Prelude.{ℕ, ◌≡◌, ◌+ℤ◌, ℤ, pos, Bool, true, false, cond, Option, None, Some, List, [], ◌∷◌, map, fold, replicate, slice_index_or, slice_set}
+use Rattle.std.specs.Prelude.{ℕ, ◌≡◌, ◌+ℤ◌, ℤ, pos, Bool, true, false, ◌&&◌, cond, Option, None, Some, is_none}
+use Rattle.std.specs.Prelude.{List, [], ◌∷◌, map, fold, replicate, slice_index_or, slice_set}
 use Rattle.bounds_exprs.specs.declared.term.Term.{Term}
 use Rattle.bounds_exprs.specs.declared.term.Bounds.{Bounds}
 use Rattle.bounds_exprs.specs.Terms.{is_var}
 use Rattle.subsumption.specs.Facts.{fact_of}
-use Rattle.subsumption.specs.ClosedTables.{ClosedTable, Contradiction, no_facts, with_fact, without, shifted, joined}
+use Rattle.subsumption.specs.ClosedTables.{ClosedTable, Contradiction, no_facts, with_fact, without, shifted, joined, entails_terms}
 use Rattle.bounds_flow.specs.declared.held.Held.{Held}
+use Rattle.bounds_flow.specs.declared.held.Mark.TheVariants.{Changed}
 use Rattle.bounds_flow.specs.declared.steps.Source.{Source}
 use Rattle.bounds_flow.specs.declared.steps.How.{How}
 use Rattle.bounds_flow.specs.declared.steps.How.TheVariants.{Lt, Le, Gt, Ge, Eq, Ne}
 use Rattle.bounds_flow.specs.declared.steps.Test.{Test}
 use Rattle.bounds_flow.specs.declared.steps.Test.TheVariants.{NotNull, Compare}
 use Rattle.bounds_flow.specs.Pointers.{no_pointer, fresh, with_declared, maybe_null, known_not_null, after_shift, after_number, after_base, assigned_from}
-use Rattle.bounds_flow.specs.Pointers.{joined_with, after_leaving, settled_pointer}
+use Rattle.bounds_flow.specs.Pointers.{joined_with, after_leaving, settled_pointer, is_own, one_further, with_bounds}
 
 -- the number of variables, the facts, what is known of each variable as a pointer, and which int variables were assigned
 -- since the last settling
@@ -49,6 +51,10 @@ left x f = record f {
 }
 
 -- ---- assignments
+
+-- the term of a constant
+abbrev pub number : ℕ → Term
+number k = record { var = None; plus = pos k }
 
 -- the term of a variable
 abbrev pub variable : ℕ → Term
@@ -108,6 +114,41 @@ abbrev pub assumed : Test → Bool → Knowledge → Knowledge
 assumed (NotNull p) true f = record f { held = change_at p known_not_null f.held }
 assumed (NotNull p) false f = f
 assumed (Compare how left right) truth f = record f { facts = with_comparison f.vars (cond truth how (opposite how)) left right f.facts }
+
+-- ---- null-terminated pointers
+
+-- the facts entail that the terms are equal
+abbrev pub are_equal : Term → Term → ClosedTable → Bool
+are_equal a b t = entails_terms a b t && entails_terms b a t
+
+-- what the bounds in force become where the element at the index isn't zero: those that count from the pointer itself, and end at the index, end
+-- one element further
+abbrev pub wider : Term → ClosedTable → Option Bounds → Option Bounds
+wider index t None = None
+wider index t (Some b) = cond (is_none b.base && are_equal index b.hi t) (one_further b) None
+
+-- the element at the index isn't zero
+abbrev pub widened : ℕ → Term → Knowledge → Knowledge
+widened p index f = record f { held = change_at p (with_bounds (wider index f.facts (held_at f.held p).bounds)) f.held }
+
+-- 0 to the variable
+abbrev pub count_to : ℕ → Bounds
+count_to x = record { base = None; lo = number 0; hi = variable x }
+
+-- a pointer behind the assignment of its length: bounds that this took are 0 to the length, and others end there that end no further on
+abbrev pub measured : ℕ → ClosedTable → Option Bounds → Held → Held
+measured x t None h = record h { bounds = Some (count_to x); mark = Changed }
+measured x t (Some b) h = cond (entails_terms b.hi (variable x) t) (record h { bounds = Some (record b { hi = variable x }) }) h
+
+-- x is the length of what a pointer leads to whose bounds count from itself: it isn't below 0
+abbrev pub measured_by : (x p : ℕ) → Knowledge → Knowledge
+measured_by x p f =
+    let facts = with_fact f.vars (fact_of (number 0) (variable x)) f.facts in
+    record f { facts = facts; held = change_at p (λ h. measured x facts h.bounds h) f.held }
+
+-- x was assigned the length of what a null-terminated pointer leads to
+abbrev pub length_assigned : (x p : ℕ) → Knowledge → Knowledge
+length_assigned x p f = cond (is_own (held_at f.held p).bounds) (measured_by x p (number_assigned x None f)) (number_assigned x None f)
 
 -- ---- ways that part and meet
 

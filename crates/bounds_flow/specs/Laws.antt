@@ -8,6 +8,7 @@ use Rattle.subsumption.specs.TableLaws.{MeetsTable}
 use Rattle.bounds_flow.specs.declared.steps.Source.{Source}
 use Rattle.bounds_flow.specs.declared.steps.Test.{Test}
 use Rattle.bounds_flow.specs.Flows.{Knowledge, at_entry, entered, left, number_assigned, pointer_assigned, assumed, at_head, cut_off, met, settled}
+use Rattle.bounds_flow.specs.Flows.{widened, length_assigned}
 use Rattle.bounds_flow.specs.Conditions.{AreBoundsBelow, IsFlow, IsSourceBelow, IsTermBelow, IsTestWithin}
 
 -- each step from a flow gives one
@@ -18,6 +19,8 @@ pub record GivesFlows (f : Knowledge) : Type 0 where
   pub assign_pointer : (p : ℕ) (from : Source) (moved : Option ℤ) (not_null : Bool) → IsSourceBelow f.vars from
       → IsFlow (pointer_assigned p from moved not_null f)
   pub assume : (test : Test) (truth : Bool) → IsTestWithin f.vars test → IsFlow (assumed test truth f)
+  pub widen : (p : ℕ) (index : Term) → IsFlow (widened p index f)
+  pub strlen : (x p : ℕ) → x < f.vars → IsFlow (length_assigned x p f)
   pub enter_loop : (changed : List ℕ) → IsFlow (at_head changed f)
   pub cut : IsFlow (cut_off f)
   pub join : (g : Knowledge) → IsFlow g → g.vars ≡ f.vars → IsFlow (met f g)

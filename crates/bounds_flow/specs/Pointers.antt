@@ -1,9 +1,9 @@
 -- What is known of one pointer, and what becomes of that. (Checked C's rule that declared bounds hold after an assignment.)
-use Rattle.std.specs.Prelude.{ℕ, ℤ, neg_ℤ, Bool, true, false, cond, not, ◌&&◌, ◌||◌, Option, None, Some, List, slice_index_or}
+use Rattle.std.specs.Prelude.{ℕ, ℤ, neg_ℤ, ◌+ℤ◌, pos, is_none, Bool, true, false, cond, not, ◌&&◌, ◌||◌, Option, None, Some, List, slice_index_or}
 use Rattle.std.specs.Ordering.{int_eq}
 use Rattle.bounds_exprs.specs.declared.term.Term.{Term}
 use Rattle.bounds_exprs.specs.declared.term.Bounds.{Bounds}
-use Rattle.bounds_exprs.specs.Terms.{is_var}
+use Rattle.bounds_exprs.specs.Terms.{is_var, within_limit}
 use Rattle.bounds_exprs.specs.Normal.{is_same}
 use Rattle.bounds_exprs.specs.Changes.{is_named, moved_back, moved_by}
 use Rattle.bounds_flow.specs.declared.held.Held.{Held}
@@ -105,6 +105,27 @@ mark_from (sources.Known b) = marks.Changed
 -- p itself
 abbrev pub assigned_from : ℕ → Source → Option ℤ → Bool → Held → Held
 assigned_from p from moved not_null h = record { declared = h.declared; bounds = bounds_from p moved from; known = not_null; mark = mark_from from }
+
+-- ---- null-terminated pointers
+
+-- the bounds with another upper end, where there is one
+abbrev pub up_to : Bounds → Option Term → Option Bounds
+up_to b None = None
+up_to b (Some hi) = Some (record b { hi = hi })
+
+-- one element further than before, where the constant isn't too large
+abbrev pub one_further : Bounds → Option Bounds
+one_further b = up_to b (within_limit b.hi.var (b.hi.plus +ℤ pos 1))
+
+-- the pointer with these bounds in force, where there are any; else as before
+abbrev pub with_bounds : Option Bounds → Held → Held
+with_bounds None h = h
+with_bounds (Some b) h = record h { bounds = Some b }
+
+-- bounds that count from the pointer itself
+abbrev pub is_own : Option Bounds → Bool
+is_own None = false
+is_own (Some b) = is_none b.base
 
 -- ---- where ways meet, and where a scope ends
 

@@ -1,17 +1,18 @@
 // What the checker knows at a point of a function, and the steps that change it.
 
-ghost use Rattle.std.specs.Prelude.{◌≡◌, ◌≤◌, ◌<◌, IfOk, OnErr, OnOk};
+ghost use Rattle.std.specs.Prelude.{◌≡◌, ◌≤◌, ◌<◌, IfOk, OnErr, OnOk, is_some};
 ghost use Rattle.std.specs.List.{All};
 ghost use Rattle.subsumption.specs.Facts.{IsBelow};
 ghost use Rattle.subsumption.specs.ClosedTables.{entails_terms};
 ghost use Rattle.subsumption.specs.ShownTables.{is_yes};
-ghost use Rattle.bounds_flow.specs.Flows.{KeepsPointers, assumed, at_entry, at_head, cut_off, entered, held_at, left, met, number_assigned, pointer_assigned};
+ghost use Rattle.bounds_flow.specs.Flows.{KeepsPointers, assumed, at_entry, at_head, cut_off, entered, held_at, left, length_assigned, measured_by, met, number_assigned, pointer_assigned, widened, wider};
 ghost use Rattle.bounds_flow.specs.Settling.{Answers, settled_by};
 ghost use Rattle.bounds_flow.specs.Conditions.{AnswersBy, AreBoundsBelow, IsFlow, IsSmall, IsSourceBelow, IsTermBelow, IsTestWithin};
 
 use crate::changes::{Change, change_all, clear, forget_all, join_all, number_change};
 use crate::effects::{assign, declare, nothing};
 use crate::held::Held;
+use crate::lengths::{counts_from_itself, measure, variable_term, widen, with_bounds};
 use crate::settling::first_unmet;
 use crate::steps::{Settled, Source, Test};
 use crate::tables::{assign_number, compare, kill_all, negate};
@@ -197,6 +198,49 @@ impl Flow {
                 compare(&mut self.facts, how, *left, *right)?;
             }
         }
+        Ok(())
+    }
+
+    /// The element of a null-terminated pointer at the index isn't zero. Whether that raised the upper end of its bounds in force
+    /// by one: they count from the pointer itself, and end at the index.
+    pub fn widen(&mut self, var: u32, index: &Term) -> Result<bool, NoMemory>
+        requires below { var < self.old.vars }
+        requires index_below { IsBelow self.old.vars index.now.var }
+        ensures ok { OnOk result (self.new ≡ widened var index.now self.old) }
+        ensures raised { IfOk result (λ raised. raised ≡ is_some (wider index.now self.old.facts (held_at self.old.held var).bounds)) }
+        ensures err { OnErr result (self.new ≡ self.old) }
+    {
+        let before = self.held[var as usize];
+        let after = widen(&self.facts, index, before.bounds)?;
+        self.held[var as usize] = with_bounds(&before, after);
+        Ok(after.is_some())
+    }
+
+    /// The `int` variable is assigned the length of what a null-terminated pointer leads to. Where no memory is found, the flow
+    /// is one of those between.
+    pub fn strlen(&mut self, int_var: u32, pointer: u32) -> Result<(), NoMemory>
+        requires below { int_var < self.old.vars }
+        requires pointer_below { pointer < self.old.vars }
+        ensures ok { OnOk result (self.new ≡ length_assigned int_var pointer self.old) }
+        ensures err { OnErr result (self.new.vars ≡ self.old.vars) }
+    {
+        if !counts_from_itself(self.held[pointer as usize].bounds) {
+            return self.assign_int(int_var, None);
+        }
+        self.assign_int(int_var, None)?;
+        self.measure(int_var, pointer)
+    }
+
+    // The variable holds the length of what a pointer leads to whose bounds count from itself.
+    fn measure(&mut self, var: u32, pointer: u32) -> Result<(), NoMemory>
+        requires below { var < self.old.vars }
+        requires pointer_below { pointer < self.old.vars }
+        ensures ok { OnOk result (self.new ≡ measured_by var pointer self.old) }
+        ensures err { OnErr result (KeepsPointers self.old self.new) }
+    {
+        self.facts.add(constant(0), variable_term(var))?;
+        let own = measure(&self.facts, var, &self.held[pointer as usize])?;
+        self.held[pointer as usize] = own;
         Ok(())
     }
 

@@ -1,7 +1,7 @@
 // What flows know: each function proves what its contract says, and does nothing.
 
 ghost use Rattle.bounds_flow.specs.Laws.{AreKept, FlowsEntailExactly};
-ghost use Rattle.bounds_flow.specs.Examples.{AtEntry, BasesMove, CountsAreLowered, CountsAreRaised, CountsAreReplaced, DeclaredBoundsComeBack, EndsAreAskedInOrder, LoopsForget, NullMeetsAll, ScopesEnd, ShiftsAreLimited, ShiftsByNothingCount, TestsForNull, TestsTellTwoWays, WaysMeet};
+ghost use Rattle.bounds_flow.specs.Examples.{AtEntry, BasesMove, CountsAreLowered, CountsAreRaised, CountsAreReplaced, DeclaredBoundsComeBack, EndsAreAskedInOrder, LengthsAreBounds, LoopsForget, LostLengthsComeBack, NullMeetsAll, ScopesEnd, ShiftsAreLimited, ShiftsByNothingCount, TestsForNull, TestsTellTwoWays, TestsWiden, WaysMeet, WideningIsLimited};
 
 /// Entry, scopes and ways.
 pub fn ways()
@@ -32,6 +32,14 @@ pub fn pointers()
 pub fn tests()
     ensures terms { TestsTellTwoWays }
     ensures null { TestsForNull }
+{}
+
+/// Null-terminated pointers.
+pub fn lengths()
+    ensures tests { TestsWiden }
+    ensures limits { WideningIsLimited }
+    ensures lengths { LengthsAreBounds }
+    ensures lost { LostLengthsComeBack }
 {}
 
 /// Each step of a flow gives a flow, and what a flow entails is what each valuation that meets its facts meets.

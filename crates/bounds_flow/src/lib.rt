@@ -6,6 +6,7 @@ mod effects;
 pub mod flow;
 pub mod held;
 pub mod laws;
+mod lengths;
 mod settling;
 pub mod steps;
 mod tables;

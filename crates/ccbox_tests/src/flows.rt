@@ -110,6 +110,38 @@ fn tells_branches(alloc: Global) -> Result<bool, NoMemory> {
     Ok(here && there && !knows(&then_flow, N, M)? && !knows(&then_flow, M, N)?)
 }
 
+// Whether the test of an element at a variable plus a number raises the upper end of p.
+fn widens(alloc: Global, var: u32, plus: i64) -> Result<bool, NoMemory> {
+    let mut flow = with_pointer(alloc)?;
+    if var >= 3 {
+        return Ok(false);
+    }
+    let var = Some(var);
+    flow.widen(P, &Term { var, plus })
+}
+
+// Whether p may be raised twice, and keeps that where it is settled.
+fn widens_twice(alloc: Global) -> Result<bool, NoMemory> {
+    let mut flow = with_pointer(alloc)?;
+    let once = flow.widen(P, &number(N))?;
+    let again = flow.widen(P, &number(N))?;
+    let kept = matches!(flow.settle()?, Settled::Kept);
+    let var = Some(N);
+    let twice = flow.widen(P, &Term { var, plus: 1 })?;
+    Ok(once && !again && kept && twice)
+}
+
+// Whether n, which the bounds of p name, or m takes the length of p, and p meets its bounds.
+fn measures(alloc: Global, var: u32) -> Result<bool, NoMemory> {
+    let mut flow = with_pointer(alloc)?;
+    if var >= 3 {
+        return Ok(false);
+    }
+    flow.strlen(var, P)?;
+    let least = matches!(flow.entails(&zero(), &number(var))?, Answer::Yes(_));
+    Ok(least && matches!(flow.settle()?, Settled::Kept))
+}
+
 /// Fails unless steps tell what they should.
 pub fn flows(alloc: Global) -> Result<(), Fail> {
     expect(
@@ -120,5 +152,12 @@ pub fn flows(alloc: Global) -> Result<(), Fail> {
     expect("another count", matches!(keeps_number(alloc), Ok(false)))?;
     expect("null", matches!(keeps_null(alloc), Ok(true)))?;
     expect("lost bounds", matches!(names_lost(alloc), Ok(true)))?;
-    expect("two branches", matches!(tells_branches(alloc), Ok(true)))
+    expect("two branches", matches!(tells_branches(alloc), Ok(true)))?;
+    expect("the end", matches!(widens(alloc, N, 0), Ok(true)))?;
+    expect("below the end", matches!(widens(alloc, N, -1), Ok(false)))?;
+    expect("behind the end", matches!(widens(alloc, N, 1), Ok(false)))?;
+    expect("another end", matches!(widens(alloc, M, 0), Ok(false)))?;
+    expect("two ends", matches!(widens_twice(alloc), Ok(true)))?;
+    expect("its own length", matches!(measures(alloc, N), Ok(true)))?;
+    expect("another length", matches!(measures(alloc, M), Ok(true)))
 }
