@@ -292,7 +292,7 @@ fn collects(alloc: Global) -> bool {
         }
         text.put(line.as_slice());
     }
-    let whole = text.bytes() == b"[exit 42]\n[exit 42]\n";
+    let whole = text.bytes() == b"[exit 42]\n[exit 42]\n".as_slice();
     empty && whole && text.room() == 0 && text.reserve(usize::MAX).is_err() && text.room() == 0
 }
 
