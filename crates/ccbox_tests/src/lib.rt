@@ -6,23 +6,15 @@ mod actors;
 #[cfg(test)]
 mod acts;
 #[cfg(test)]
-mod arrays;
-#[cfg(test)]
-mod bounded;
-#[cfg(test)]
 mod bounds;
 #[cfg(test)]
 mod calls;
 #[cfg(test)]
 mod cores;
 #[cfg(test)]
-mod corners;
-#[cfg(test)]
 mod exec;
 #[cfg(test)]
 mod facts;
-#[cfg(test)]
-mod file_level;
 #[cfg(test)]
 mod files;
 #[cfg(test)]
@@ -30,21 +22,13 @@ mod flows;
 #[cfg(test)]
 mod layouts;
 #[cfg(test)]
-mod limits;
-#[cfg(test)]
 mod lines;
 #[cfg(test)]
 mod listings;
 #[cfg(test)]
-mod local_arrays;
-#[cfg(test)]
 mod memories;
 #[cfg(test)]
-mod memory;
-#[cfg(test)]
 mod options;
-#[cfg(test)]
-mod parameters;
 #[cfg(test)]
 mod places;
 #[cfg(test)]
@@ -56,13 +40,9 @@ mod random_facts;
 #[cfg(test)]
 mod recordings;
 #[cfg(test)]
-mod results;
-#[cfg(test)]
 mod rows;
 #[cfg(test)]
 mod rules;
-#[cfg(test)]
-mod runs;
 #[cfg(test)]
 mod shapes;
 #[cfg(test)]
@@ -73,5 +53,3 @@ mod tokens;
 mod topics;
 #[cfg(test)]
 mod trees;
-#[cfg(test)]
-mod turns;

@@ -2,11 +2,7 @@
 
 use crate::actors::gives_all;
 use crate::acts::is_act;
-use crate::calls::{
-    arguments_print, body_prints, bounded_print, call_prints, elements_print, head_prints,
-    main_prints, parameters_print, results_print, returns_print, run_prints, sandbox_prints,
-    statements_print, value_prints,
-};
+use crate::calls::call_prints;
 use crate::lines::is_number;
 use crate::shapes::has_shape;
 use crate::sources::tree_of;
@@ -30,38 +26,8 @@ pub enum Question {
     Act,
     /// The lines of the acts that a file gives, and why no more come.
     ActFile,
-    /// What the run of a source prints.
-    Run,
-    /// What its run prints, and the last bytes of its file-level variables.
-    Dump,
-    /// What the run of a program prints that returns this value.
-    Value,
-    /// What the run of a program prints that has these statements.
-    Statements,
-    /// What the run of a program prints that has arrays and these statements.
-    Elements,
-    /// What the run of a program prints that has arrays, numbers of which nothing is known, and these statements.
-    Bounded,
-    /// What the run of a program prints that has a function with these parameters.
-    Parameters,
-    /// What the run of a program prints that has functions whose parameters have bounds, and these statements.
-    Arguments,
-    /// What the run of a program prints that calls a function; the case has its parameters, the arguments, and the
-    /// statements of its body.
-    Body,
-    /// What the run of a program prints that has a function with this head.
-    Head,
-    /// What the run of a program prints that has functions whose results have bounds, and these statements.
-    Results,
-    /// What the run of a program prints that calls a function; the case has its head, what `main` returns, and the
-    /// statements of its body.
-    Returns,
     /// What a call prints; the case has the words, the acts and the source.
     Call,
-    /// What the run of a listing prints; the case has the acts and the instructions of its `main`.
-    Main,
-    /// What the run of a listing prints without a file of acts; the case has the instructions of its sandbox.
-    Sandbox,
 }
 
 /// Whether a case has this answer. What is printed stands without its last line feed.
@@ -73,21 +39,7 @@ pub fn is_answer(alloc: Global, question: Question, case: &str, expected: &str) 
         Question::Shape => has_shape(alloc, case.as_bytes(), expected),
         Question::Act => is_act(alloc, case.as_bytes(), expected),
         Question::ActFile => gives_all(alloc, case.as_bytes(), expected),
-        Question::Run => run_prints(alloc, case, expected, false),
-        Question::Dump => run_prints(alloc, case, expected, true),
-        Question::Value => value_prints(alloc, case, expected),
-        Question::Statements => statements_print(alloc, case, expected),
-        Question::Elements => elements_print(alloc, case, expected),
-        Question::Bounded => bounded_print(alloc, case, expected),
-        Question::Parameters => parameters_print(alloc, case, expected),
-        Question::Arguments => arguments_print(alloc, case, expected),
-        Question::Body => body_prints(alloc, case, expected),
-        Question::Head => head_prints(alloc, case, expected),
-        Question::Results => results_print(alloc, case, expected),
-        Question::Returns => returns_print(alloc, case, expected),
         Question::Call => call_prints(alloc, case, expected),
-        Question::Main => main_prints(alloc, case, expected),
-        Question::Sandbox => sandbox_prints(alloc, case, expected),
     }
 }
 

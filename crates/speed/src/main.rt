@@ -1,21 +1,16 @@
-// Reads a source, or asks a table of facts, so that the time can be measured from outside. What is read or asked it makes
-// itself.
+// Asks a table of facts, or changes it, so that the time can be measured from outside. What is asked it makes itself.
 //
-// Words: `read` or `print`, and the number of functions (at most 4,000); or `facts`, and the numbers of variables (1 to
-// 4,096), of facts and of questions; or `changes` or `joins`, and the numbers of variables and of rounds or joins in a
-// dense table. `read` prints how many functions were read, `print` the source, `facts` and `changes` how many questions
-// are answered by yes, and `joins` how many joins were done.
+// Words: `facts`, and the numbers of variables (1 to 4,096), of facts and of questions; or `changes` or `joins`, and the
+// numbers of variables and of rounds or joins in a dense table. `facts` and `changes` print how many questions are
+// answered by yes, and `joins` how many joins were done.
 #![tactic(auto)]
 
 ghost use Rattle.std.specs.Prelude.{◌<◌, ◌≤◌};
 
 mod facts;
-mod source;
 
 use facts::{changed, entailed, joined};
-use source::{functions_read, source_of};
 use std::env;
-use std::io::{self, Write};
 use std::process::ExitCode;
 
 fn main(rt: HostRuntime) -> ExitCode {
@@ -24,7 +19,7 @@ fn main(rt: HostRuntime) -> ExitCode {
         ExitCode::SUCCESS
     } else {
         let _ = eprintln!(rt;
-            "wanted: read N, print N, facts N N N, changes N N or joins N N, with numbers that aren't too great"
+            "wanted: facts N N N, changes N N or joins N N, with numbers that aren't too great"
         );
         ExitCode::FAILURE
     }
@@ -49,10 +44,6 @@ fn number(word: &String) -> Option<u32> {
 // Does what the words ask for, if it can.
 fn does(rt: &HostRuntime, words: &[String]) -> bool {
     match words {
-        [what, functions] => match number(functions) {
-            Some(functions) if functions <= 4000 => does_source(rt, what.as_str(), functions),
-            _ => false,
-        },
         [what, vars, count] => match (number(vars), number(count)) {
             (Some(vars), Some(count)) if vars > 0 && vars <= 4096 => {
                 does_dense(rt, what.as_str(), vars, count)
@@ -68,23 +59,6 @@ fn does(rt: &HostRuntime, words: &[String]) -> bool {
             }
         }
         _ => false,
-    }
-}
-
-// Reads or prints the source of so many functions.
-fn does_source(rt: &HostRuntime, what: &str, functions: u32) -> bool {
-    let source = source_of(rt.alloc(), functions);
-    match what {
-        "read" => reads(rt, source.as_bytes()),
-        "print" => io::writer(rt).write_all(source.as_bytes()).is_ok(),
-        _ => false,
-    }
-}
-
-fn reads(rt: &HostRuntime, source: &[u8]) -> bool {
-    match functions_read(rt.alloc(), source) {
-        Some(functions) => println!(rt; "{functions} functions were read").is_ok(),
-        None => false,
     }
 }
 
