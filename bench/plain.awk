@@ -1,4 +1,4 @@
-# Prints a source of plain C of so many functions (`-v functions=4000` makes 1,048,576 bytes and 200,000 tokens): 262 bytes and 50
+# Prints a source of plain C of so many functions (`-v functions=3999` makes 1,048,170 bytes and 199,950 tokens): 262 bytes and 50
 # tokens for each, and behind each thousand a comment of 144 bytes.
 BEGIN {
     for (n = 0; n < functions; n++) {
