@@ -19,7 +19,7 @@ use Rattle.code_words.specs.Images.{Image}
 use Rattle.sandbox_actor.specs.ActLists.{RefusedLine}
 use Rattle.run_core.specs.Runs.{Counts}
 use Rattle.check_insertion.specs.Insert.{inserted}
-use Rattle.lowering_code.specs.Images.{image_of}
+use Rattle.lowering.specs.Images.{image_of}
 use Rattle.code_words_listing.specs.Listings.{listing, InFormat}
 use Rattle.ccbox_call_words.specs.Requests.{Request, Run, Exec, Options, file_of, is_of_source, settings_of, inputs_of, request_of}
 use Rattle.ccbox_call_words.specs.Requests as requests

@@ -4,7 +4,7 @@ use Rattle.ckc_io.specs.Files.{Files, file_at}
 use Rattle.ckc_core.specs.Core.{Core}
 use Rattle.check_insertion.specs.Insert.{inserted}
 use Rattle.code_words.specs.Images.{Image}
-use Rattle.lowering_code.specs.Images.{image_of}
+use Rattle.lowering.specs.Images.{image_of}
 use Rattle.ccbox_call_words.specs.Requests.{Request, Run, Exec, Options, settings_of}
 use Rattle.ccbox_call.specs.Acceptance.{IsAcceptedCore}
 use Rattle.ccbox_call.specs.Answers.{RunAnswer, ExecAnswer, unfit, fits, accepted, ListingAnswer, refused_at, spells, FileAnswer, missing, is_there, AskedOfImage, BytesAnswer, RequestAnswer, Answer, usage, asked}

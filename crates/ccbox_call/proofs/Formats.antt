@@ -21,10 +21,10 @@ use Rattle.code_words_listing.specs.Lines as lines
 use Rattle.code_words_listing.specs.Listings.{block_lines, function_lines, trusted_lines, lines_of, InFormat}
 use Rattle.ckc_core.specs.Programs as programs
 use Rattle.check_insertion.specs.Erased.{Erased, Function}
-use Rattle.lowering_code.specs.Correct.{IsLowerable}
-use Rattle.lowering_code.specs.Images.{functions_from, imports_from, image_of}
-use Rattle.lowering_code.proofs.Expressions.{index_below}
-use Rattle.lowering_code.proofs.Fits.{keeps_format, image_fits}
+use Rattle.lowering.specs.Correct.{IsLowerable}
+use Rattle.lowering.specs.Images.{functions_from, imports_from, image_of}
+use Rattle.lowering.proofs.Expressions.{index_below}
+use Rattle.lowering.proofs.Fits.{keeps_format, image_fits}
 use Rattle.ccbox_call.specs.Words.{HasWords, IsBytes, AreWords, FitsWords}
 
 -- a line whose words fit and that keeps the limits may stand in a listing

@@ -20,7 +20,7 @@ use Rattle.act_words.specs.declared.settings.Settings.{Settings}
 use Rattle.ckc_core.specs.declared.program as code
 use Rattle.ckc_core.specs.Core.{Core, core}
 use Rattle.code_words.specs.Images.{Image}
-use Rattle.lowering_code.specs.Correct.{KeepsMeaning}
+use Rattle.lowering.specs.Correct.{KeepsMeaning}
 use Rattle.run_core_transcript.specs.Asked.{Answering}
 use Rattle.run_core_transcript.specs.declared.fault.RunFault.{RunFault}
 use Rattle.run_core_transcript.specs.declared.fault.RunFault.TheVariants as faults
@@ -32,7 +32,7 @@ use Rattle.ccbox_call_words.specs.declared.status.Status.{Status}
 use Rattle.ccbox_call_words.specs.Requests.{Request, Options, file_of, is_of_source, settings_of, inputs_of}
 use Rattle.ccbox_call_words.specs.Requests as requests
 use Rattle.check_insertion.specs.Insert.{inserted}
-use Rattle.lowering_code.specs.Images.{image_of}
+use Rattle.lowering.specs.Images.{image_of}
 use Rattle.code_words_listing.specs.Listings.{InFormat}
 use Rattle.ccbox_call.specs.Acceptance.{Accepts, IsAcceptedCore, no_tokens}
 use Rattle.ccbox_call.specs.Answers.{SupplyAnswer, RunAnswer, acts_missing, acts, ExecAnswer, SourceAnswer, refused, accepted, refused_at, spells, missing, is_there, AskedOfCore, BytesAnswer, RequestAnswer}

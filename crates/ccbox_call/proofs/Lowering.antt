@@ -12,7 +12,7 @@ use Rattle.check_insertion.specs.Insert.{function, with_checks}
 use Rattle.check_insertion.proofs.Insertions.{function_there}
 use Rattle.check_insertion.proofs.Sizes.{same_body, few_in_statements}
 use Rattle.ckc_core.specs.Weights.{statements_weight}
-use Rattle.lowering_code.specs.Correct.{counted_from, IsCell, IsFunction, IsLowerable}
+use Rattle.lowering.specs.Correct.{counted_from, IsCell, IsFunction, IsLowerable}
 use Rattle.region_typing_rules.specs.Lowerable.{cells_size, objects_size, IsRoomy, IsSmall, HasFewFunctions, IsSmallCore}
 use Rattle.region_typing_rules.specs.Typed as typed
 use Rattle.region_typing_rules.specs.Typed.{Frame, IsTyped}

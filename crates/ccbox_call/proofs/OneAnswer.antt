@@ -20,7 +20,7 @@ use Rattle.code_words.specs.Paced.{is_paced}
 use Rattle.code_words.specs.Runs.{started}
 use Rattle.code_words.specs.Table as machine
 use Rattle.code_words.proofs.Runs.{one_end, same_ending, same_last}
-use Rattle.lowering_code.specs.Correct.{blocks_meant}
+use Rattle.lowering.specs.Correct.{blocks_meant}
 use Rattle.sandbox_actor.specs.ActLists.{acts_of_file}
 use Rattle.ccbox_call_words.specs.Requests.{Request, Run, Options, file_of, is_of_source, settings_of, inputs_of, request_of}
 use Rattle.ccbox_call_words.specs.Requests as requests

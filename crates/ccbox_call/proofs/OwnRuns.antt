@@ -16,7 +16,7 @@ use Rattle.code_words.specs.Table.{State}
 use Rattle.code_words.specs.Runs.{CodeRun}
 use Rattle.code_words.specs.Dumps.{blocks_held}
 use Rattle.check_insertion.specs.Insert.{inserted}
-use Rattle.lowering_code.specs.Images.{image_of}
+use Rattle.lowering.specs.Images.{image_of}
 use Rattle.ccbox_call.specs.Acceptance.{IsAcceptedCore}
 use Rattle.ccbox_call.specs.Programs.{Meant, Coded, RunsTo, MeantRun}
 use Rattle.ccbox_call.specs.Supplies.{Own, IsOwn, Supplied}

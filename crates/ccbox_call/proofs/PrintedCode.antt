@@ -10,10 +10,10 @@ use Rattle.code_words.specs.Images.{Image}
 use Rattle.code_words_listing.specs.Listings.{InFormat}
 use Rattle.code_words_listing.proofs.ImagesBack.{listing-injective}
 use Rattle.code_words_listing.proofs.PacedLines.{listing-stands}
-use Rattle.lowering_code.specs.Code.{result_kind}
-use Rattle.lowering_code.specs.Correct.{KeepsMeaning}
-use Rattle.lowering_code.specs.Images.{functions_from, image_of}
-use Rattle.lowering_code.proofs.Fits.{image_keeps}
+use Rattle.lowering.specs.Code.{result_kind}
+use Rattle.lowering.specs.Correct.{KeepsMeaning}
+use Rattle.lowering.specs.Images.{functions_from, image_of}
+use Rattle.lowering.proofs.Fits.{image_keeps}
 use Rattle.ccbox_call.specs.Acceptance.{IsAcceptedCore}
 use Rattle.ccbox_call.specs.PrintedCode.{HasPartsOf, SpellsAlone, DoesAs}
 use Rattle.ccbox_call.specs.Words.{FitsWords}

@@ -25,7 +25,7 @@ use Rattle.sandbox_actor.specs.ActLists.{RefusedLine, acts_of_file, lines_of}
 use Rattle.run_core.specs.Moments.{due_in, due_from, before_due}
 use Rattle.sandbox_actor.proofs.Acts.{are_acts}
 use Rattle.code_words.specs.Runs.{memory_of}
-use Rattle.lowering_code.specs.Correct.{IsLowerable}
+use Rattle.lowering.specs.Correct.{IsLowerable}
 use Rattle.region_typing_rules.specs.NeverStuck.{AlwaysEnds}
 use Rattle.region_typing_rules.proofs.Counts.{few}
 use Rattle.region_typing_rules.proofs.BodyWeights.{light}

@@ -21,7 +21,7 @@ use Rattle.pointer_modes.specs.Layout.{scalar_size}
 use Rattle.ckc_core.specs.Programs.{Initial}
 use Rattle.ckc_core.specs.States.{has_type, initial_value, zero_of}
 use Rattle.ckc_core.specs.Steps.{is_char}
-use Rattle.lowering_code.specs.Images.{width_if}
+use Rattle.lowering.specs.Images.{width_if}
 use Rattle.region_typing_rules.specs.KnownIsSo.{AreLimited}
 use Rattle.region_typing_rules.specs.Lowerable.{IsRoomy}
 use Rattle.region_typing_rules.proofs.Terms.{term_formed}
@@ -34,7 +34,7 @@ use Rattle.ckc_core.specs.Meaning.{bounds_of}
 use Rattle.check_insertion.specs.declared.erased.Check.{Check}
 use Rattle.check_insertion.specs.declared.erased.Check.TheVariants.{NotNull, Below, UpTo, Contains}
 use Rattle.check_insertion.specs.Insert.{access_checks, sum_checks, cast_checks, size_of, expression, arguments_of, place, statement, statements}
-use Rattle.lowering_code.specs.Sized.{AreWithin, AreLocal, IsElement, IsFresh, IsLocal, IsSmall, SizedExpression, SizedArguments, SizedPlace, SizedStatement, SizedStatements}
+use Rattle.lowering.specs.Sized.{AreWithin, AreLocal, IsElement, IsFresh, IsLocal, IsSmall, SizedExpression, SizedArguments, SizedPlace, SizedStatement, SizedStatements}
 use Rattle.region_typing_rules.specs.Expressions.{bounds_at}
 use Rattle.region_typing_rules.specs.Readings.{against, from_base, based_bounds}
 use Rattle.region_typing_rules.specs.Verdicts.{picked}

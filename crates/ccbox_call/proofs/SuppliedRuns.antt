@@ -19,8 +19,8 @@ use Rattle.code_words.specs.Runs.{CodeRun, memory_of, started}
 use Rattle.code_words.specs.Table as machine
 use Rattle.code_words.proofs.Worlds.{folded}
 use Rattle.code_words.proofs.Due.{shown_before}
-use Rattle.lowering_code.specs.Images.{image_of}
-use Rattle.lowering_code.proofs.Programs.{keeps_meaning}
+use Rattle.lowering.specs.Images.{image_of}
+use Rattle.lowering.proofs.Programs.{keeps_meaning}
 use Rattle.ccbox_call_words.specs.Requests.{Options, settings_of, inputs_of}
 use Rattle.ccbox_call.specs.Acceptance.{IsAcceptedCore}
 use Rattle.ccbox_call.specs.Answers.{AsksFor, ViewIsFoldOf}

@@ -29,8 +29,8 @@ use Rattle.run_core_transcript.specs.Texts.{run_text, front_text}
 use Rattle.run_core.specs.Moments.{before_due}
 use Rattle.check_insertion.specs.Insert.{inserted}
 use Rattle.code_words_listing.specs.Listings.{listing}
-use Rattle.lowering_code.specs.Correct.{blocks_meant}
-use Rattle.lowering_code.specs.Images.{image_of}
+use Rattle.lowering.specs.Correct.{blocks_meant}
+use Rattle.lowering.specs.Images.{image_of}
 use Rattle.ccbox_call_words.specs.Requests.{Request, Run, Exec, Options, file_of, is_of_source, settings_of, inputs_of, request_of}
 use Rattle.ccbox_call_words.specs.Requests as requests
 use Rattle.act_recorder.specs.Diagnostics.{accepted_text, usage_text, missing_text, refused_text, act_refused_text, listing_refused_text, unfit_text}

@@ -8,7 +8,7 @@ use Rattle.ckc_io.specs.Written.{grown}
 use Rattle.ckc_core.specs.declared.program as code
 use Rattle.ckc_core.specs.Core.{Core, core}
 use Rattle.check_insertion.specs.Insert.{inserted}
-use Rattle.lowering_code.specs.Images.{image_of}
+use Rattle.lowering.specs.Images.{image_of}
 use Rattle.code_words.specs.Images.{Image}
 use Rattle.code_words.specs.Paced.{is_paced}
 use Rattle.code_words_listing.specs.Listings.{InFormat}

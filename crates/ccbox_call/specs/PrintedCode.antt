@@ -22,9 +22,9 @@ use Rattle.code_words.specs.Table as machine
 use Rattle.code_words_listing.specs.Listings.{listing, InFormat}
 use Rattle.code_words_listing.specs.Verdicts.{Verdict}
 use Rattle.check_insertion.specs.Insert.{inserted}
-use Rattle.lowering_code.specs.Code.{result_kind}
-use Rattle.lowering_code.specs.Correct.{SameEnd}
-use Rattle.lowering_code.specs.Images.{object_bytes, imports_from, image_of}
+use Rattle.lowering.specs.Code.{result_kind}
+use Rattle.lowering.specs.Correct.{SameEnd}
+use Rattle.lowering.specs.Images.{object_bytes, imports_from, image_of}
 use Rattle.ccbox_call_words.specs.Requests.{Options, Split}
 use Rattle.ccbox_call.specs.Answers.{AsksOf, AsksToRunCore, AsksAboutListing, Answer, IsFailure}
 use Rattle.ccbox_call.specs.ReadListings.{Spells}

@@ -14,7 +14,7 @@ use Rattle.code_words.specs.Dumps.{blocks_held}
 use Rattle.code_words.specs.Images.{Image}
 use Rattle.code_words.specs.Runs.{CodeRun}
 use Rattle.code_words.specs.Table as machine
-use Rattle.lowering_code.specs.Correct.{blocks_meant}
+use Rattle.lowering.specs.Correct.{blocks_meant}
 
 -- what can be run
 pub data Program : Type 0 where

@@ -3,8 +3,8 @@
 ghost use Rattle.std.specs.Prelude.{◌≡◌, IfOk};
 ghost use Rattle.ckc_core.specs.Core.{core};
 ghost use Rattle.check_insertion.specs.Insert.{inserted};
-ghost use Rattle.lowering_code.specs.Correct.{KeepsMeaning};
-ghost use Rattle.lowering_code.specs.Images as images;
+ghost use Rattle.lowering.specs.Correct.{KeepsMeaning};
+ghost use Rattle.lowering.specs.Images as images;
 ghost use Rattle.ccbox_call.specs.Acceptance.{IsAcceptedCore};
 
 use check_insertion::insert::insert;

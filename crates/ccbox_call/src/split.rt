@@ -3,7 +3,7 @@
 ghost use Rattle.std.specs.Prelude.{◌≡◌, ℕ, IfOk};
 ghost use Rattle.ckc_core.specs.Core.{core};
 ghost use Rattle.check_insertion.specs.Insert.{inserted};
-ghost use Rattle.lowering_code.specs.Images.{image_of};
+ghost use Rattle.lowering.specs.Images.{image_of};
 ghost use Rattle.code_words_listing.specs.Listings.{listing, InFormat};
 ghost use Rattle.ccbox_call.specs.Acceptance.{IsAcceptedCore};
 ghost use Rattle.ccbox_call.specs.Answers.{SplitAnswer};

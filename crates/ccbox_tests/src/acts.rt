@@ -21,8 +21,8 @@ fn is_line(made: &Result<Vec<u8>, NoMemory>, expected: &str) -> bool {
 
 // Whether a line has this text, and a line feed behind it.
 fn is_line_of(line: &[u8], text: &[u8]) -> bool {
-    match line {
-        [front @ .., b'\n'] => front == text,
+    match line.split_last() {
+        Some((b'\n', front)) => front == text,
         _ => false,
     }
 }

@@ -1,11 +1,11 @@
 // An actor that keeps the acts of another one.
 
-use act_recorder_list::act_list::ActList;
+use act_recorder::act_list::ActList;
 use act_words::act::{Act, Turn};
 use ckc_io::mem_shelf::MemShelf;
 use sandbox_actor::actor::{Actor, ActorFault, Now};
 use sandbox_actor::list_actor::ListActor;
-use sandbox_actor_recording::recording_actor::RecordingActor;
+use sandbox_actor::recording_actor::RecordingActor;
 use std::alloc::Global;
 
 const ACTS: &str = "{\"act\":\"go\"}\n{\"act\":\"return\",\"value\":7}\n";

@@ -2,8 +2,8 @@
 
 ghost use Rattle.std.specs.Prelude.{◌≡◌, IfOk};
 ghost use Rattle.check_insertion.specs.Erased.{erased};
-ghost use Rattle.lowering_code.specs.Images.{image_of};
-ghost use Rattle.lowering_code.specs.Correct.{IsLowerable, KeepsMeaning};
+ghost use Rattle.lowering.specs.Images.{image_of};
+ghost use Rattle.lowering.specs.Correct.{IsLowerable, KeepsMeaning};
 
 use crate::images::emit_image;
 use check_insertion::erased::Erased;

@@ -4,23 +4,23 @@ ghost use Rattle.std.specs.Prelude.{◌≡◌, ◌+◌, ◌^◌, ◌≤◌, [], 
 ghost use Rattle.pointer_modes.specs.Types.{ctype as type_of};
 ghost use Rattle.check_insertion.specs.Erased.{If, Loop, Store, Update, UpdateLocal, expression, place as place_of, statement, statements_of};
 ghost use Rattle.code_words.specs.declared.op.Op.TheVariants as ops_of;
-ghost use Rattle.lowering_code.specs.Code as code;
-ghost use Rattle.lowering_code.specs.Sized.{SizedExpression, SizedPlace, SizedStatement, SizedStatements};
-ghost use Rattle.lowering_expressions.specs.Views.{targets_of};
+ghost use Rattle.lowering.specs.Code as code;
+ghost use Rattle.lowering.specs.Sized.{SizedExpression, SizedPlace, SizedStatement, SizedStatements};
+ghost use Rattle.lowering.specs.Views.{targets_of};
 
+use crate::addresses::emit_behind_value;
+use crate::code_sizes::{expression_size, statement_size};
+use crate::expression_code::{
+    emit_before_value, emit_call, emit_expression, emit_place, emit_with,
+};
+use crate::instructions::{load_op, operator_op, place_behind, put, put_two, store_op};
+use crate::loops::{Targets, begin_loop, loop_targets};
 use act_words::operator::Operator;
 use check_insertion::erased::{CellPlace, Expr, Stmt};
 use ckc_core::char_cells::has_one_byte;
 use ckc_core::program::Site;
 use ckc_text::fault::NoMemory;
 use code_words::op::Op;
-use lowering_code::code_sizes::{expression_size, statement_size};
-use lowering_code::instructions::{load_op, operator_op, place_behind, put, put_two, store_op};
-use lowering_expressions::addresses::emit_behind_value;
-use lowering_expressions::expressions::{
-    emit_before_value, emit_call, emit_expression, emit_place, emit_with,
-};
-use lowering_expressions::loops::{Targets, begin_loop, loop_targets};
 use pointer_modes::ctype::CType;
 
 // A value into a cell.

@@ -13,7 +13,7 @@ ghost use Rattle.region_typing_rules.specs.Items.{listed as listed_of, type_ahea
 ghost use Rattle.region_typing_rules.specs.DeclaredBounds.{declared_bounds as declared_bounds_of};
 ghost use Rattle.region_typing_scope.specs.Answering.{Answers};
 ghost use Rattle.region_typing_scope.specs.Views.{scope as scope_of, visible as visible_of};
-ghost use Rattle.region_typing_bounds.specs.Views.{place as place_view};
+ghost use Rattle.region_typing_scope.specs.DeclaredViews.{place as place_view};
 ghost use Rattle.region_typing.specs.Parameters.{parameter as parameter_of, heading as heading_view, AreOver, any_bounds as any_bounds_of, IsAmong};
 ghost use Rattle.region_typing.specs.Items.{bounds_written, one_parameter, has_no_base as has_no_base_of, result_written, heading_of};
 
@@ -24,9 +24,9 @@ use ckc_text::fault::NoMemory;
 use ckc_tree::expr::BoundsText;
 use ckc_tree::item::{Parameter, Parameters};
 use pointer_modes::ctype::CType;
-use region_typing_bounds::declared::bounds_at;
-use region_typing_bounds::place::Place;
 use region_typing_scope::context::Context;
+use region_typing_scope::declared::bounds_at;
+use region_typing_scope::place::Place;
 use region_typing_scope::refusals::{CheckError, needs};
 use region_typing_scope::scope::Scope;
 use region_typing_scope::types::type_named;

@@ -1,3 +1,5 @@
+mod Arguments
+mod Below
 pub mod Going
 pub mod Searches
 pub mod FileLevel

@@ -1,3 +1,4 @@
+pub mod DeclaredViews
 pub mod Answering
 pub mod Errors
 pub mod Names

@@ -1,3 +1,4 @@
+mod Recorded
 mod TextLines
 pub mod GivenActs
 mod Cuts

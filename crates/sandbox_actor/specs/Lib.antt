@@ -1,3 +1,4 @@
+pub mod Recordings
 pub mod Answers
 pub mod ActLists
 pub mod Lines

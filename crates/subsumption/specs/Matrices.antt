@@ -1,5 +1,6 @@
 -- Matrices of steps (*inside*): for each two nodes a constant and the node that its path leads to first, where there is one.
-use Rattle.std.specs.Prelude.{ℕ, ◌+◌, ◌^◌, ◌<◌, ◌≤◌, ◌≡◌, ◌≢◌, ◌⊎◌, ◌==◌, ◌&&◌, not, nat_lt, ℤ, pos, ◌+ℤ◌, ◌-ℤ◌, Bool, true, false, cond, Option, None, Some, slice_index_or, slice_set, replicate}
+use Rattle.std.specs.Prelude.{ℕ, ◌+◌, ◌^◌, ◌<◌, ◌≤◌, ◌≡◌, ◌≢◌, ◌⊎◌, ◌==◌, ◌&&◌, not, nat_lt, ℤ, pos, ◌+ℤ◌, ◌-ℤ◌}
+use Rattle.std.specs.Prelude.{Bool, true, false, cond, Option, None, Some, slice_index_or, slice_set, replicate}
 use Rattle.std.specs.Int.Signed.{le_z}
 use Rattle.subsumption.specs.Graphs.{IsWithin}
 use Rattle.subsumption.specs.Distances.{is_near}

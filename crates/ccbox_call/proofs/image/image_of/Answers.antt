@@ -1,8 +1,8 @@
 use Rattle.std.proofs.Common.{sym, subst}
 use Rattle.std.specs.Prelude.{◌≡◌, IfOk}
 use Rattle.ckc_core.specs.Core.{core}
-use Rattle.lowering_code.specs.Correct.{IsLowerable, KeepsMeaning}
-use Rattle.lowering_code.specs.Images as images
+use Rattle.lowering.specs.Correct.{IsLowerable, KeepsMeaning}
+use Rattle.lowering.specs.Images as images
 use Rattle.ccbox_call.proofs.Runs.{lowerable}
 use Rattle.ccbox_call.proofs.image.image_of.Goals as goal
 

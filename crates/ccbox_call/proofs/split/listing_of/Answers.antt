@@ -2,7 +2,7 @@ use Rattle.std.proofs.Common.{subst}
 use Rattle.std.specs.Prelude.{◌≡◌, IfOk}
 use Rattle.ckc_core.specs.Core.{core}
 use Rattle.check_insertion.specs.Insert.{inserted}
-use Rattle.lowering_code.specs.Images as images
+use Rattle.lowering.specs.Images as images
 use Rattle.code_words_listing.specs.Listings.{listing, InFormat}
 use Rattle.ccbox_call.specs.Words.{FitsWords}
 use Rattle.ccbox_call.proofs.PrintedCode.{code_in_format, if_ok}

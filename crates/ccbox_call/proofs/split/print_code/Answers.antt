@@ -1,7 +1,7 @@
 use Rattle.std.proofs.Common.{refl, ◌∙◌, subst, arith}
 use Rattle.ckc_core.specs.Core.{core}
 use Rattle.check_insertion.specs.Insert.{inserted}
-use Rattle.lowering_code.specs.Images.{image_of}
+use Rattle.lowering.specs.Images.{image_of}
 use Rattle.code_words_listing.specs.Listings.{listing}
 use Rattle.ccbox_call_words.specs.Given.{TextGiven, given}
 use Rattle.ccbox_call_words.specs.Statuses.{number_of}

@@ -4,7 +4,7 @@ use Rattle.ckc_text.specs.Names.{IsName}
 use Rattle.pointer_modes.specs.Types.{ctype}
 use Rattle.check_insertion.specs.Erased.{function, statements_of}
 use Rattle.check_insertion.specs.Stacks.{statements_stack, body_stack}
-use Rattle.lowering_code.proofs.Fits.{is_func}
+use Rattle.lowering.proofs.Fits.{is_func}
 use Rattle.lowering.proofs.images.emit_function.Goals as goal
 
 pub new-requires : goal.new-requires

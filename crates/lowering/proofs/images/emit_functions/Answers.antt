@@ -3,9 +3,9 @@ use Rattle.std.proofs.lemmas.List.{drop_more}
 use Rattle.std.proofs.lemmas.List.Elements.{All-push}
 use Rattle.code_words.specs.Formats.{IsFunc}
 use Rattle.check_insertion.specs.Erased.{function}
-use Rattle.lowering_code.specs.Correct.{IsFunction}
-use Rattle.lowering_code.specs.Images.{function_code, functions_from}
-use Rattle.lowering_code.proofs.Slices.{meant_at}
+use Rattle.lowering.specs.Correct.{IsFunction}
+use Rattle.lowering.specs.Images.{function_code, functions_from}
+use Rattle.lowering.proofs.Slices.{meant_at}
 use Rattle.lowering.proofs.images.emit_functions.Goals as goal
 
 pub emit_function-requires : goal.emit_function-requires

@@ -2,7 +2,7 @@ use Rattle.std.proofs.Common.{◌≡◌, ◌++◌, map, drop}
 use Rattle.std.specs.Prelude.{All}
 use Rattle.code_words.specs.Formats.{IsFunc}
 use Rattle.check_insertion.specs.Erased.{function}
-use Rattle.lowering_code.specs.Images.{functions_from}
+use Rattle.lowering.specs.Images.{functions_from}
 use Rattle.lowering.proofs.images.emit_functions.Given as goal
 
 -- the functions so far and those that are left are all; those so far keep what each function of an image does

@@ -4,8 +4,8 @@ use Rattle.std.specs.Prelude.{All}
 use Rattle.code_words.specs.Formats.{IsFunc, IsImport}
 use Rattle.ckc_core.specs.Core.{import_of}
 use Rattle.check_insertion.specs.Erased.{erased, function}
-use Rattle.lowering_code.specs.Images.{functions_from, imports_from}
-use Rattle.lowering_code.proofs.Fits.{keeps_format}
+use Rattle.lowering.specs.Images.{functions_from, imports_from}
+use Rattle.lowering.proofs.Fits.{keeps_format}
 use Rattle.lowering.proofs.images.emit_image.Goals as goal
 
 pub invariant_of-result : goal.invariant_of-result

@@ -2,9 +2,9 @@ use Rattle.std.proofs.Common.{◌≡◌, length, sym, ap, subst, arith}
 use Rattle.std.proofs.lemmas.List.{length-map}
 use Rattle.pointer_modes.specs.Types.{ctype}
 use Rattle.check_insertion.specs.Erased.{function, statements_of}
-use Rattle.lowering_code.specs.Sized.{SizedStatements}
-use Rattle.lowering_code.specs.Code.{statements_size}
-use Rattle.lowering_code.proofs.Weights.{body_short}
+use Rattle.lowering.specs.Sized.{SizedStatements}
+use Rattle.lowering.specs.Code.{statements_size}
+use Rattle.lowering.proofs.Weights.{body_short}
 use Rattle.lowering.proofs.images.function_ops.Goals as goal
 
 pub statements_size-end-requires : goal.statements_size-end-requires

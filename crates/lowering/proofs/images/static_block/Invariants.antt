@@ -1,7 +1,7 @@
 use Rattle.std.proofs.Common.{◌≡◌, ◌++◌, map, drop}
 use Rattle.std.specs.Prelude.{flat_map}
 use Rattle.ckc_core.specs.Core.{initial}
-use Rattle.lowering_code.specs.Images.{cell_bytes}
+use Rattle.lowering.specs.Images.{cell_bytes}
 use Rattle.lowering.proofs.images.static_block.Given as goal
 
 -- the bytes so far and those of the cells that are left are those of all

@@ -1,6 +1,6 @@
 use Rattle.std.proofs.Common.{◌≡◌, ◌++◌, map, drop}
 use Rattle.ckc_core.specs.Core.{object}
-use Rattle.lowering_code.specs.Images.{object_bytes}
+use Rattle.lowering.specs.Images.{object_bytes}
 use Rattle.lowering.proofs.images.static_blocks.Given as goal
 
 -- the blocks so far and those of the variables that are left are those of all

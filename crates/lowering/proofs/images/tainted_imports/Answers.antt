@@ -1,7 +1,7 @@
 use Rattle.std.proofs.Common.{◌≤◌}
 use Rattle.ckc_core.specs.Programs.{Import}
 use Rattle.ckc_core.specs.Core.{import_of}
-use Rattle.lowering_code.proofs.Slices.{meant_at}
+use Rattle.lowering.proofs.Slices.{meant_at}
 use Rattle.lowering.proofs.images.tainted_imports.Goals as goal
 
 pub tainted_import-requires : goal.tainted_import-requires

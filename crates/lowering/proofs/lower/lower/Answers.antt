@@ -1,8 +1,8 @@
 use Rattle.std.proofs.Common.{sym, subst}
 use Rattle.std.proofs.lemmas.Result.{IfOk-weaker}
 use Rattle.check_insertion.specs.Erased.{erased}
-use Rattle.lowering_code.specs.Correct.{KeepsMeaning}
-use Rattle.lowering_code.proofs.Fits.{image_keeps}
+use Rattle.lowering.specs.Correct.{KeepsMeaning}
+use Rattle.lowering.proofs.Fits.{image_keeps}
 use Rattle.lowering.proofs.lower.lower.Goals as goal
 
 pub returns-clause-meaning : goal.returns-clause-meaning

@@ -3,10 +3,10 @@ use Rattle.std.proofs.lemmas.Result.{IfOk-weaker}
 use Rattle.check_insertion.specs.declared.erased.Stmt.{the_lemmas}
 use Rattle.check_insertion.specs.Erased.{expression, statement}
 use Rattle.check_insertion.proofs.Rows.{block_of}
-use Rattle.lowering_code.specs.Code.{Places, statement_size, statement_code}
-use Rattle.lowering_code.specs.Sized.{SizedStatement}
-use Rattle.lowering_expressions.specs.Views.{targets_of}
-use Rattle.lowering_code.proofs.Emitting.{place_after, after_condition, after_statement, if_emitted, loop_emitted, statement_sized, statement_room, statements_emitted}
+use Rattle.lowering.specs.Code.{Places, statement_size, statement_code}
+use Rattle.lowering.specs.Sized.{SizedStatement}
+use Rattle.lowering.specs.Views.{targets_of}
+use Rattle.lowering.proofs.Emitting.{place_after, after_condition, after_statement, if_emitted, loop_emitted, statement_sized, statement_room, statements_emitted}
 use Rattle.lowering.proofs.statement_code.+statements.Goals as goal
 
 pub emit_statement-returns-in-Block : goal.emit_statement-returns-in-Block

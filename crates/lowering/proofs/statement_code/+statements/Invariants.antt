@@ -2,8 +2,8 @@ use Rattle.std.proofs.Common.{◌≡◌, ◌+◌, ◌*◌, ◌++◌, length, dro
 use Rattle.std.specs.Prelude.{max}
 use Rattle.check_insertion.specs.declared.erased.Stmt.{size-Stmt}
 use Rattle.check_insertion.specs.Erased.{statements_of}
-use Rattle.lowering_code.specs.Code.{statements_code}
-use Rattle.lowering_expressions.specs.Views.{targets_of}
+use Rattle.lowering.specs.Code.{statements_code}
+use Rattle.lowering.specs.Views.{targets_of}
 use Rattle.lowering.proofs.statement_code.+statements.Given as goal
 
 -- each call has a part that is less deep, or one as deep and a function that is lower here

@@ -1,7 +1,7 @@
 use Rattle.std.proofs.Common.{arith}
 use Rattle.std.proofs.lemmas.Result.{IfOk-weaker}
 use Rattle.check_insertion.specs.Erased.{expression}
-use Rattle.lowering_code.proofs.Emitting.{after_expression, condition_emitted}
+use Rattle.lowering.proofs.Emitting.{after_expression, condition_emitted}
 use Rattle.lowering.proofs.statement_code.emit_condition.Goals as goal
 
 pub returns : goal.returns

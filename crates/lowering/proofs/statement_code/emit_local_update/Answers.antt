@@ -1,7 +1,7 @@
 use Rattle.std.proofs.lemmas.Result.{IfOk-weaker}
 use Rattle.check_insertion.specs.Erased.{expression}
-use Rattle.lowering_expressions.specs.Views.{targets_of}
-use Rattle.lowering_code.proofs.Emitting.{local_update_emitted}
+use Rattle.lowering.specs.Views.{targets_of}
+use Rattle.lowering.proofs.Emitting.{local_update_emitted}
 use Rattle.lowering.proofs.statement_code.emit_local_update.Goals as goal
 
 pub returns : goal.returns

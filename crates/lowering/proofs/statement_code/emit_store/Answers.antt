@@ -2,9 +2,9 @@ use Rattle.std.proofs.Common.{length, arith}
 use Rattle.std.proofs.lemmas.Result.{IfOk-weaker}
 use Rattle.pointer_modes.specs.Types.{ctype}
 use Rattle.check_insertion.specs.Erased.{expression, place}
-use Rattle.lowering_code.specs.Code.{before_value_size, before_value}
-use Rattle.lowering_code.proofs.Sizes.{length_before}
-use Rattle.lowering_code.proofs.Emitting.{place_after, store_emitted}
+use Rattle.lowering.specs.Code.{before_value_size, before_value}
+use Rattle.lowering.proofs.Sizes.{length_before}
+use Rattle.lowering.proofs.Emitting.{place_after, store_emitted}
 use Rattle.lowering.proofs.statement_code.emit_store.Goals as goal
 
 pub returns : goal.returns

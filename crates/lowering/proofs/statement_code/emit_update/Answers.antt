@@ -2,10 +2,10 @@ use Rattle.std.proofs.Common.{length, refl, arith}
 use Rattle.std.proofs.lemmas.Result.{IfOk-weaker}
 use Rattle.pointer_modes.specs.Types.{ctype}
 use Rattle.check_insertion.specs.Erased.{expression, place}
-use Rattle.lowering_code.specs.Code.{place_size, place_code}
-use Rattle.lowering_expressions.specs.Views.{targets_of}
-use Rattle.lowering_code.proofs.Sizes.{length_place}
-use Rattle.lowering_code.proofs.Emitting.{place_after, update_emitted}
+use Rattle.lowering.specs.Code.{place_size, place_code}
+use Rattle.lowering.specs.Views.{targets_of}
+use Rattle.lowering.proofs.Sizes.{length_place}
+use Rattle.lowering.proofs.Emitting.{place_after, update_emitted}
 use Rattle.lowering.proofs.statement_code.emit_update.Goals as goal
 
 pub returns : goal.returns

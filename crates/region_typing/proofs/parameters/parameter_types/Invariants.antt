@@ -2,7 +2,7 @@ use Rattle.std.proofs.Common.{◌≡◌, ◌≤◌, [], true, length, map, drop}
 use Rattle.ckc_tree.specs.Items as trees
 use Rattle.region_typing_rules.specs.Items.{among_parameters, parameter_types}
 use Rattle.region_typing_scope.specs.Views.{scope}
-use Rattle.region_typing_bounds.specs.Views.{place as place_view}
+use Rattle.region_typing_scope.specs.DeclaredViews.{place as place_view}
 use Rattle.region_typing.specs.Parameters.{parameter, AreOver, any_bounds}
 use Rattle.region_typing.proofs.parameters.parameter_types.Given as goal
 

@@ -1,5 +1,0 @@
-use Rattle.lowering_code.proofs.Fits.{image_keeps}
-use Rattle.lowering_code.proofs.laws.code_keeps_meaning.Goals as goal
-
-pub returns : goal.returns
-returns c = image_keeps

@@ -1,5 +1,0 @@
-pub mod Code
-pub mod Images
-pub mod Sized
-pub mod Correct
-pub mod Examples

@@ -1,6 +1,0 @@
--- Where `break` and `continue` go, as the code has it.
-use Rattle.lowering_code.specs.Code.{Places}
-use Rattle.lowering_expressions.specs.declared.loops.Targets.{Targets}
-
-abbrev pub targets_of : Targets → Places
-targets_of t = record { scratch = t.scratch; on_break = t.on_break; on_continue = t.on_continue }

@@ -1,0 +1,161 @@
+// Bounds as they are written for a local, and their normal form.
+
+ghost use Rattle.std.specs.Prelude.{◌≡◌, Some, length, IfOk};
+ghost use Rattle.std.specs.Option.{option_map};
+ghost use Rattle.ckc_tree.specs.Expressions.{bounds as bounds_tree};
+ghost use Rattle.bounds_exprs.specs.Normal.{how as how_of};
+ghost use Rattle.pointer_modes.specs.Types.{ctype as ctype_of};
+ghost use Rattle.bounds_flow.specs.Conditions.{AreBoundsBelow};
+ghost use Rattle.region_typing_rules.specs.Types.{is_row as row_type};
+ghost use Rattle.region_typing_rules.specs.DeclaredBounds.{how_written, normal_bounds as normal_bounds_of, declared_bounds as declared_bounds_of};
+ghost use Rattle.region_typing_scope.specs.Answering.{Answers};
+ghost use Rattle.region_typing_scope.specs.Views.{scope as scope_of};
+ghost use Rattle.region_typing_scope.specs.DeclaredViews.{bounded as bounded_view, place as place_view};
+
+use crate::context::Context;
+use crate::names::Bounded;
+use crate::place::Place;
+use crate::refusals::{CheckError, needs};
+use crate::scope::Scope;
+use crate::sums::sum_form;
+use bounds_exprs::form::{BoundsForm, BoundsHow};
+use bounds_exprs::normalize::normal;
+use bounds_exprs::term::Bounds;
+use ckc_text::code::Code;
+use ckc_text::place::Span;
+use ckc_tree::expr::BoundsText;
+use pointer_modes::ctype::{CType, Kind};
+
+// What is written for bounds of a pointer.
+fn how_form(
+    context: &Context,
+    place: &Place,
+    p: &Bounded,
+    written: &BoundsText,
+) -> Result<BoundsHow, CheckError>
+    ensures { Answers how_of (how_written (place_view place.now) (bounded_view p.now) (bounds_tree written.now)) result }
+{
+    match written {
+        BoundsText::Count { count, .. } => {
+            let elements = sum_form(context, place, p, count)?;
+            Ok(BoundsHow::Count(elements))
+        }
+        BoundsText::ByteCount { count, .. } => {
+            let bytes = sum_form(context, place, p, count)?;
+            Ok(BoundsHow::ByteCount(bytes))
+        }
+        BoundsText::Unknown { .. } => Ok(BoundsHow::Unknown),
+        BoundsText::Range { low, high, .. } => {
+            let low = sum_form(context, place, p, low)?;
+            let high = sum_form(context, place, p, high)?;
+            Ok(BoundsHow::Pair(low, high))
+        }
+    }
+}
+
+// The normal bounds of what is written at a span, of elements of so many bytes.
+fn normal_bounds(how: BoundsHow, size: u32, span: Span) -> Result<Option<Bounds>, CheckError>
+    ensures { Answers (λ b. b) (normal_bounds_of (how_of how) size span) result }
+{
+    let form = BoundsForm { span, how };
+    match normal(&form, size) {
+        Ok(bounds) => Ok(bounds),
+        Err(fault) => Err(CheckError::Source(fault)),
+    }
+}
+
+// Whether a type is that of pointers to arrays.
+fn is_row(t: &CType) -> bool
+    ensures { result ≡ row_type (ctype_of t.now) }
+{
+    match t {
+        CType::Pointer(_, kind, _) => matches!(kind, Kind::Array),
+        CType::Int | CType::Char | CType::Struct(_) => false,
+    }
+}
+
+// The bounds that are written for a local of a type.
+fn written_bounds(
+    context: &Context,
+    place: &Place,
+    t: &CType,
+    own: u32,
+    written: &BoundsText,
+) -> Result<Option<Bounds>, CheckError>
+    ensures { Answers (λ b. b) (declared_bounds_of (place_view place.now) (ctype_of t.now) own (Some (bounds_tree written.now))) result }
+{
+    let p = Bounded::new(own, t);
+    let how = how_form(context, place, &p, written)?;
+    let size = place.scope.structs.size_of(p.element);
+    needs(is_row(t) && 0 < size, Code::E16, written.span())?;
+    normal_bounds(how, size, written.span())
+}
+
+/// The bounds that are declared for a local of a type, by its number, where the names in them are looked up in a place; none
+/// where none are written, or unknown ones.
+///
+/// # Errors
+///
+/// What a type under `sizeof` breaks, and E13 at strings, from left to right; then E16 at the
+/// bounds where the local is no pointer to an array, or one to elements without bytes, and where they have no normal form.
+pub fn bounds_at(
+    context: &Context,
+    place: &Place,
+    t: &CType,
+    own: u32,
+    written: &Option<BoundsText>,
+) -> Result<Option<Bounds>, CheckError>
+    ensures known { Answers (λ b. b) (declared_bounds_of (place_view place.now) (ctype_of t.now) own (option_map bounds_tree written.now)) result }
+    ensures below { IfOk result (AreBoundsBelow (length place.now.locals.now)) }
+{
+    match written {
+        None => Ok(None),
+        Some(bounds) => written_bounds(context, place, t, own, bounds),
+    }
+}
+
+/// The bounds that are declared for a local of a type, by its number, where the local is visible: as in a place with the
+/// locals of the function that is walked.
+///
+/// # Errors
+///
+/// Those of `bounds_at`.
+pub fn declared_bounds(
+    context: &Context,
+    scope: &Scope,
+    t: &CType,
+    own: u32,
+    written: &Option<BoundsText>,
+) -> Result<Option<Bounds>, CheckError>
+    ensures known { Answers (λ b. b) (declared_bounds_of (scope_of scope.now) (ctype_of t.now) own (option_map bounds_tree written.now)) result }
+    ensures below { IfOk result (AreBoundsBelow scope.now.flow.vars) }
+{
+    let place = Place {
+        scope,
+        locals: scope.locals.as_slice(),
+        visible: scope.visible.as_slice(),
+    };
+    bounds_at(context, &place, t, own, written)
+}
+
+/// The bounds that are written in a cast to a type, which have no name for what it gives.
+///
+/// # Errors
+///
+/// Those of `bounds_at`.
+pub fn unnamed_bounds(
+    context: &Context,
+    scope: &Scope,
+    t: &CType,
+    written: &BoundsText,
+) -> Result<Option<Bounds>, CheckError>
+    ensures { Answers (λ b. b) (declared_bounds_of (scope_of scope.now) (ctype_of t.now) (length (scope_of scope.now).locals) (Some (bounds_tree written.now))) result }
+{
+    let place = Place {
+        scope,
+        locals: scope.locals.as_slice(),
+        visible: scope.visible.as_slice(),
+    };
+    let own = scope.locals.len() as u32;
+    written_bounds(context, &place, t, own, written)
+}

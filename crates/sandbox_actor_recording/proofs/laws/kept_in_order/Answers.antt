@@ -1,5 +1,0 @@
-use Rattle.sandbox_actor_recording.proofs.Recorded.{kept}
-use Rattle.sandbox_actor_recording.proofs.laws.kept_in_order.Goals as goal
-
-pub returns : goal.returns
-returns c start = kept {S = c.A.Actor.State} c.A.Actor.answers
