@@ -1,6 +1,9 @@
 -- The steps of flows, put together.
 use Rattle.bounds_flow_meaning.specs.Laws.{FlowsHold}
 use Rattle.bounds_flow_meaning.proofs.Steps.{forgotten_one, enter_fits, enter_holds, enter_valid_holds, grow_but, grow_fits, grow_holds, number_holds, pointer_holds}
+use Rattle.bounds_flow.proofs.Variables.{held_below}
+use Rattle.bounds_flow_meaning.proofs.Lengths.{length_holds}
+use Rattle.bounds_flow_meaning.proofs.Widening.{widen_fits, widen_holds}
 use Rattle.bounds_flow_meaning.proofs.Ways.{assume_fits, assume_holds, entail_holds, first_fits, first_holds, head_fits, leave_fits, narrow_valid, second_fits, second_holds, settle_fits}
 
 pub flows_hold : FlowsHold
@@ -15,6 +18,9 @@ flows_hold structs f flow = record {
   settle = λ s. settle_fits structs f flow s;
   assume = λ test truth s. assume_holds structs f flow s test truth;
   assume_between = λ test truth s. assume_fits structs f flow s test truth;
+  widen = λ p index s below zeros read. widen_holds structs f flow s p index below (held_below f.vars f.held p flow.variables.below).bounds zeros read;
+  widen_between = λ p index s below zeros read. widen_fits structs f flow s p index below (held_below f.vars f.held p flow.variables.below).bounds zeros read;
+  assign_length = λ x p s old count lt there has counted h. length_holds structs f flow s x p old count lt there has counted h;
   join_first = λ g s other beside. first_fits structs f g flow other beside.vars s;
   join_second = λ g s other beside. second_fits structs f g flow other beside.vars s beside;
   tested_first = λ g s other tested. first_holds structs f g flow other tested.vars s tested;

@@ -11,9 +11,10 @@ use Rattle.bounds_flow.specs.declared.changes.Change.{Change}
 use Rattle.bounds_flow.specs.declared.changes.Change.TheVariants.{Shift, Number, Base, Leave, Head, Settle}
 use Rattle.bounds_flow.specs.declared.steps.Test.{Test}
 use Rattle.bounds_flow.specs.declared.steps.Test.TheVariants.{NotNull, Compare}
-use Rattle.bounds_flow.specs.Pointers.{after_base, after_leaving, after_number, after_shift, assigned_from, dropped, fresh, known_not_null, moved_off, moved_to, no_pointer, same_bounds, settled_pointer, speaks_of, where_bounds, with_declared}
+use Rattle.bounds_flow.specs.Pointers.{after_base, after_leaving, after_number, after_shift, assigned_from, dropped, fresh, is_own, known_not_null, moved_off, moved_to, no_pointer, same_bounds, settled_pointer, speaks_of, where_bounds, with_declared, with_bounds}
 use Rattle.bounds_flow.specs.Changes.{changed}
-use Rattle.bounds_flow.specs.Flows.{Knowledge, held_at, assumed, entered, left, met, number_held}
+use Rattle.bounds_flow.specs.Flows.{Knowledge, held_at, assumed, entered, left, measured, measured_by, met, number_assigned, number_held, variable, wider}
+use Rattle.subsumption.specs.ClosedTables.{ClosedTable, entails_terms}
 use Rattle.bounds_flow_meaning.specs.Holding.{IsSettled}
 use Rattle.bounds_flow_meaning.specs.Laws.{AreBeside, AreTested, FlowsStayAlike, StepsStayBeside, StepsStaySettled}
 use Rattle.bounds_flow_meaning.proofs.Steps.{each_map, each_put, each_set}
@@ -59,6 +60,14 @@ assumed_declared f (NotNull x) true p = each_put (Declares f.held) f.held x (kno
 assumed_declared f (NotNull x) false p = refl
 assumed_declared f (Compare how a b) truth p = refl
 
+bounds_declared : (o : Option Bounds) (h : Held) → (with_bounds o h).declared ≡ h.declared
+bounds_declared None h = refl
+bounds_declared (Some b) h = refl
+
+bounds_marked : (o : Option Bounds) (h : Held) → (with_bounds o h).mark ≡ h.mark
+bounds_marked None h = refl
+bounds_marked (Some b) h = refl
+
 left_declared : (f g : Knowledge) (x : ℕ) (declared : Option Bounds) → held_at f.held x ≡ no_pointer → AreBeside (entered x declared f) g → (p : ℕ) → (held_at (left x g).held p).declared ≡ (held_at f.held p).declared
 left_declared f g x declared none beside = each_set (Declares f.held) (map (after_leaving x) g.held) x no_pointer here here others
   where
@@ -70,6 +79,22 @@ left_declared f g x declared none beside = each_set (Declares f.held) (map (afte
         each_map (Declares g.held) (after_leaving x) refl g.held (λ r. changed_declared [] (Leave x) (held_at g.held r)) q
         ∙ (beside.declared q ∙ ap (λ (h : Held). h.declared) (get_or-set_other f.held x q (fresh declared) no_pointer ne))
 
+measured_declared : (x : ℕ) (t : ClosedTable) (o : Option Bounds) (h : Held) → (measured x t o h).declared ≡ h.declared
+measured_declared x t None h = refl
+measured_declared x t (Some b) h = either_declared (entails_terms b.hi (variable x) t) (record h { bounds = Some (record b { hi = variable x }) }) h h.declared refl refl
+
+length_beside : (f : Knowledge) (x p : ℕ) (own : Bool) → AreBeside f (cond own (measured_by x p (number_assigned x None f)) (number_assigned x None f))
+length_beside f x p true =
+    let g = number_assigned x None f in
+    let here = held_at g.held p in
+    record {
+      vars = refl;
+      declared = each_put (Declares f.held) g.held p (measured x (measured_by x p g).facts here.bounds here)
+          (measured_declared x (measured_by x p g).facts here.bounds here ∙ number_declared x None (set f.assigned x true) f.held p)
+          (number_declared x None (set f.assigned x true) f.held);
+    }
+length_beside f x p false = record { vars = refl; declared = number_declared x None (set f.assigned x true) f.held }
+
 stay_beside : (f : Knowledge) → StepsStayBeside f
 stay_beside f = record {
   assign_int = λ x to. record { vars = refl; declared = number_declared x to (set f.assigned x true) f.held };
@@ -80,6 +105,12 @@ stay_beside f = record {
   };
   settle = record { vars = refl; declared = each_map (Declares f.held) settled_pointer refl f.held (λ q. refl) };
   assume = λ test truth. record { vars = assumed_vars test truth; declared = assumed_declared f test truth };
+  assign_length = λ x p. length_beside f x p (is_own (held_at f.held p).bounds);
+  widen = λ p index. record {
+    vars = refl;
+    declared = each_put (Declares f.held) f.held p (with_bounds (wider index f.facts (held_at f.held p).bounds) (held_at f.held p))
+        (bounds_declared (wider index f.facts (held_at f.held p).bounds) (held_at f.held p)) (λ q. refl);
+  };
   enter_loop = λ changed. record { vars = refl; declared = λ p. (head_at changed f p).declared };
   cut = record { vars = refl; declared = λ p. refl };
   join = λ g e. record { vars = refl; declared = λ p. ap (λ (h : Held). h.declared) (joined_at f.held g.held (sym e) p) };
@@ -111,6 +142,11 @@ stay_settled f = record {
     assigned = λ y. false_set f.assigned x y (settled.assigned y);
   };
   assume = assumed_settled f;
+  widen = λ p index settled. record {
+    marks = each_put Rests f.held p (with_bounds (wider index f.facts (held_at f.held p).bounds) (held_at f.held p))
+        (bounds_marked (wider index f.facts (held_at f.held p).bounds) (held_at f.held p) ∙ settled.marks p) settled.marks;
+    assigned = settled.assigned;
+  };
   enter_loop = λ changed settled. record { marks = λ p. (head_at changed f p).mark ∙ settled.marks p; assigned = settled.assigned };
   cut = λ settled. record { marks = settled.marks; assigned = settled.assigned };
   join = λ g e settled. record { marks = λ p. ap (λ (h : Held). h.mark) (joined_at f.held g.held (sym e) p) ∙ settled.marks p; assigned = settled.assigned };

@@ -58,7 +58,7 @@ abbrev shapes_of_three : World → List Shape
 shapes_of_three w = shapes (three_ints w (pos 3)).blocks
 
 int_at : (w : World) (k : ℕ) → k < 3 → IsPlace [] (shapes_of_three w) Int 0 (k * 4)
-int_at w k lt = record { shape = three_shape; found = refl; row = record { stands = record { there = omega arith; each = each k lt; open_ended = refl; unsealed = refl }; room = omega arith } }
+int_at w k lt = record { shape = three_shape; found = refl; row = record { stands = record { there = omega arith; each = each k lt; inside = λ n slot e. refl; unsealed = refl }; room = omega arith } }
   where
     three_shape : Shape
     three_shape = record { types = Int ∷ Int ∷ Int ∷ []; strides = 4 ∷ 4 ∷ 4 ∷ []; zero_ended = false; is_sealed = false }
@@ -86,7 +86,7 @@ three_elements w (pos k) place step lies =
     below_end place h = less_of place 12 (pos 12) (both_true (int_le (pos 0) (pos place)) (int_lt (pos place) (pos 12)) h).1 (omega (arith, int_rules))
 three_elements w (negsuc k) place step lies = absurd (omega (arith, int_rules, step))
 
-three_leads : (w : World) (site : Site) (block byte : ℕ) (e : Ends) → At 0 0 ≡ At block byte → ends_at (at_node count_n 4 site) (three_ints w (pos 3)).locals block byte ≡ Some e
+three_leads : (w : World) (site : Site) (block byte : ℕ) (e : Ends) → At 0 0 ≡ At block byte → ends_at (at_node count_n 4 false site) (three_ints w (pos 3)).locals block byte ≡ Some e
     → LeadsOn [] (shapes_of_three w) ints block byte e
 three_leads w site zero zero e same are = subst (λ e. LeadsOn [] (shapes_of_three w) ints 0 0 e) (same_Some three_ends e are) (three_elements w)
 three_leads w site zero (suc byte) e same are = absurd (cc)

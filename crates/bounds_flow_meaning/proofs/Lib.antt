@@ -11,3 +11,5 @@ pub mod Beside
 pub mod Sums
 pub mod Calls
 mod Examples
+pub mod Widening
+pub mod Lengths

@@ -13,7 +13,7 @@ use Rattle.bounds_flow.specs.declared.steps.Source.{Source}
 use Rattle.bounds_flow.specs.declared.steps.Source.TheVariants as sources
 use Rattle.bounds_flow.specs.Pointers.{after_base, after_number, after_shift, assigned_from, bounds_from, dropped, is_assigned, is_settled, lost, mark_from, moved_off, moved_to, no_pointer, stays_true, where_bounds, with_declared}
 use Rattle.ckc_core.specs.States.{Value, Number, Null, Local, State}
-use Rattle.bounds_flow_meaning.specs.Holding.{HasSize, HaveOneBase, IsHeld, IsValid, target_size, types_of}
+use Rattle.bounds_flow_meaning.specs.Holding.{HasSize, HaveOneStart, IsHeld, IsValid, target_size, types_of}
 use Rattle.bounds_flow_meaning.specs.Laws.{IsGiven, IsMovedBy, IsPointer, with_local}
 use Rattle.bounds_flow_meaning.proofs.Numbers.{IsNumber, other_number, same_number, type_there}
 use Rattle.bounds_flow_meaning.proofs.Validity.{IsAlike, alike_here, based_stays, both_true, is_this, neither, own_stays, shifted_stays, unbased_stays, unnamed_stays}
@@ -26,10 +26,10 @@ settled_is marks.Changed e = absurd (cc)
 settled_is marks.Lost e = absurd (cc)
 settled_is marks.WasNull e = absurd (cc)
 
-changed_settled : marks.Changed ≡ marks.Settled → ⊥
+pub changed_settled : marks.Changed ≡ marks.Settled → ⊥
 changed_settled e = cc
 
-changed_null : marks.Changed ≡ marks.WasNull → ⊥
+pub changed_null : marks.Changed ≡ marks.WasNull → ⊥
 changed_null e = cc
 
 pub lost_settled : marks.Lost ≡ marks.Settled → ⊥
@@ -46,20 +46,20 @@ settled_null e = cc
 
 -- ---- bounds
 
-pub one_base : (o : Option Bounds) → HaveOneBase o o
-one_base None = tt
-one_base (Some b) = refl
+pub one_start : (o : Option Bounds) → HaveOneStart o o
+one_start None = tt
+one_start (Some b) = (refl, refl)
 
 pub valid_of : (structs : List Structure) (o p : Option Bounds) (l : Local) (s : State) → o ≡ p → IsValid structs p l s → IsValid structs o l s
 valid_of structs o p l s e h = subst (λ o. IsValid structs o l s) (sym e) h
 
 -- what is no pointer in scope is known to be so
 pub none_held : (structs : List Structure) (assigned : List Bool) (l : Local) (s : State) → IsHeld structs assigned no_pointer l s
-none_held structs assigned l s = record { valid = tt; known = λ e. absurd (cc); null = λ e. absurd (settled_null e); declared = λ e f. tt; base = λ e. tt }
+none_held structs assigned l s = record { valid = tt; known = λ e. absurd (cc); null = λ e. absurd (settled_null e); declared = λ e f. tt; start = λ e. tt }
 
 -- bounds in force that are lost
 pub lost_held : (structs : List Structure) (assigned : List Bool) (h : Held) (l : Local) (s : State) → (h.known ≡ true → l.value ≢ Null) → IsHeld structs assigned (lost h) l s
-lost_held structs assigned h l s known = record { valid = tt; known = known; null = λ e. absurd (lost_null e); declared = λ e f. absurd (lost_settled e); base = λ e. absurd (lost_settled e) }
+lost_held structs assigned h l s known = record { valid = tt; known = known; null = λ e. absurd (lost_null e); declared = λ e f. absurd (lost_settled e); start = λ e. absurd (lost_settled e) }
 
 -- bounds in force that were moved
 pub moved_held : (structs : List Structure) (assigned : List Bool) (o : Option Bounds) (h : Held) (l : Local) (s : State) → IsValid structs o l s → (h.known ≡ true → l.value ≢ Null)
@@ -70,7 +70,7 @@ moved_held structs assigned (Some b) h l s valid known = record {
   known = known;
   null = λ e. absurd (changed_null e);
   declared = λ e f. absurd (changed_settled e);
-  base = λ e. absurd (changed_settled e);
+  start = λ e. absurd (changed_settled e);
 }
 
 -- ---- variables that were assigned
@@ -123,7 +123,7 @@ module _ (structs : List Structure) (s : State) (x : ℕ) (old : Local) (there :
       known = λ e. alike_known l m alike (held.known e);
       null = λ e. alike_null l m alike (held.null e);
       declared = λ e. declared_stay h.declared (held.declared e);
-      base = held.base;
+      start = held.start;
     }
 
     dropped_by : (h : Held) (b : Bool) → (is_settled h.mark && stays_true (set assigned x true) h.declared) ≡ b → IsHeld structs assigned h l s
@@ -132,7 +132,7 @@ module _ (structs : List Structure) (s : State) (x : ℕ) (old : Local) (there :
         let p = both_true (is_settled h.mark) (stays_true (set assigned x true) h.declared) e in
         let mark = settled_is h.mark p.0 in
         let valid = declared_stay h.declared (held.declared mark) p.1 in
-        record { valid = valid; known = λ e. alike_known l m alike (held.known e); null = λ e. alike_null l m alike (held.null e); declared = λ e f. valid; base = λ e. one_base h.declared }
+        record { valid = valid; known = λ e. alike_known l m alike (held.known e); null = λ e. alike_null l m alike (held.null e); declared = λ e f. valid; start = λ e. one_start h.declared }
     dropped_by h false e held = lost_held structs (set assigned x true) h m (with_local x old (Number z) s) (λ e. alike_known l m alike (held.known e))
 
     number_named : (h : Held) (b : Bounds) (t : Bool) → h.bounds ≡ Some b → is_named x b ≡ t → IsHeld structs assigned h l s
@@ -178,10 +178,10 @@ from_settled (sources.Known b) e = changed_settled e
 
 module _ (structs : List Structure) (s : State) (p : ℕ) (old : Local) (v : Value) (there : slice_get s.locals p ≡ Some old) (was : IsPointer old.value) (is : IsPointer v) (assigned : List Bool) where
   -- declared bounds from the base of bounds in force that don't count from p
-  other_declared : (l : Local) (o bounds : Option Bounds) → HaveOneBase bounds o → ((b : Bounds) → bounds ≡ Some b → is_var p b.base ≡ false) → IsValid structs o l s → IsValid structs o l (with_local p old v s)
+  other_declared : (l : Local) (o bounds : Option Bounds) → HaveOneStart bounds o → ((b : Bounds) → bounds ≡ Some b → is_var p b.base ≡ false) → IsValid structs o l s → IsValid structs o l (with_local p old v s)
   other_declared l None bounds base n h = tt
   other_declared l (Some d) None base n h = absurd base
-  other_declared l (Some d) (Some b) base n h = unbased_stays structs s p old v there was is d l l (alike_here l) (ap (is_var p) (sym base) ∙ n b refl) h
+  other_declared l (Some d) (Some b) base n h = unbased_stays structs s p old v there was is d l l (alike_here l) (ap (is_var p) (sym base.0) ∙ n b refl) h
 
   other_unchanged : (l : Local) (h : Held) → ((b : Bounds) → h.bounds ≡ Some b → is_var p b.base ≡ false) → IsValid structs h.bounds l (with_local p old v s) → IsHeld structs assigned h l s
       → IsHeld structs assigned h l (with_local p old v s)
@@ -189,8 +189,8 @@ module _ (structs : List Structure) (s : State) (p : ℕ) (old : Local) (v : Val
     valid = valid;
     known = held.known;
     null = held.null;
-    declared = λ e stays. other_declared l h.declared h.bounds (held.base e) n (held.declared e stays);
-    base = held.base;
+    declared = λ e stays. other_declared l h.declared h.bounds (held.start e) n (held.declared e stays);
+    start = held.start;
   }
 
   module _ (moved : Option ℤ) (step : IsMovedBy structs moved old v) (l : Local) where
@@ -258,5 +258,5 @@ module _ (structs : List Structure) (s : State) (p : ℕ) (old : Local) (v : Val
     known = known;
     null = from_null from given;
     declared = λ e f. absurd (from_settled from e);
-    base = λ e. absurd (from_settled from e);
+    start = λ e. absurd (from_settled from e);
   }

@@ -31,7 +31,7 @@ use Rattle.bounds_flow_meaning.proofs.Numbers.{IsNumber, found_other, found_same
 use Rattle.bounds_flow_meaning.proofs.Validity.{IsAlike, alike_here, grown_valid, is_this}
 use Rattle.bounds_flow_meaning.proofs.Facts.{met_equal, met_same, met_shifted, met_without}
 use Rattle.bounds_flow_meaning.proofs.Formed.{SizedSource, assigned_formed, changed_formed, none_formed}
-use Rattle.bounds_flow_meaning.proofs.Pointers.{assigned_held, none_held, number_held, one_base, other_held, settled_null, shift_held}
+use Rattle.bounds_flow_meaning.proofs.Pointers.{assigned_held, none_held, number_held, one_start, other_held, settled_null, shift_held}
 
 -- ---- lists of pointers
 
@@ -55,7 +55,7 @@ each_put P (k ∷ held) zero h here each (suc q) = each (suc q)
 each_put P (k ∷ held) (suc x) h here each zero = each 0
 each_put P (k ∷ held) (suc x) h here each (suc q) = each_put (λ q. P (suc q)) held x h here (λ q. each (suc q)) q
 
-at_map : (f : Held → Held) → f no_pointer ≡ no_pointer → (held : List Held) (p : ℕ) → held_at (map f held) p ≡ f (held_at held p)
+pub at_map : (f : Held → Held) → f no_pointer ≡ no_pointer → (held : List Held) (p : ℕ) → held_at (map f held) p ≡ f (held_at held p)
 at_map f e [] p = sym e
 at_map f e (h ∷ held) zero = refl
 at_map f e (h ∷ held) (suc p) = at_map f e held p
@@ -129,7 +129,7 @@ module _ (structs : List Structure) (f : Knowledge) where
 
   module _ (x : ℕ) (declared : Option Bounds) (s : State) (may : MayDeclare structs (types_of s.locals) x declared) (valid : (l : Local) → slice_get s.locals x ≡ Some l → IsValid structs declared l s) where
     fresh_held : (l : Local) → slice_get s.locals x ≡ Some l → IsHeld structs f.assigned (fresh declared) l s
-    fresh_held l e = record { valid = valid l e; known = λ q. absurd (cc); null = λ q. absurd (settled_null q); declared = λ q r. valid l e; base = λ q. one_base declared }
+    fresh_held l e = record { valid = valid l e; known = λ q. absurd (cc); null = λ q. absurd (settled_null q); declared = λ q r. valid l e; start = λ q. one_start declared }
 
     pub enter_valid_holds : Holds structs f s → Holds structs (entered x declared f) s
     enter_valid_holds h = record {
@@ -277,7 +277,7 @@ module _ (structs : List Structure) (s t : State) (grows : Grows (shapes s.block
     known = held.known;
     null = held.null;
     declared = λ e stays. grown_valid structs h.declared l s t grows same (held.declared e stays);
-    base = held.base;
+    start = held.start;
   }
 
   before : (q : ℕ) (l : Local) → slice_get t.locals q ≡ Some l → slice_get s.locals q ≡ Some l

@@ -1,5 +1,5 @@
 -- Bounds of pointers that expressions make of pointers.
-use Rattle.std.proofs.Common.{ℕ, zero, suc, ◌+◌, ◌-◌, ◌*◌, ◌≡◌, ◌<◌, ◌≤◌, ℤ, pos, negsuc, neg_ℤ, ◌+ℤ◌, ◌*ℤ◌, ◌≤ℤ◌, Bool, true, false, Option, None, Some, List, [], ◌∷◌, ◌++◌, length, map, refl, sym, ap, ◌∙◌, subst, arith, append_assoc}
+use Rattle.std.proofs.Common.{ℕ, zero, suc, ◌+◌, ◌-◌, ◌*◌, ◌≡◌, ◌<◌, ◌≤◌, ℤ, pos, negsuc, neg_ℤ, ◌+ℤ◌, ◌*ℤ◌, ◌≤ℤ◌, Bool, true, false, Option, None, Some, List, [], ◌∷◌, ◌++◌, length, map, replicate, refl, sym, ap, ◌∙◌, subst, arith, append_assoc}
 use Rattle.std.specs.Prelude.{slice_get, nat_le, int_le, int_lt, sum}
 use Rattle.std.proofs.lemmas.Int.{ints}
 use Rattle.std.proofs.lemmas.Bool.{and_from}
@@ -12,19 +12,20 @@ use Rattle.bounds_exprs.specs.declared.term.Term.{Term}
 use Rattle.bounds_exprs.specs.declared.term.Bounds.{Bounds}
 use Rattle.bounds_exprs.specs.Normal.{constant}
 use Rattle.bounds_exprs.specs.Terms.{within_limit}
+use Rattle.pointer_modes.specs.declared.ctype.Kind.TheVariants as kinds
 use Rattle.pointer_modes.specs.Types.{CType, Int, Char, Struct, Pointer, Structure}
 use Rattle.pointer_modes.specs.Layout.{size_of}
 use Rattle.ckc_core.specs.declared.program.Site.{Site}
 use Rattle.ckc_core.specs.Outcome.{Gives}
 use Rattle.ckc_core.specs.Programs.{Initial}
 use Rattle.ckc_core.specs.States.{Value, Null, At, Cell, Block, Local, State, Shape, shape, shapes, strides}
-use Rattle.ckc_core.specs.Bounds.{Ends, base_byte, block_size, ends_at, ends_from, is_valid, lie_within, term_value}
+use Rattle.ckc_core.specs.Bounds.{Ends, base_byte, block_size, ends_at, ends_from, is_valid, lie_within, room_of, term_value}
 use Rattle.ckc_core.specs.Meaning.{sound_if}
-use Rattle.ckc_core.specs.Pointers.{cells_of_elements, counter_behind, element_cells, element_size, made_if, new_block, reaches}
-use Rattle.bounds_flow_meaning.specs.Holding.{IsValid, at_node, target_size}
-use Rattle.bounds_flow_meaning.specs.Rows.{AreCellsBehind, AreCellsOf, AreElements, HasRow, LeadsOn}
+use Rattle.ckc_core.specs.Pointers.{cells_of_elements, counter_behind, element_cells, element_size, made_elements, made_if, new_block, reaches}
+use Rattle.bounds_flow_meaning.specs.Holding.{IsValid, at_node, is_ended, target_size}
+use Rattle.bounds_flow_meaning.specs.Rows.{AreCellsBehind, AreCellsOf, AreElements, AreEnded, HasRow, LeadsOn}
 use Rattle.bounds_flow_meaning.specs.Sums.{AuditsPass, BasesStay, BlocksGrow, EndsMoveBack, IsNew, NewBlocksCount, NullIsValid, VariablesAreBases, counted}
-use Rattle.bounds_flow_meaning.proofs.Validity.{IsValidAt, base_found, between_parts, both_true, ends_made, ends_parts, ends_same, grown_valid, grows_here, int_to, kept, moved_ends, nat_more, null_valid, shape_there, times_plus, valid_from, valid_to}
+use Rattle.bounds_flow_meaning.proofs.Validity.{IsValidAt, base_found, between_parts, both_true, ends_made, ends_parts, ends_same, grown_valid, grows_here, int_from, int_to, kept, moved_ends, nat_more, null_valid, shape_there, times_plus, valid_from, valid_to}
 
 pub audits_pass : AuditsPass
 audits_pass structs s None l site h = refl
@@ -64,7 +65,11 @@ leads_moved : (structs : List Structure) (blocks : List Shape) (t : CType) (bloc
 leads_moved structs blocks Int block byte place c e step h = tt
 leads_moved structs blocks Char block byte place c e step h = tt
 leads_moved structs blocks (Struct number) block byte place c e step h = tt
-leads_moved structs blocks (Pointer mode kind target) block byte place c e step h =
+leads_moved structs blocks (Pointer mode kinds.One target) block byte place c e step h =
+    λ n further on lies. h (c +ℤ n) further (let sum = times_plus c n e.size in omega (arith, ints, step, on, sum)) lies
+leads_moved structs blocks (Pointer mode kinds.Array target) block byte place c e step h =
+    λ n further on lies. h (c +ℤ n) further (let sum = times_plus c n e.size in omega (arith, ints, step, on, sum)) lies
+leads_moved structs blocks (Pointer mode kinds.Nt target) block byte place c e step h =
     λ n further on lies. h (c +ℤ n) further (let sum = times_plus c n e.size in omega (arith, ints, step, on, sum)) lies
 
 -- a pointer that is valid, at another place of its block
@@ -73,20 +78,23 @@ module _ (structs : List Structure) (s : State) (l : Local) (block byte place : 
   abbrev size : ℕ
   size = target_size structs l.type
 
-  moved_valid : ((site : Site) (e : Ends) → ends_at (at_node b size site) s.locals block byte ≡ Some e → ends_at (at_node d size site) s.locals block place ≡ Some e) → IsValid structs (Some b) l s
+  abbrev ended : Bool
+  ended = is_ended l.type
+
+  moved_valid : ((site : Site) (e : Ends) → ends_at (at_node b size ended site) s.locals block byte ≡ Some e → ends_at (at_node d size ended site) s.locals block place ≡ Some e) → IsValid structs (Some b) l s
       → IsValid structs (Some d) (record l { value = At block place }) s
   moved_valid ends h = record { passes = passes; leads = leads }
     where
-      valid_before : (site : Site) → IsValidAt (at_node b size site) block byte s
-      valid_before site = valid_from (at_node b size site) block byte s (subst (λ v. is_valid (at_node b size site) v s ≡ true) at' (h.passes site))
+      valid_before : (site : Site) → IsValidAt (at_node b size ended site) block byte s
+      valid_before site = valid_from (at_node b size ended site) block byte s (subst (λ v. is_valid (at_node b size ended site) v s ≡ true) at' (h.passes site))
 
-      passes : (site : Site) → is_valid (at_node d size site) (At block place) s ≡ true
+      passes : (site : Site) → is_valid (at_node d size ended site) (At block place) s ≡ true
       passes site =
           let v = valid_before site in
-          valid_to (at_node d size site) block place s
+          valid_to (at_node d size ended site) block place s
           (record { held = v.held; ends = v.ends; found = v.found; are = ends site v.ends v.are; place = reached (slice_get s.blocks block) v.held place v.found reach; fits = v.fits })
 
-      leads_here : (site : Site) (e : Ends) → ends_at (at_node d size site) s.locals block place ≡ Some e → LeadsOn structs (shapes s.blocks) l.type block place e
+      leads_here : (site : Site) (e : Ends) → ends_at (at_node d size ended site) s.locals block place ≡ Some e → LeadsOn structs (shapes s.blocks) l.type block place e
       leads_here site e are =
           let v = valid_before site in
           let same : v.ends ≡ e = same_Some v.ends e (sym (ends site v.ends v.are) ∙ are) in
@@ -94,12 +102,12 @@ module _ (structs : List Structure) (s : State) (l : Local) (block byte place : 
           subst (λ e. LeadsOn structs (shapes s.blocks) l.type block place e) same
           (leads_moved structs (shapes s.blocks) l.type block byte place c v.ends (step ∙ ap (λ n. pos byte +ℤ (c *ℤ pos n)) sized) (h.leads site block byte v.ends at' v.are))
 
-      leads : (site : Site) (other there : ℕ) (e : Ends) → At block place ≡ At other there → ends_at (at_node d size site) s.locals other there ≡ Some e → LeadsOn structs (shapes s.blocks) l.type other there e
+      leads : (site : Site) (other there : ℕ) (e : Ends) → At block place ≡ At other there → ends_at (at_node d size ended site) s.locals other there ≡ Some e → LeadsOn structs (shapes s.blocks) l.type other there e
       leads site other there e same are =
           let blocks : block ≡ other = same_of block place other there same in
           let bytes : place ≡ there = same_at block place other there same in
           subst (λ k. LeadsOn structs (shapes s.blocks) l.type k there e) blocks (subst (λ k. LeadsOn structs (shapes s.blocks) l.type block k e) bytes
-          (leads_here site e (ap (λ k. ends_at (at_node d size site) s.locals block k) bytes ∙ (ap (λ k. ends_at (at_node d size site) s.locals k there) blocks ∙ are))))
+          (leads_here site e (ap (λ k. ends_at (at_node d size ended site) s.locals block k) bytes ∙ (ap (λ k. ends_at (at_node d size ended site) s.locals k there) blocks ∙ are))))
 
 pub ends_move_back : EndsMoveBack
 ends_move_back structs s l block byte place c b d at' step reach none moved h =
@@ -193,12 +201,39 @@ same_value a v r u e = cc
 same_state : (a v : Value) (r u : State) → Gives a r ≡ Gives v u → r ≡ u
 same_state a v r u e = cc
 
-module _ (structs : List Structure) (element : List Initial) (t : Term) (l : Local) (s : State) (sized : element_size element ≡ target_size structs l.type) (cells : AreCellsBehind structs l.type element) where
+-- ---- rows of one cell
+
+module _ (structs : List Structure) (type : CType) (number : ℤ) (some : 1 ≤ size_of structs type) where
+  abbrev one_cell : List Initial
+  one_cell = record { type = type; stride = size_of structs type; number = number } ∷ []
+
+  pub one_types : (m : ℕ) → map (λ (c : Cell). c.type) (cells_of_elements m one_cell) ≡ replicate m type
+  one_types zero = refl
+  one_types (suc m) = ap (λ types. type ∷ types) (one_types m)
+
+  pub one_strides : (m : ℕ) → strides (cells_of_elements m one_cell) ≡ replicate m (size_of structs type)
+  one_strides zero = refl
+  one_strides (suc m) = ap (λ sizes. size_of structs type ∷ sizes) (one_strides m)
+
+  -- such a row, which ends with a zero
+  abbrev row_block : ℕ → Block
+  row_block n = new_block true n one_cell
+
+-- as many bytes as there are elements of, beside a zero behind them
+room_made : (terminated : Bool) (n size : ℕ) (element : List Initial) → element_size element ≡ size → room_of terminated (new_block terminated n element) size ≡ n * size
+room_made false n size element sized = cells_size n element ∙ ap (λ k. n * k) sized
+room_made true n size element sized =
+    let bytes = cells_size (suc n) element in
+    let more : suc n * size ≡ size + n * size = omega arith in
+    ap (λ b. b - size) (bytes ∙ ap (λ k. suc n * k) sized) ∙ (let left : suc n * size - size ≡ n * size = omega (arith, more) in left)
+
+module _ (structs : List Structure) (terminated : Bool) (element : List Initial) (t : Term) (l : Local) (s : State) (sized : element_size element ≡ target_size structs l.type) (cells : AreCellsBehind structs l.type element)
+    (alike : terminated ≡ is_ended l.type) where
   abbrev made : ℕ → Block
-  made n = new_block n element
+  made n = new_block terminated n element
 
   -- a value of the type stands at each element
-  element_row : (target : CType) (n k : ℕ) → AreCellsOf structs target element → k < n → HasRow structs (shape (made n)) (k * element_size element) target
+  element_row : (target : CType) (n k : ℕ) → AreCellsOf structs target element → k < n → HasRow structs (shape (new_block false n element)) (k * element_size element) target
   element_row target n k cells lt =
       let more = n - suc k in
       let count : n ≡ k + suc more = omega (arith, lt) in
@@ -209,25 +244,64 @@ module _ (structs : List Structure) (element : List Initial) (t : Term) (l : Loc
   abbrev made_blocks : ℕ → List Block
   made_blocks n = s.blocks ++ made n ∷ []
 
-  made_elements : (target : CType) (n size : ℕ) (e : Ends) → AreCellsOf structs target element → element_size element ≡ size → e.size ≡ size → pos 0 ≤ℤ e.low → e.high ≤ℤ pos (n * size)
-      → AreElements structs (shapes (made_blocks n)) target (length s.blocks) 0 e
-  made_elements target n size e cells same sized low high k place step lies =
+  abbrev blocks_with : Block → List Block
+  blocks_with b = s.blocks ++ b ∷ []
+
+  made_elements_lead : (target : CType) (n size : ℕ) (e : Ends) → AreCellsOf structs target element → element_size element ≡ size → e.size ≡ size → pos 0 ≤ℤ e.low → e.high ≤ℤ pos (n * size)
+      → AreElements structs (shapes (blocks_with (new_block false n element))) target (length s.blocks) 0 e
+  made_elements_lead target n size e cells same sized low high k place step lies =
       let parts = both_true (int_le e.low (pos place)) (int_lt (pos place) e.high) lies in
       let lt : place < n * size = less_of place (n * size) e.high parts.1 high in
       let at' : IsElement n size place = element_of k n size place (step ∙ ap (λ m. pos 0 +ℤ (k *ℤ pos m)) sized) lt in
       let row = element_row target n at'.number cells at'.below in
       record {
-        shape = shape (made n);
-        found = shape_there (made_blocks n) (length s.blocks) (made n) (new_there s.blocks (made n));
-        row = subst (λ byte. HasRow structs (shape (made n)) byte target) (ap (λ m. at'.number * m) same ∙ sym at'.is) row;
+        shape = shape (new_block false n element);
+        found = shape_there (blocks_with (new_block false n element)) (length s.blocks) (new_block false n element) (new_there s.blocks (new_block false n element));
+        row = subst (λ byte. HasRow structs (shape (new_block false n element)) byte target) (ap (λ m. at'.number * m) same ∙ sym at'.is) row;
       }
 
-  made_leads : (type : CType) (n : ℕ) (e : Ends) → AreCellsBehind structs type element → element_size element ≡ target_size structs type → e.size ≡ target_size structs type → pos 0 ≤ℤ e.low
-      → e.high ≤ℤ pos (n * target_size structs type) → LeadsOn structs (shapes (made_blocks n)) type (length s.blocks) 0 e
-  made_leads Int n e cells same sized low high = tt
-  made_leads Char n e cells same sized low high = tt
-  made_leads (Struct number) n e cells same sized low high = tt
-  made_leads (Pointer mode kind target) n e cells same sized low high = made_elements target n (size_of structs target) e cells same sized low high
+  -- up to the zero behind them
+  made_row_leads : (target : CType) (n : ℕ) (e : Ends) (number : ℤ) (some : 1 ≤ size_of structs target) → e.size ≡ size_of structs target → pos 0 ≤ℤ e.low → e.high ≤ℤ pos (n * size_of structs target)
+      → AreEnded structs (shapes (blocks_with (row_block structs target number some n))) target (length s.blocks) 0 e
+  made_row_leads target n e number some sized low high k place step lies =
+      let bytes : ℕ = size_of structs target in
+      let made : Block = row_block structs target number some n in
+      let parts = both_true (int_le e.low (pos place)) (int_le (pos place) e.high) lies in
+      let to = int_from (pos place) e.high parts.1 in
+      let all : suc n * bytes ≡ bytes + n * bytes = omega arith in
+      let lt : place < suc n * bytes = omega (arith, ints, to, high, all, some) in
+      let at' : IsElement (suc n) bytes place = element_of k (suc n) bytes place (step ∙ ap (λ m. pos 0 +ℤ (k *ℤ pos m)) sized) lt in
+      record {
+        shape = shape made;
+        found = shape_there (blocks_with made) (length s.blocks) made (new_there s.blocks made);
+        ended = refl;
+        unsealed = refl;
+        cells = suc n;
+        types = one_types structs target number some (suc n);
+        strides = one_strides structs target number some (suc n);
+        some = some;
+        number = at'.number;
+        is = at'.is;
+        below = at'.below;
+        before_zero = λ inside.
+            let below = both_true (int_le e.low (pos place)) (int_lt (pos place) e.high) inside in
+            let less : place < n * bytes = less_of place (n * bytes) e.high below.1 high in
+            let before : at'.number < n = less_times at'.number n bytes (subst (λ byte. byte < n * bytes) at'.is less) in
+            omega (arith, before);
+      }
+
+  made_leads : (type : CType) (ended : Bool) (n : ℕ) (e : Ends) → ended ≡ is_ended type → AreCellsBehind structs type element → element_size element ≡ target_size structs type → e.size ≡ target_size structs type → pos 0 ≤ℤ e.low
+      → e.high ≤ℤ pos (n * target_size structs type) → LeadsOn structs (shapes (blocks_with (new_block ended n element))) type (length s.blocks) 0 e
+  made_leads Int ended n e alike cells same sized low high = tt
+  made_leads Char ended n e alike cells same sized low high = tt
+  made_leads (Struct number) ended n e alike cells same sized low high = tt
+  made_leads (Pointer mode kinds.One target) false n e alike cells same sized low high = made_elements_lead target n (size_of structs target) e cells same sized low high
+  made_leads (Pointer mode kinds.One target) true n e alike cells same sized low high = absurd (cc)
+  made_leads (Pointer mode kinds.Array target) false n e alike cells same sized low high = made_elements_lead target n (size_of structs target) e cells same sized low high
+  made_leads (Pointer mode kinds.Array target) true n e alike cells same sized low high = absurd (cc)
+  made_leads (Pointer mode kinds.Nt target) false n e alike cells same sized low high = absurd (cc)
+  made_leads (Pointer mode kinds.Nt target) true n e alike cells same sized low high =
+      subst (λ element. AreEnded structs (shapes (blocks_with (new_block true n element))) target (length s.blocks) 0 e) (sym cells.is) (made_row_leads target n e cells.number cells.some sized low high)
 
   made_valid : (n : ℕ) → term_value t s.locals ≡ Some (pos n)
       → IsValid structs (Some (counted t)) (record l { value = At (length s.blocks) 0 }) (record s { blocks = s.blocks ++ made n ∷ [] })
@@ -236,34 +310,37 @@ module _ (structs : List Structure) (element : List Initial) (t : Term) (l : Loc
       size : ℕ
       size = target_size structs l.type
 
+      ended : Bool
+      ended = is_ended l.type
+
       e : Ends
       e = record { low = pos 0 +ℤ ((pos 0 +ℤ pos 0) *ℤ pos size); high = pos 0 +ℤ (pos n *ℤ pos size); size = size }
 
-      are : (site : Site) → ends_at (at_node (counted t) size site) s.locals (length s.blocks) 0 ≡ Some e
+      are : (site : Site) → ends_at (at_node (counted t) size ended site) s.locals (length s.blocks) 0 ≡ Some e
       are site = ends_made size 0 (pos 0 +ℤ pos 0) (pos n) (Some 0) (term_value (constant (pos 0)) s.locals) (term_value t s.locals) refl refl h
 
-      passes : (site : Site) → is_valid (at_node (counted t) size site) (At (length s.blocks) 0) (record s { blocks = made_blocks n }) ≡ true
+      passes : (site : Site) → is_valid (at_node (counted t) size ended site) (At (length s.blocks) 0) (record s { blocks = made_blocks n }) ≡ true
       passes site =
-          let bytes : block_size (made n) ≡ n * size = cells_size n element ∙ ap (λ k. n * k) sized in
-          valid_to (at_node (counted t) size site) (length s.blocks) 0 (record s { blocks = made_blocks n }) (record {
+          let bytes : room_of ended (made n) size ≡ n * size = ap (λ b. room_of b (made n) size) (sym alike) ∙ room_made terminated n size element sized in
+          valid_to (at_node (counted t) size ended site) (length s.blocks) 0 (record s { blocks = made_blocks n }) (record {
             held = made n;
             ends = e;
             found = new_there s.blocks (made n);
             are = are site;
             place = grind (arith, nat_tests);
-            fits = lies e (block_size (made n)) (omega (arith, ints)) (omega (arith, ints, bytes));
+            fits = lies e (room_of ended (made n) size) (omega (arith, ints)) (omega (arith, ints, bytes));
           })
 
-      leads : (site : Site) (block byte : ℕ) (f : Ends) → At (length s.blocks) 0 ≡ At block byte → ends_at (at_node (counted t) size site) s.locals block byte ≡ Some f
+      leads : (site : Site) (block byte : ℕ) (f : Ends) → At (length s.blocks) 0 ≡ At block byte → ends_at (at_node (counted t) size ended site) s.locals block byte ≡ Some f
           → LeadsOn structs (shapes (made_blocks n)) l.type block byte f
       leads site block byte f same found =
           let blocks : length s.blocks ≡ block = same_of (length s.blocks) 0 block byte same in
           let bytes : 0 ≡ byte = same_at (length s.blocks) 0 block byte same in
-          let ends : e ≡ f = same_Some e f (sym (are site) ∙ (ap (λ k. ends_at (at_node (counted t) size site) s.locals (length s.blocks) k) bytes
-          ∙ (ap (λ k. ends_at (at_node (counted t) size site) s.locals k byte) blocks ∙ found))) in
+          let ends : e ≡ f = same_Some e f (sym (are site) ∙ (ap (λ k. ends_at (at_node (counted t) size ended site) s.locals (length s.blocks) k) bytes
+          ∙ (ap (λ k. ends_at (at_node (counted t) size ended site) s.locals k byte) blocks ∙ found))) in
           subst (λ k. LeadsOn structs (shapes (made_blocks n)) l.type k byte f) blocks (subst (λ k. LeadsOn structs (shapes (made_blocks n)) l.type (length s.blocks) k f) bytes
           (subst (λ f. LeadsOn structs (shapes (made_blocks n)) l.type (length s.blocks) 0 f) ends
-          (made_leads l.type n e cells sized refl (omega (arith, ints)) (omega (arith, ints)))))
+          (made_leads l.type terminated n e alike cells sized refl (omega (arith, ints)) (omega (arith, ints)))))
 
   null_new : IsNew structs (counted t) (record l { value = Null }) s s
   null_new = record { valid = null_valid structs (Some (counted t)) (record l { value = Null }) s refl; grows = grows_here (shapes s.blocks); locals = refl }
@@ -274,13 +351,14 @@ module _ (structs : List Structure) (element : List Initial) (t : Term) (l : Loc
       let state : r ≡ u = same_state a v r u e in
       subst (λ u. IsNew structs (counted t) (record l { value = v }) s u) state (subst (λ v. IsNew structs (counted t) (record l { value = v }) s r) value h)
 
-  made_new : (b : Bool) (n : ℕ) (v : Value) (u : State) → term_value t s.locals ≡ Some (pos n) → made_if b n element s ≡ Gives v u → IsNew structs (counted t) (record l { value = v }) s u
+  made_new : (b : Bool) (n : ℕ) (v : Value) (u : State) → term_value t s.locals ≡ Some (pos n) → made_if b terminated n element s ≡ Gives v u → IsNew structs (counted t) (record l { value = v }) s u
   made_new true n v u h e = given Null v s u e null_new
   made_new false n v u h e =
       given (At (length s.blocks) 0) v (record s { blocks = s.blocks ++ made n ∷ [] }) u e
       (record { valid = made_valid n h; grows = (shape (made n) ∷ [], map-append shape s.blocks (made n ∷ [])); locals = refl })
 
 pub new_blocks_count : NewBlocksCount
-new_blocks_count structs room element t (negsuc n) l v s u h sized cells e = given structs element t l s sized cells Null v s u e (null_new structs element t l s sized cells)
-new_blocks_count structs room element t (pos n) l v s u h sized cells e =
-    made_new structs element t l s sized cells (is_refused room (counter_behind first_offset s.blocks) (n * element_size element)) n v u h e
+new_blocks_count structs room terminated element t (negsuc n) l v s u h sized cells alike e = given structs terminated element t l s sized cells alike Null v s u e (null_new structs terminated element t l s sized cells alike)
+new_blocks_count structs room terminated element t (pos zero) l v s u h sized cells alike e = given structs terminated element t l s sized cells alike Null v s u e (null_new structs terminated element t l s sized cells alike)
+new_blocks_count structs room terminated element t (pos (suc n)) l v s u h sized cells alike e =
+    made_new structs terminated element t l s sized cells alike (is_refused room (counter_behind first_offset s.blocks) (made_elements terminated (suc n) * element_size element)) (suc n) v u h e

@@ -1,5 +1,5 @@
 -- Pointers that are valid with bounds.
-use Rattle.std.proofs.Common.{ℕ, zero, suc, ◌*◌, ◌≤◌, ◌≡◌, ℤ, pos, negsuc, neg_ℤ, ◌+ℤ◌, ◌*ℤ◌, ◌≤ℤ◌, Bool, true, false, cond, ◌==◌, Option, None, Some, List, [], ◌∷◌, refl, sym, ap, ◌∙◌, subst, arith, append-nil, ◌⊎◌, inl, inr}
+use Rattle.std.proofs.Common.{ℕ, zero, suc, ◌-◌, ◌*◌, ◌≤◌, ◌≡◌, ℤ, pos, negsuc, neg_ℤ, ◌+ℤ◌, ◌*ℤ◌, ◌≤ℤ◌, Bool, true, false, cond, ◌==◌, Option, None, Some, List, [], ◌∷◌, refl, sym, ap, ◌∙◌, subst, arith, append-nil, ◌⊎◌, inl, inr}
 use Rattle.std.specs.Prelude.{slice_get, ◌&&◌, ◌||◌, nat_le, int_le, int_lt, sum}
 use Rattle.std.proofs.lemmas.Int.{ints}
 use Rattle.std.proofs.lemmas.Option.{same_Some, cond_some}
@@ -14,11 +14,12 @@ use Rattle.pointer_modes.specs.Types.{CType, Int, Char, Struct, Pointer, Structu
 use Rattle.ckc_core.specs.declared.program.Site.{Site}
 use Rattle.ckc_core.specs.declared.program.PointerBounds.{PointerBounds}
 use Rattle.ckc_core.specs.States.{Value, Number, Null, At, Block, Local, State, Shape, Grows, shape, shapes}
-use Rattle.ckc_core.specs.Bounds.{Ends, term_value, base_byte, ends_from, ends_at, block_size, lie_within, is_valid}
-use Rattle.ckc_core.specs.Pointers.{lies_below}
-use Rattle.bounds_flow_meaning.specs.Holding.{AreInts, HaveTypes, IsValid, at_node, numbers_in, target_size, types_of}
+use Rattle.ckc_core.specs.Bounds.{Ends, term_value, base_byte, ends_from, ends_at, block_size, lie_within, room_of, is_valid}
+use Rattle.ckc_core.specs.Pointers.{lies_below, lies_up_to}
+use Rattle.pointer_modes.specs.declared.ctype.Kind.TheVariants as kinds
+use Rattle.bounds_flow_meaning.specs.Holding.{AreInts, HaveTypes, IsValid, at_node, is_ended, numbers_in, target_size, types_of}
 use Rattle.bounds_flow_meaning.specs.Laws.{IsMoved, IsPointer, with_local}
-use Rattle.bounds_flow_meaning.specs.Rows.{LeadsOn}
+use Rattle.bounds_flow_meaning.specs.Rows.{IsEndedPlace, LeadsOn}
 use Rattle.bounds_flow_meaning.proofs.Numbers.{IsNumber, found_same, int_term, limited_value, lowered_value, number_base, other_base, other_term, pointer_term, replaced, same_number, term_number, term_raised}
 use Rattle.bounds_flow_meaning.proofs.Rows.{leads_grown, still_there}
 
@@ -115,7 +116,7 @@ ends_same size base base' lo lo' hi hi' b l h = ap (λ base. ends_from size base
 
 -- ends as before, at any node
 abbrev pub StayEnds : ℕ → Bounds → Bounds → List Local → List Local → Type 0
-StayEnds size b c before after = (site : Site) (block byte : ℕ) (e : Ends) → ends_at (at_node b size site) before block byte ≡ Some e → ends_at (at_node c size site) after block byte ≡ Some e
+StayEnds size b c before after = (site : Site) (block byte : ℕ) (e : Ends) → ends_at (at_node b size false site) before block byte ≡ Some e → ends_at (at_node c size false site) after block byte ≡ Some e
 
 pub stay_ends : (size : ℕ) (b c : Bounds) (before after : List Local) → ((block byte : ℕ) → base_byte c.base after block byte ≡ base_byte b.base before block byte)
     → term_value c.lo after ≡ term_value b.lo before → term_value c.hi after ≡ term_value b.hi before → StayEnds size b c before after
@@ -131,7 +132,7 @@ pub record IsValidAt (p : PointerBounds) (block byte : ℕ) (s : State) : Type 0
   pub found : slice_get s.blocks block ≡ Some held
   pub are : ends_at p s.locals block byte ≡ Some ends
   pub place : nat_le byte (block_size held) ≡ true
-  pub fits : lie_within ends (block_size held) ≡ true
+  pub fits : lie_within ends (room_of p.terminated held ends.size) ≡ true
 
 pub valid_from : (p : PointerBounds) (block byte : ℕ) (s : State) → is_valid p (At block byte) s ≡ true → IsValidAt p block byte s
 valid_from p block byte s h = by (slice_get s.blocks block) (ends_at p s.locals block byte) refl refl
@@ -140,12 +141,12 @@ valid_from p block byte s h = by (slice_get s.blocks block) (ends_at p s.locals 
     by None e found are = let none = rw found at h in absurd (cc)
     by (Some b) None found are = let none = rw (found, are) at h in absurd (cc)
     by (Some b) (Some e) found are =
-        let both : (nat_le byte (block_size b) && lie_within e (block_size b)) ≡ true = rw (found, are) at h in
-        let parts = both_true (nat_le byte (block_size b)) (lie_within e (block_size b)) both in
+        let both : (nat_le byte (block_size b) && lie_within e (room_of p.terminated b e.size)) ≡ true = rw (found, are) at h in
+        let parts = both_true (nat_le byte (block_size b)) (lie_within e (room_of p.terminated b e.size)) both in
         record { held = b; ends = e; found = found; are = are; place = parts.0; fits = parts.1 }
 
 pub valid_to : (p : PointerBounds) (block byte : ℕ) (s : State) → IsValidAt p block byte s → is_valid p (At block byte) s ≡ true
-valid_to p block byte s h = rw (h.found, h.are) (and_from (nat_le byte (block_size h.held)) (lie_within h.ends (block_size h.held)) h.place h.fits)
+valid_to p block byte s h = rw (h.found, h.are) (and_from (nat_le byte (block_size h.held)) (lie_within h.ends (room_of p.terminated h.held h.ends.size)) h.place h.fits)
 
 pub grows_here : (b : List Shape) → Grows b b
 grows_here b = ([], sym (append-nil b))
@@ -155,17 +156,21 @@ shape_there [] k b h = absurd (cc)
 shape_there (c ∷ blocks) zero b h = ap Some (ap shape (same_Some c b h))
 shape_there (c ∷ blocks) (suc k) b h = shape_there blocks k b h
 
-block_there : (blocks : List Block) (k : ℕ) (x : Shape) → slice_get (shapes blocks) k ≡ Some x → (b : Block) × (slice_get blocks k ≡ Some b) × (shape b ≡ x)
+pub block_there : (blocks : List Block) (k : ℕ) (x : Shape) → slice_get (shapes blocks) k ≡ Some x → (b : Block) × (slice_get blocks k ≡ Some b) × (shape b ≡ x)
 block_there [] k x h = absurd (cc)
 block_there (c ∷ blocks) zero x h = (c, refl, same_Some (shape c) x h)
 block_there (c ∷ blocks) (suc k) x h = block_there blocks k x h
 
+pub same_room : (ended : Bool) (b c : Block) (size : ℕ) → block_size b ≡ block_size c → room_of ended b size ≡ room_of ended c size
+same_room false b c size same = same
+same_room true b c size same = ap (λ bytes. bytes - size) same
+
 -- blocks that are only added don't change their size, so a pointer stays valid where its ends stay
-pub valid_with : (p q : PointerBounds) (v : Value) (s t : State) → Grows (shapes s.blocks) (shapes t.blocks)
+pub valid_with : (p q : PointerBounds) (v : Value) (s t : State) → q.terminated ≡ p.terminated → Grows (shapes s.blocks) (shapes t.blocks)
     → ((block byte : ℕ) (e : Ends) → v ≡ At block byte → ends_at p s.locals block byte ≡ Some e → ends_at q t.locals block byte ≡ Some e) → is_valid p v s ≡ true → is_valid q v t ≡ true
-valid_with p q (Number z) s t grows ends h = absurd (cc)
-valid_with p q Null s t grows ends h = refl
-valid_with p q (At block byte) s t grows ends h =
+valid_with p q (Number z) s t alike grows ends h = absurd (cc)
+valid_with p q Null s t alike grows ends h = refl
+valid_with p q (At block byte) s t alike grows ends h =
     let v = valid_from p block byte s h in
     let there = still_there (shapes s.blocks) grows.0 block (shape v.held) (shape_there s.blocks block v.held v.found) in
     let b = block_there t.blocks block (shape v.held) (ap (λ l. slice_get l block) grows.1 ∙ there) in
@@ -176,7 +181,7 @@ valid_with p q (At block byte) s t grows ends h =
       found = b.1;
       are = ends block byte v.ends refl v.are;
       place = ap (nat_le byte) size ∙ v.place;
-      fits = ap (lie_within v.ends) size ∙ v.fits;
+      fits = ap (lie_within v.ends) (ap (λ ended. room_of ended b.0 v.ends.size) alike ∙ same_room p.terminated b.0 v.held v.ends.size size) ∙ v.fits;
     })
 
 -- a variable after a step: it holds what it held, or a number as before
@@ -192,16 +197,19 @@ number_invalid p v s n h = let e : is_valid p (Number n.number) s ≡ true = sub
 
 -- where the ends of a pointer stay, and blocks are only added
 pub kept : (structs : List Structure) (b c : Bounds) (l : Local) (s t : State) → Grows (shapes s.blocks) (shapes t.blocks)
-    → ((site : Site) (block byte : ℕ) (e : Ends) → l.value ≡ At block byte → ends_at (at_node b (target_size structs l.type) site) s.locals block byte ≡ Some e
-    → ends_at (at_node c (target_size structs l.type) site) t.locals block byte ≡ Some e) → IsValid structs (Some b) l s → IsValid structs (Some c) l t
-kept structs b c l s t grows ends h = record { passes = λ site. valid_with (at_node b n site) (at_node c n site) l.value s t grows (ends site) (h.passes site); leads = leads }
+    → ((site : Site) (block byte : ℕ) (e : Ends) → l.value ≡ At block byte → ends_at (at_node b (target_size structs l.type) (is_ended l.type) site) s.locals block byte ≡ Some e
+    → ends_at (at_node c (target_size structs l.type) (is_ended l.type) site) t.locals block byte ≡ Some e) → IsValid structs (Some b) l s → IsValid structs (Some c) l t
+kept structs b c l s t grows ends h = record { passes = λ site. valid_with (at_node b n ended site) (at_node c n ended site) l.value s t refl grows (ends site) (h.passes site); leads = leads }
   where
     n : ℕ
     n = target_size structs l.type
 
-    leads : (site : Site) (block byte : ℕ) (e : Ends) → l.value ≡ At block byte → ends_at (at_node c n site) t.locals block byte ≡ Some e → LeadsOn structs (shapes t.blocks) l.type block byte e
+    ended : Bool
+    ended = is_ended l.type
+
+    leads : (site : Site) (block byte : ℕ) (e : Ends) → l.value ≡ At block byte → ends_at (at_node c n ended site) t.locals block byte ≡ Some e → LeadsOn structs (shapes t.blocks) l.type block byte e
     leads site block byte e at' are =
-        let v = valid_from (at_node b n site) block byte s (subst (λ v. is_valid (at_node b n site) v s ≡ true) at' (h.passes site)) in
+        let v = valid_from (at_node b n ended site) block byte s (subst (λ v. is_valid (at_node b n ended site) v s ≡ true) at' (h.passes site)) in
         let same : v.ends ≡ e = same_Some v.ends e (sym (ends site block byte v.ends at' v.are) ∙ are) in
         leads_grown structs (shapes s.blocks) (shapes t.blocks) grows l.type block byte e
         (subst (λ e. LeadsOn structs (shapes s.blocks) l.type block byte e) same (h.leads site block byte v.ends at' v.are))
@@ -210,7 +218,7 @@ kept structs b c l s t grows ends h = record { passes = λ site. valid_with (at_
 alike_valid : (structs : List Structure) (b : Bounds) (l m : Local) (t : State) → IsAlike l m → IsValid structs (Some b) l t → IsValid structs (Some b) m t
 alike_valid structs b l m t alike h = elim alike.value [
   | inl same ↦ alike_local m.type m.value alike.type same
-  | inr n ↦ absurd (number_invalid (at_node b (target_size structs l.type) here) l.value t n.0 (h.passes here))
+  | inr n ↦ absurd (number_invalid (at_node b (target_size structs l.type) (is_ended l.type) here) l.value t n.0 (h.passes here))
 ]
   where
     here : Site
@@ -375,29 +383,58 @@ lies_wider wide narrow byte low high h =
     let from = int_from narrow.low byte parts.0 in
     and_from (int_le wide.low byte) (int_lt byte wide.high) (int_to wide.low byte (omega (arith, ints, low, from))) (less_still byte narrow.high wide.high parts.1 high)
 
-leads_narrower : (structs : List Structure) (blocks : List Shape) (t : CType) (block byte : ℕ) (wide narrow : Ends) → wide.size ≡ narrow.size → wide.low ≤ℤ narrow.low → narrow.high ≤ℤ wide.high
+up_to_wider : (wide narrow : Ends) (byte : ℤ) → wide.low ≤ℤ narrow.low → narrow.high ≤ℤ wide.high → lies_up_to narrow byte ≡ true → lies_up_to wide byte ≡ true
+up_to_wider wide narrow byte low high h =
+    let parts = both_true (int_le narrow.low byte) (int_le byte narrow.high) h in
+    let from = int_from narrow.low byte parts.0 in
+    let to = int_from byte narrow.high parts.1 in
+    and_from (int_le wide.low byte) (int_le byte wide.high) (int_to wide.low byte (omega (arith, ints, low, from))) (int_to byte wide.high (omega (arith, ints, to, high)))
+
+pub less_inside : (structs : List Structure) (blocks : List Shape) (t : CType) (block byte : ℕ) (inside less : Bool) → (less ≡ true → inside ≡ true) → IsEndedPlace structs blocks t block byte inside → IsEndedPlace structs blocks t block byte less
+less_inside structs blocks t block byte inside less within h =
+    record {
+      shape = h.shape;
+      found = h.found;
+      ended = h.ended;
+      unsealed = h.unsealed;
+      cells = h.cells;
+      types = h.types;
+      strides = h.strides;
+      some = h.some;
+      number = h.number;
+      is = h.is;
+      below = h.below;
+      before_zero = λ is. h.before_zero (within is);
+    }
+
+pub leads_narrower : (structs : List Structure) (blocks : List Shape) (t : CType) (block byte : ℕ) (wide narrow : Ends) → wide.size ≡ narrow.size → wide.low ≤ℤ narrow.low → narrow.high ≤ℤ wide.high
     → LeadsOn structs blocks t block byte wide → LeadsOn structs blocks t block byte narrow
 leads_narrower structs blocks Int block byte wide narrow size low high h = tt
 leads_narrower structs blocks Char block byte wide narrow size low high h = tt
 leads_narrower structs blocks (Struct number) block byte wide narrow size low high h = tt
-leads_narrower structs blocks (Pointer mode kind target) block byte wide narrow size low high h =
+leads_narrower structs blocks (Pointer mode kinds.One target) block byte wide narrow size low high h =
     λ n place step lies. h n place (step ∙ ap (λ k. pos byte +ℤ (n *ℤ pos k)) (sym size)) (lies_wider wide narrow (pos place) low high lies)
+leads_narrower structs blocks (Pointer mode kinds.Array target) block byte wide narrow size low high h =
+    λ n place step lies. h n place (step ∙ ap (λ k. pos byte +ℤ (n *ℤ pos k)) (sym size)) (lies_wider wide narrow (pos place) low high lies)
+leads_narrower structs blocks (Pointer mode kinds.Nt target) block byte wide narrow size low high h =
+    λ n place step lies. less_inside structs blocks target block place (lies_below wide (pos place)) (lies_below narrow (pos place)) (lies_wider wide narrow (pos place) low high)
+    (h n place (step ∙ ap (λ k. pos byte +ℤ (n *ℤ pos k)) (sym size)) (up_to_wider wide narrow (pos place) low high lies))
 
 -- the ends of a pointer that is valid, and those of narrower bounds
-record IsNarrower (size : ℕ) (site : Site) (b d : Bounds) (block byte : ℕ) (s : State) : Type 0 where
+record IsNarrower (size : ℕ) (ended : Bool) (site : Site) (b d : Bounds) (block byte : ℕ) (s : State) : Type 0 where
   wide : Ends
   narrow : Ends
-  at_wide : ends_at (at_node b size site) s.locals block byte ≡ Some wide
-  at_narrow : ends_at (at_node d size site) s.locals block byte ≡ Some narrow
+  at_wide : ends_at (at_node b size ended site) s.locals block byte ≡ Some wide
+  at_narrow : ends_at (at_node d size ended site) s.locals block byte ≡ Some narrow
   size_same : wide.size ≡ narrow.size
   low : wide.low ≤ℤ narrow.low
   high : narrow.high ≤ℤ wide.high
 
-narrower_ends : (size : ℕ) (site : Site) (b d : Bounds) (block byte : ℕ) (s : State) (low high : ℤ) → d.base ≡ b.base → term_value d.lo s.locals ≡ Some low → term_value d.hi s.locals ≡ Some high
+narrower_ends : (size : ℕ) (ended : Bool) (site : Site) (b d : Bounds) (block byte : ℕ) (s : State) (low high : ℤ) → d.base ≡ b.base → term_value d.lo s.locals ≡ Some low → term_value d.hi s.locals ≡ Some high
     → ((z : ℤ) → term_value b.lo s.locals ≡ Some z → z ≤ℤ low) → ((z : ℤ) → term_value b.hi s.locals ≡ Some z → high ≤ℤ z)
-    → is_valid (at_node b size site) (At block byte) s ≡ true → IsNarrower size site b d block byte s
-narrower_ends size site b d block byte s low high base lo hi below above h =
-    let v = valid_from (at_node b size site) block byte s h in
+    → is_valid (at_node b size ended site) (At block byte) s ≡ true → IsNarrower size ended site b d block byte s
+narrower_ends size ended site b d block byte s low high base lo hi below above h =
+    let v = valid_from (at_node b size ended site) block byte s h in
     let p = ends_parts size (base_byte b.base s.locals block byte) (term_value b.lo s.locals) (term_value b.hi s.locals) v.ends v.are in
     let l : (p.low *ℤ pos size) ≤ℤ (low *ℤ pos size) = times_le p.low low size (below p.low p.at_low) in
     let u : (high *ℤ pos size) ≤ℤ (p.high *ℤ pos size) = times_le high p.high size (above p.high p.at_high) in
@@ -413,19 +450,20 @@ narrower_ends size site b d block byte s low high base lo hi below above h =
     }
 
 -- such bounds are valid where the wider ones are
-narrower_passes : (size : ℕ) (site : Site) (b d : Bounds) (block byte : ℕ) (s : State) → IsNarrower size site b d block byte s
-    → is_valid (at_node b size site) (At block byte) s ≡ true → is_valid (at_node d size site) (At block byte) s ≡ true
-narrower_passes size site b d block byte s n h =
-    let v = valid_from (at_node b size site) block byte s h in
+narrower_passes : (size : ℕ) (ended : Bool) (site : Site) (b d : Bounds) (block byte : ℕ) (s : State) → IsNarrower size ended site b d block byte s
+    → is_valid (at_node b size ended site) (At block byte) s ≡ true → is_valid (at_node d size ended site) (At block byte) s ≡ true
+narrower_passes size ended site b d block byte s n h =
+    let v = valid_from (at_node b size ended site) block byte s h in
     let same : v.ends ≡ n.wide = same_Some v.ends n.wide (sym v.are ∙ n.at_wide) in
-    let fits : lie_within n.wide (block_size v.held) ≡ true = subst (λ e. lie_within e (block_size v.held) ≡ true) same v.fits in
-    valid_to (at_node d size site) block byte s (record {
+    let fits : lie_within n.wide (room_of ended v.held n.wide.size) ≡ true = subst (λ e. lie_within e (room_of ended v.held e.size) ≡ true) same v.fits in
+    let room : room_of ended v.held n.wide.size ≡ room_of ended v.held n.narrow.size = ap (room_of ended v.held) n.size_same in
+    valid_to (at_node d size ended site) block byte s (record {
       held = v.held;
       ends = n.narrow;
       found = v.found;
       are = n.at_narrow;
       place = v.place;
-      fits = within_by n.wide n.narrow (block_size v.held) (int_le n.narrow.low n.narrow.high) refl n.low n.high fits;
+      fits = within_by n.wide n.narrow (room_of ended v.held n.narrow.size) (int_le n.narrow.low n.narrow.high) refl n.low n.high (subst (λ bytes. lie_within n.wide bytes ≡ true) room fits);
     })
 
 -- bounds whose ends lie around those of others, from the same base
@@ -436,20 +474,23 @@ narrower_valid structs b d l s types is base lo hi h = record { passes = λ site
     size : ℕ
     size = target_size structs l.type
 
-    narrower : (site : Site) (block byte : ℕ) → is_valid (at_node b size site) (At block byte) s ≡ true → IsNarrower size site b d block byte s
+    ended : Bool
+    ended = is_ended l.type
+
+    narrower : (site : Site) (block byte : ℕ) → is_valid (at_node b size ended site) (At block byte) s ≡ true → IsNarrower size ended site b d block byte s
     narrower site block byte k =
         let v = numbers_in s.locals in
-        narrower_ends size site b d block byte s (value v d.lo) (value v d.hi) base (int_term s.locals d.lo types is.lo) (int_term s.locals d.hi types is.hi)
+        narrower_ends size ended site b d block byte s (value v d.lo) (value v d.hi) base (int_term s.locals d.lo types is.lo) (int_term s.locals d.hi types is.hi)
         (λ z e. let q = term_number s.locals b.lo z e in omega (arith, ints, q, lo)) (λ z e. let q = term_number s.locals b.hi z e in omega (arith, ints, q, hi)) k
 
-    by : (site : Site) (v : Value) → is_valid (at_node b size site) v s ≡ true → is_valid (at_node d size site) v s ≡ true
+    by : (site : Site) (v : Value) → is_valid (at_node b size ended site) v s ≡ true → is_valid (at_node d size ended site) v s ≡ true
     by site (Number z) k = absurd (cc)
     by site Null k = refl
-    by site (At block byte) k = narrower_passes size site b d block byte s (narrower site block byte k) k
+    by site (At block byte) k = narrower_passes size ended site b d block byte s (narrower site block byte k) k
 
-    leads : (site : Site) (block byte : ℕ) (e : Ends) → l.value ≡ At block byte → ends_at (at_node d size site) s.locals block byte ≡ Some e → LeadsOn structs (shapes s.blocks) l.type block byte e
+    leads : (site : Site) (block byte : ℕ) (e : Ends) → l.value ≡ At block byte → ends_at (at_node d size ended site) s.locals block byte ≡ Some e → LeadsOn structs (shapes s.blocks) l.type block byte e
     leads site block byte e at' are =
-        let n = narrower site block byte (subst (λ v. is_valid (at_node b size site) v s ≡ true) at' (h.passes site)) in
+        let n = narrower site block byte (subst (λ v. is_valid (at_node b size ended site) v s ≡ true) at' (h.passes site)) in
         let same : n.narrow ≡ e = same_Some n.narrow e (sym n.at_narrow ∙ are) in
         subst (λ e. LeadsOn structs (shapes s.blocks) l.type block byte e) same
         (leads_narrower structs (shapes s.blocks) l.type block byte n.wide n.narrow n.size_same n.low n.high (h.leads site block byte n.wide at' n.at_wide))
@@ -459,4 +500,4 @@ pub grown_valid : (structs : List Structure) (o : Option Bounds) (l : Local) (s 
     → IsValid structs o l s → IsValid structs o l t
 grown_valid structs None l s t grows same h = tt
 grown_valid structs (Some b) l s t grows same h =
-    carried structs b b l l s t grows (alike_here l) (λ site block byte e are. ap (λ locals. ends_at (at_node b (target_size structs l.type) site) locals block byte) same ∙ are) h
+    carried structs b b l l s t grows (alike_here l) (λ site block byte e are. ap (λ locals. ends_at (at_node b (target_size structs l.type) (is_ended l.type) site) locals block byte) same ∙ are) h

@@ -30,13 +30,13 @@ use Rattle.bounds_flow.specs.Settling.{Asked, Finding, Meets, WasLost, Falls, Me
 use Rattle.bounds_flow.specs.Conditions.{AreEndsBelow, AreBoundsBelow, IsFlow, IsTestWithin}
 use Rattle.bounds_flow.proofs.Variables.{held_below}
 use Rattle.ckc_core.specs.States.{Null, Local, State}
-use Rattle.bounds_flow_meaning.specs.Holding.{AreDeclared, AreFormed, AreHeld, AreInts, Fits, HasSize, HaveOneBase, Holds, IsSettled, IsFormed, IsHeld, IsMet, IsValid, NameInts, number_held, numbers_in, target_size, types_of}
+use Rattle.bounds_flow_meaning.specs.Holding.{AreDeclared, AreFormed, AreHeld, AreInts, Fits, HasSize, HaveOneStart, Holds, IsSettled, IsFormed, IsHeld, IsMet, IsValid, NameInts, number_held, numbers_in, target_size, types_of}
 use Rattle.bounds_flow_meaning.specs.Laws.{AreBeside, AreTested, CameOut, ChangesOnly, Compared, CutsAreNotReached, IsAmong, compares}
 use Rattle.bounds_flow_meaning.proofs.Numbers.{other_number, same_number, term_number, type_there}
 use Rattle.bounds_flow_meaning.proofs.Validity.{both_true, int_from, narrower_valid, null_valid}
 use Rattle.bounds_flow_meaning.proofs.Facts.{met_entails, met_equal, met_first, met_order, met_same, met_second, met_without, unmet}
 use Rattle.bounds_flow_meaning.proofs.Formed.{joined_formed, none_formed}
-use Rattle.bounds_flow_meaning.proofs.Pointers.{none_held, one_base, settled_is, settled_null, valid_of}
+use Rattle.bounds_flow_meaning.proofs.Pointers.{none_held, one_start, settled_is, settled_null, valid_of}
 use Rattle.bounds_flow_meaning.proofs.Steps.{each_map, each_set, formed_map, formed_set}
 
 pub cuts_not_reached : CutsAreNotReached
@@ -97,7 +97,7 @@ module _ (structs : List Structure) (f : Knowledge) (flow : IsFlow f) (s : State
 
   known_held : (p : ℕ) → ((l : Local) → slice_get s.locals p ≡ Some l → l.value ≢ Null) → AreHeld structs f.assigned f.held s → AreHeld structs f.assigned (change_at p known_not_null f.held) s
   known_held p there held = each_set (λ q h. (l : Local) → slice_get s.locals q ≡ Some l → IsHeld structs f.assigned h l s) f.held p (known_not_null (held_at f.held p))
-      (λ l e. let h = held p l e in record { valid = h.valid; known = λ q. there l e; null = h.null; declared = h.declared; base = h.base })
+      (λ l e. let h = held p l e in record { valid = h.valid; known = λ q. there l e; null = h.null; declared = h.declared; start = h.start })
       (λ l e. none_held structs f.assigned l s) (λ q ne l e. held q l e)
 
   pub assume_holds : (test : Test) (truth : Bool) → IsTestWithin f.vars test → CameOut test truth s → Holds structs f s → Holds structs (assumed test truth f) s
@@ -136,10 +136,10 @@ false_set (b ∷ xs) (suc x) (suc y) h = false_set xs x y h
 
 -- a pointer that is valid with its declared bounds, whatever was assigned
 held_again : (structs : List Structure) (assigned since : List Bool) (h : Held) (l : Local) (s : State) → IsValid structs h.declared l s → IsHeld structs assigned h l s → IsHeld structs since h l s
-held_again structs assigned since h l s declared held = record { valid = held.valid; known = held.known; null = held.null; declared = λ e f. declared; base = held.base }
+held_again structs assigned since h l s declared held = record { valid = held.valid; known = held.known; null = held.null; declared = λ e f. declared; start = held.start }
 
 held_declared : (structs : List Structure) (assigned since : List Bool) (h : Held) (l : Local) (s : State) → IsValid structs h.declared l s → IsHeld structs assigned h l s → IsHeld structs since (with_declared h) l s
-held_declared structs assigned since h l s declared held = record { valid = declared; known = held.known; null = held.null; declared = λ e f. declared; base = λ e. one_base h.declared }
+held_declared structs assigned since h l s declared held = record { valid = declared; known = held.known; null = held.null; declared = λ e f. declared; start = λ e. one_start h.declared }
 
 module _ (structs : List Structure) (f : Knowledge) (flow : IsFlow f) (s : State) (x : ℕ) where
   pub leave_fits : x < f.vars → Fits structs f s → Fits structs (left x f) s
@@ -248,8 +248,8 @@ module _ (structs : List Structure) (f : Knowledge) (flow : IsFlow f) (s : State
     declared_by (Some d) db bb is found = mark_by d h.mark refl db bb is found
 
     settled_by : (t : Bool) → is_settled h.mark ≡ t → IsValid structs h.declared l s → IsHeld structs (map (λ was. false) f.assigned) (record h { bounds = cond t h.bounds h.declared; mark = marks.Settled }) l s
-    settled_by true e valid = record { valid = held.valid; known = held.known; null = λ q. absurd (settled_null q); declared = λ q r. valid; base = λ q. held.base (settled_is h.mark e) }
-    settled_by false e valid = record { valid = valid; known = held.known; null = λ q. absurd (settled_null q); declared = λ q r. valid; base = λ q. one_base h.declared }
+    settled_by true e valid = record { valid = held.valid; known = held.known; null = λ q. absurd (settled_null q); declared = λ q r. valid; start = λ q. held.start (settled_is h.mark e) }
+    settled_by false e valid = record { valid = valid; known = held.known; null = λ q. absurd (settled_null q); declared = λ q r. valid; start = λ q. one_start h.declared }
 
 pub none_assigned : (xs : List Bool) (x : ℕ) → get_or (map (λ was. false) xs) x false ≡ false
 none_assigned [] x = refl
@@ -300,15 +300,15 @@ joined_second h k declared mark =
 
 module _ (structs : List Structure) (assigned since : List Bool) (h : Held) (l : Local) (s : State) (known : Bool) (knows : known ≡ true → h.known ≡ true) (held : IsHeld structs assigned h l s) where
   fallen_held : (t : Bool) → IsValid structs h.declared l s → IsHeld structs since (fallen t known h) l s
-  fallen_held true valid = record { valid = held.valid; known = λ e. held.known (knows e); null = held.null; declared = λ e f. valid; base = held.base }
-  fallen_held false valid = record { valid = valid; known = λ e. held.known (knows e); null = held.null; declared = λ e f. valid; base = λ e. one_base h.declared }
+  fallen_held true valid = record { valid = held.valid; known = λ e. held.known (knows e); null = held.null; declared = λ e f. valid; start = held.start }
+  fallen_held false valid = record { valid = valid; known = λ e. held.known (knows e); null = held.null; declared = λ e f. valid; start = λ e. one_start h.declared }
 
   kept_held : (t : Bool) → t ≡ true → since ≡ assigned → IsHeld structs since (fallen t known h) l s
   kept_held true e same = record {
     valid = held.valid;
     known = λ e. held.known (knows e);
     null = held.null;
-    base = held.base;
+    start = held.start;
     declared = λ e f. held.declared e (sym (ap (λ a. stays_true a h.declared) same) ∙ f);
   }
   kept_held false e same = absurd (cc)
@@ -515,7 +515,7 @@ module _ (structs : List Structure) (f : Knowledge) (flow : IsFlow f) (changed :
             known = λ q. (let n = k.known q in (h.holds.pointers p l (sym (only.others p n.1) ∙ e)).known n.0);
             null = λ q. absurd (settled_null (sym (marks_at p) ∙ q));
             declared = λ q r. declared;
-            base = λ q. base_at p;
+            start = λ q. start_at p;
           });
     };
     settled = record { marks = marks_at; assigned = h.settled.assigned };
@@ -525,11 +525,11 @@ module _ (structs : List Structure) (f : Knowledge) (flow : IsFlow f) (changed :
       marks_at : (p : ℕ) → (held_at (at_head changed f).held p).mark ≡ marks.Settled
       marks_at p = (head_at changed f p).mark ∙ h.settled.marks p
 
-      base_at : (p : ℕ) → HaveOneBase (held_at (at_head changed f).held p).bounds (held_at (at_head changed f).held p).declared
-      base_at p =
+      start_at : (p : ℕ) → HaveOneStart (held_at (at_head changed f).held p).bounds (held_at (at_head changed f).held p).declared
+      start_at p =
           let k = head_at changed f p in
           let same : (held_at (at_head changed f).held p).declared ≡ (held_at (at_head changed f).held p).bounds = k.declared ∙ sym k.bounds in
-          subst (λ o. HaveOneBase o (held_at (at_head changed f).held p).declared) same (one_base (held_at (at_head changed f).held p).declared)
+          subst (λ o. HaveOneStart o (held_at (at_head changed f).held p).declared) same (one_start (held_at (at_head changed f).held p).declared)
 
       declared_at : AreDeclared structs (at_head changed f).held t
       declared_at p l e = valid_of structs _ _ l t (head_at changed f p).declared (valid p l e)

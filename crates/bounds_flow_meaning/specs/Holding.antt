@@ -3,6 +3,7 @@
 use Rattle.std.specs.Prelude.{ℕ, ◌≡◌, ◌≢◌, ℤ, pos, Bool, true, false, List, Option, Some, None, map, slice_get, slice_index_or}
 use Rattle.bounds_exprs.specs.declared.term.Bounds.{Bounds}
 use Rattle.subsumption.specs.TableLaws.{MeetsTable}
+use Rattle.pointer_modes.specs.declared.ctype.Kind.TheVariants as kinds
 use Rattle.pointer_modes.specs.Types.{CType, Int, Char, Struct, Pointer, Structure}
 use Rattle.pointer_modes.specs.Layout.{size_of}
 use Rattle.bounds_flow.specs.declared.held.Held.{Held}
@@ -46,16 +47,25 @@ target_size structs (Pointer mode kind target) = size_of structs target
 
 -- ---- bounds
 
--- the bounds of a pointer to elements of so many bytes, at a node
-abbrev pub at_node : Bounds → ℕ → Site → PointerBounds
-at_node b size site = record { bounds = b; size = size; site = site }
+-- whether a zero stands at the upper end of a pointer of the type, or behind it
+abbrev pub is_ended : CType → Bool
+is_ended Int = false
+is_ended Char = false
+is_ended (Struct number) = false
+is_ended (Pointer mode kinds.One target) = false
+is_ended (Pointer mode kinds.Array target) = false
+is_ended (Pointer mode kinds.Nt target) = true
+
+-- the bounds of a pointer to elements of so many bytes, at a node; a zero may stand at its upper end or behind it
+abbrev pub at_node : Bounds → ℕ → Bool → Site → PointerBounds
+at_node b size ended site = record { bounds = b; size = size; terminated = ended; site = site }
 
 -- A pointer is valid with bounds: it passes the audit at each node, and between its ends there are values of the type that it leads
 -- to, so that an access that its check lets through finds one.
 pub record IsValidWith (structs : List Structure) (b : Bounds) (l : Local) (s : State) : Type 0 where
-  pub passes : (site : Site) → is_valid (at_node b (target_size structs l.type) site) l.value s ≡ true
+  pub passes : (site : Site) → is_valid (at_node b (target_size structs l.type) (is_ended l.type) site) l.value s ≡ true
   pub leads : (site : Site) (block byte : ℕ) (e : Ends) → l.value ≡ At block byte
-      → ends_at (at_node b (target_size structs l.type) site) s.locals block byte ≡ Some e → LeadsOn structs (shapes s.blocks) l.type block byte e
+      → ends_at (at_node b (target_size structs l.type) (is_ended l.type) site) s.locals block byte ≡ Some e → LeadsOn structs (shapes s.blocks) l.type block byte e
 
 -- the pointer is valid with the bounds, where there are any
 abbrev pub IsValid : List Structure → Option Bounds → Local → State → Type 0
@@ -81,11 +91,11 @@ abbrev pub HasSize : List Structure → List CType → ℕ → Option Bounds →
 HasSize structs types size None = Unit {0}
 HasSize structs types size (Some b) = (q : ℕ) (t : CType) → b.base ≡ Some q → slice_get types q ≡ Some t → target_size structs t ≡ size
 
--- where there are declared bounds there are bounds in force, and if both are there, they count from the same base
-abbrev pub HaveOneBase : Option Bounds → Option Bounds → Type 0
-HaveOneBase bounds None = Unit {0}
-HaveOneBase None (Some d) = ⊥
-HaveOneBase (Some b) (Some d) = b.base ≡ d.base
+-- where there are declared bounds there are bounds in force, and if both are there, they count from the same base and begin at the same end
+abbrev pub HaveOneStart : Option Bounds → Option Bounds → Type 0
+HaveOneStart bounds None = Unit {0}
+HaveOneStart None (Some d) = ⊥
+HaveOneStart (Some b) (Some d) = (b.base ≡ d.base) × (b.lo ≡ d.lo)
 
 -- ---- pointers
 
@@ -98,13 +108,13 @@ pub record IsFormed (structs : List Structure) (types : List CType) (size : ℕ)
 
 -- what is known of a pointer is so: it is valid with the bounds in force, it isn't null where it is known not to be, and it is
 -- null where it was assigned null last. Of a pointer that nothing became of since the last settling, the declared bounds hold
--- where no variable that they name was assigned, and those in force count from the declared base.
+-- where no variable that they name was assigned, and those in force begin where the declared ones do.
 pub record IsHeld (structs : List Structure) (assigned : List Bool) (h : Held) (l : Local) (s : State) : Type 0 where
   pub valid : IsValid structs h.bounds l s
   pub known : h.known ≡ true → l.value ≢ Null
   pub null : h.mark ≡ WasNull → l.value ≡ Null
   pub declared : h.mark ≡ Settled → stays_true assigned h.declared ≡ true → IsValid structs h.declared l s
-  pub base : h.mark ≡ Settled → HaveOneBase h.bounds h.declared
+  pub start : h.mark ≡ Settled → HaveOneStart h.bounds h.declared
 
 -- ---- flows
 

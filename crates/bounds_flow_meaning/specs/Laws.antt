@@ -14,12 +14,13 @@ use Rattle.bounds_flow.specs.declared.steps.How.TheVariants.{Lt, Le, Gt, Ge, Eq,
 use Rattle.bounds_flow.specs.declared.steps.Test.{Test}
 use Rattle.bounds_flow.specs.declared.steps.Test.TheVariants.{NotNull, Compare}
 use Rattle.bounds_flow.specs.Pointers.{no_pointer}
-use Rattle.bounds_flow.specs.Flows.{Knowledge, held_at, at_entry, entered, left, number_assigned, pointer_assigned, assumed, at_head, cut_off, met, settled}
+use Rattle.bounds_flow.specs.Flows.{Knowledge, held_at, at_entry, entered, left, number_assigned, pointer_assigned, assumed, at_head, cut_off, met, settled, widened, length_assigned}
 use Rattle.bounds_flow.specs.Settling.{MeetBelow, Meets, ends_find}
 use Rattle.bounds_flow.specs.Conditions.{AreEndsBelow, IsFlow, IsTermBelow, IsTestWithin}
 use Rattle.ckc_core.specs.States.{Value, Number, Null, At, Local, State, Grows, shapes, has_type}
 use Rattle.ckc_core.specs.Bounds.{term_value}
 use Rattle.bounds_flow_meaning.specs.Holding.{AreDeclared, AreInts, Fits, HasSize, HaveTypes, Holds, HoldsBut, IsSettled, IsMet, IsValid, NameInts}
+use Rattle.bounds_flow_meaning.specs.Zeros.{EndInZeros, HasCounted, HasRead}
 use Rattle.bounds_flow_meaning.specs.Holding.{numbers_in, target_size, types_of}
 
 -- ---- assignments
@@ -148,6 +149,17 @@ pub record StepsHold (structs : List Structure) (f : Knowledge) : Type 0 where
       → Holds structs (assumed test truth f) s
   pub assume_between : (test : Test) (truth : Bool) (s : State) → IsTestWithin f.vars test → CameOut test truth s → Fits structs f s
       → Fits structs (assumed test truth f) s
+  -- the element at an index isn't zero
+  pub widen : (p : ℕ) (index : Term) (s : State) → IsBelow f.vars index.var → EndInZeros s.blocks
+      → ((l : Local) → slice_get s.locals p ≡ Some l → HasRead structs (held_at f.held p).bounds index l s) → Holds structs f s
+      → Holds structs (widened p index f) s
+  pub widen_between : (p : ℕ) (index : Term) (s : State) → IsBelow f.vars index.var → EndInZeros s.blocks
+      → ((l : Local) → slice_get s.locals p ≡ Some l → HasRead structs (held_at f.held p).bounds index l s) → Fits structs f s
+      → Fits structs (widened p index f) s
+  -- a variable that holds a number is assigned how many elements of a pointer stand before the zero
+  pub assign_length : (x p : ℕ) (s : State) (old : Local) (count : ℕ) → x < f.vars → slice_get s.locals x ≡ Some old
+      → has_type old.type (Number (pos count)) ≡ true → ((l : Local) → slice_get s.locals p ≡ Some l → HasCounted structs (held_at f.held p).bounds count l s)
+      → Holds structs f s → Holds structs (length_assigned x p f) (with_local x old (Number (pos count)) s)
   -- two ways meet, of which the run took the one or the other: between statements, and inside a condition
   pub join_first : (g : Knowledge) (s : State) → IsFlow g → AreBeside f g → Fits structs f s → Fits structs (met f g) s
   pub join_second : (g : Knowledge) (s : State) → IsFlow g → AreBeside f g → IsSettled f → Fits structs g s → Fits structs (met f g) s
@@ -179,6 +191,8 @@ pub record StepsStayBeside (f : Knowledge) : Type 0 where
   pub assign_pointer : (p : ℕ) (from : Source) (moved : Option ℤ) (not_null : Bool) → AreBeside f (pointer_assigned p from moved not_null f)
   pub settle : AreBeside f (settled f)
   pub assume : (test : Test) (truth : Bool) → AreBeside f (assumed test truth f)
+  pub widen : (p : ℕ) (index : Term) → AreBeside f (widened p index f)
+  pub assign_length : (x p : ℕ) → AreBeside f (length_assigned x p f)
   pub enter_loop : (changed : List ℕ) → AreBeside f (at_head changed f)
   pub cut : AreBeside f (cut_off f)
   pub join : (g : Knowledge) → length g.held ≡ length f.held → AreBeside f (met f g)
@@ -190,6 +204,7 @@ pub record StepsStaySettled (f : Knowledge) : Type 0 where
   pub enter : (x : ℕ) (declared : Option Bounds) → IsSettled f → IsSettled (entered x declared f)
   pub leave : (x : ℕ) → IsSettled f → IsSettled (left x f)
   pub assume : (test : Test) (truth : Bool) → IsSettled f → IsSettled (assumed test truth f)
+  pub widen : (p : ℕ) (index : Term) → IsSettled f → IsSettled (widened p index f)
   pub enter_loop : (changed : List ℕ) → IsSettled f → IsSettled (at_head changed f)
   pub cut : IsSettled f → IsSettled (cut_off f)
   pub join : (g : Knowledge) → length g.held ≡ length f.held → IsSettled f → IsSettled (met f g)

@@ -4,3 +4,4 @@ pub mod Rows
 pub mod Sums
 pub mod Calls
 pub mod Examples
+pub mod Zeros

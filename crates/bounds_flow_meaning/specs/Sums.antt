@@ -1,5 +1,5 @@
 -- Bounds of pointers that expressions make of pointers, and of those that wait while others are computed.
-use Rattle.std.specs.Prelude.{ℕ, ◌≡◌, ℤ, pos, neg_ℤ, ◌+ℤ◌, ◌*ℤ◌, true, List, Option, Some, None, slice_get}
+use Rattle.std.specs.Prelude.{ℕ, Bool, ◌≡◌, ℤ, pos, neg_ℤ, ◌+ℤ◌, ◌*ℤ◌, true, List, Option, Some, None, slice_get}
 use Rattle.bounds_exprs.specs.declared.term.Term.{Term}
 use Rattle.bounds_exprs.specs.declared.term.Bounds.{Bounds}
 use Rattle.bounds_exprs.specs.Normal.{constant}
@@ -13,13 +13,13 @@ use Rattle.ckc_core.specs.Programs.{Initial}
 use Rattle.ckc_core.specs.Bounds.{term_value}
 use Rattle.ckc_core.specs.States.{Value, Null, At, Local, State, Grows, shapes}
 use Rattle.ckc_core.specs.Pointers.{allocated, element_size, reaches}
-use Rattle.bounds_flow_meaning.specs.Holding.{IsValid, at_node, target_size}
+use Rattle.bounds_flow_meaning.specs.Holding.{IsValid, at_node, is_ended, target_size}
 use Rattle.bounds_flow_meaning.specs.Rows.{AreCellsBehind}
 
 -- the bounds at a node of a variable's type, where there are any
 abbrev pub noted : List Structure → Option Bounds → Local → Site → Option PointerBounds
 noted structs None l site = None
-noted structs (Some b) l site = Some (at_node b (target_size structs l.type) site)
+noted structs (Some b) l site = Some (at_node b (target_size structs l.type) (is_ended l.type) site)
 
 -- what is valid passes the audit
 abbrev pub AuditsPass : Type 0
@@ -64,7 +64,7 @@ pub record IsNew (structs : List Structure) (b : Bounds) (l : Local) (before aft
 
 -- a new block, or null in its place, has as many elements as were asked for
 abbrev pub NewBlocksCount : Type 0
-NewBlocksCount = (structs : List Structure) (room : ℕ) (element : List Initial) (t : Term) (z : ℤ) (l : Local) (v : Value) (s u : State)
+NewBlocksCount = (structs : List Structure) (room : ℕ) (terminated : Bool) (element : List Initial) (t : Term) (z : ℤ) (l : Local) (v : Value) (s u : State)
     → term_value t s.locals ≡ Some z → element_size element ≡ target_size structs l.type → AreCellsBehind structs l.type element
-    → allocated room element z s ≡ Gives v u
+    → terminated ≡ is_ended l.type → allocated room terminated element z s ≡ Gives v u
     → IsNew structs (counted t) (record l { value = v }) s u

@@ -11,6 +11,7 @@ use Rattle.bounds_exprs.specs.declared.term.Term.{Term}
 use Rattle.bounds_exprs.specs.Changes.{between, moved_by}
 use Rattle.bounds_exprs.specs.Terms.{is_within, term_limit, within_limit}
 use Rattle.pointer_modes.specs.declared.ctype.Mode.TheVariants as modes
+use Rattle.pointer_modes.specs.declared.ctype.Kind.{Kind}
 use Rattle.pointer_modes.specs.declared.ctype.Kind.TheVariants as kinds
 use Rattle.pointer_modes.specs.Layout as layout
 use Rattle.act_words.specs.Checks.{is_word_number}
@@ -18,11 +19,13 @@ use Rattle.subsumption.specs.Graphs.{IsWithin}
 use Rattle.bounds_flow_meaning.specs.Holding.{AreInts, IsInt}
 use Rattle.bounds_flow_meaning.proofs.Validity.{int_to}
 use Rattle.pointer_modes.specs.Layout.{scalar_size}
+use Rattle.ckc_core.specs.Pointers.{element_size}
 use Rattle.ckc_core.specs.Programs.{Initial}
 use Rattle.ckc_core.specs.States.{has_type, initial_value, zero_of}
 use Rattle.ckc_core.specs.Steps.{is_char}
 use Rattle.lowering.specs.Images.{width_if}
 use Rattle.region_typing_rules.specs.KnownIsSo.{AreLimited}
+use Rattle.region_typing_rules.specs.Types.{is_number}
 use Rattle.region_typing_rules.specs.Lowerable.{IsRoomy}
 use Rattle.region_typing_rules.proofs.Terms.{term_formed}
 use Rattle.pointer_modes.specs.Types.{CType, Int, Char, Struct, Pointer, Structure}
@@ -33,14 +36,14 @@ use Rattle.ckc_core.specs.Core as core
 use Rattle.ckc_core.specs.Meaning.{bounds_of}
 use Rattle.check_insertion.specs.declared.erased.Check.{Check}
 use Rattle.check_insertion.specs.declared.erased.Check.TheVariants.{NotNull, Below, UpTo, Contains}
-use Rattle.check_insertion.specs.Insert.{access_checks, sum_checks, cast_checks, size_of, expression, arguments_of, place, statement, statements}
-use Rattle.lowering.specs.Sized.{AreWithin, AreLocal, IsElement, IsFresh, IsLocal, IsSmall, SizedExpression, SizedArguments, SizedPlace, SizedStatement, SizedStatements}
+use Rattle.check_insertion.specs.Insert.{access_checks, sum_checks, cast_checks, end_of, store_end, size_of, expression, arguments_of, place, statement, statements}
+use Rattle.lowering.specs.Sized.{AreWithin, AreLocal, HasEnd, IsElement, IsFresh, IsLocal, IsSmall, SizedExpression, SizedArguments, SizedPlace, SizedStatement, SizedStatements}
 use Rattle.region_typing_rules.specs.Expressions.{bounds_at}
 use Rattle.region_typing_rules.specs.Readings.{against, from_base, based_bounds}
 use Rattle.region_typing_rules.specs.Verdicts.{picked}
 use Rattle.region_typing_rules.specs.Scopes.{Scope}
 use Rattle.region_typing_rules.specs.Typed as typed
-use Rattle.region_typing_rules.specs.Typed.{Frame, AreConstant, AreNamed, AreNewBounds, IsBaseOf, IsNewElement, HasBounds, HasCallBounds, HasElements, AreSumBounds, HasType, HaveTypes, HasPlace, terms_of, IsSimple, IsStatement, AreStatements}
+use Rattle.region_typing_rules.specs.Typed.{Frame, AreConstant, AreNamed, AreNewBounds, IsBaseOf, IsNewElement, IsNewNumber, HasAccess, HasBounds, HasCallBounds, HasElements, AreSumBounds, HasType, HaveTypes, HasPlace, terms_of, IsSimple, IsStatement, AreStatements}
 
 -- ---- the bounds at nodes
 
@@ -112,9 +115,9 @@ term_within : (z : ℤ) → IsWithin term_limit z → is_within term_limit z ≡
 term_within z h = and_from (le_z (neg_ℤ (pos term_limit)) z) (le_z z (pos term_limit)) (int_to (neg_ℤ (pos term_limit)) z h.low) (int_to z (pos term_limit) h.high)
 
 -- the bounds of new memory
-new_read : (structs : List Structure) (types : List CType) (count : core.Expression) (t : CType) (b : Option PointerBounds) → AreNewBounds structs types count t b → AreRead types b
-new_read structs types count t b typed.uncounted = tt
-new_read structs types count t b (typed.by_term {n = n} is) =
+new_read : (structs : List Structure) (types : List CType) (count : core.Expression) (kind : Kind) (t : CType) (b : Option PointerBounds) → AreNewBounds structs types count kind t b → AreRead types b
+new_read structs types count kind t b typed.uncounted = tt
+new_read structs types count kind t b (typed.by_term {n = n} is) =
     let formed = term_formed types count n is in
     record { within = record { low = refl; high = term_within n.plus formed.small }; named = record { ints = record { lo = tt; hi = formed.int }; base = λ q from. absurd (cc) } }
 
@@ -148,17 +151,18 @@ beside_readable _ d (typed.word ok) based = absurd (cc)
 beside_readable _ d (typed.byte ok) based = absurd (cc)
 beside_readable _ d typed.null based = absurd (cc)
 beside_readable {g = g} {here = here} {t = t} (core.Local k b) d (typed.local found told) based = local_readable here.locals k b d (t, found) (noted_read here.locals g.structs t b told) based
-beside_readable {here = here} _ d (typed.bounded {k = k} {mode = m} {t = t} {p = p} found size limited named force) based =
-    local_readable here.locals k (Some p) d (Pointer m kinds.Array t, found) (record { within = record { low = limited.low; high = limited.high }; named = named }) based
+beside_readable {here = here} _ d (typed.bounded {k = k} {mode = m} {kind = kind} {t = t} {p = p} found size limited named force) based =
+    local_readable here.locals k (Some p) d (Pointer m kind t, found) (record { within = record { low = limited.low; high = limited.high }; named = named }) based
 beside_readable _ d (typed.widened e) based = beside_readable _ d e based
 beside_readable _ d (typed.single e elements leads) based = beside_readable _ d e based
 beside_readable _ d (typed.row e bounds) based = beside_readable _ d e based
-beside_readable _ d (typed.ended_row e none) based = beside_readable _ d e based
+beside_readable _ d (typed.ended_row e) based = beside_readable _ d e based
 beside_readable _ d (typed.load scalar place told) based = absurd (cc)
 beside_readable _ d (typed.bounded_object is size) based = absurd (cc)
 beside_readable _ d (typed.address_of place told) based = absurd (cc)
 beside_readable _ d (typed.array found some few rows bounds size) based = absurd (cc)
-beside_readable _ d (typed.sum pointer elements number bounds) based = beside_readable _ d pointer based
+beside_readable _ d (typed.ended_array found few row bounds size) based = absurd (cc)
+beside_readable _ d (typed.sum counts pointer elements number bounds) based = beside_readable _ d pointer based
 beside_readable _ d (typed.negate e) based = absurd (cc)
 beside_readable _ d (typed.complement e) based = absurd (cc)
 beside_readable _ d (typed.inverse e) based = absurd (cc)
@@ -172,7 +176,9 @@ beside_readable _ d (typed.low_byte e) based = absurd (cc)
 beside_readable _ d (typed.call callee arguments asked told) based = absurd (cc)
 beside_readable _ d typed.next_input based = absurd (cc)
 beside_readable _ d (typed.allocate count fresh bounds) based = absurd (cc)
-beside_readable {here = here} _ d (typed.cast {q = q} e elements within size limited ints bases) based =
+beside_readable _ d (typed.allocate_ended count fresh bounds) based = absurd (cc)
+beside_readable _ d (typed.byte_count e elements) based = absurd (cc)
+beside_readable {here = here} _ d (typed.cast {q = q} e elements counts within size limited ints bases) based =
     subst (AreReadable here.locals) (cast_based q.bounds d based) (cast_readable here.locals q limited ints bases)
 beside_readable _ d (typed.cast_single {b = b} e elements within told) based = absurd (cc)
 beside_readable _ d (typed.cast_unbounded e elements) based = absurd (cc)
@@ -210,13 +216,15 @@ bounds_read _ (typed.bounded found size limited named force) = record { within =
 bounds_read _ (typed.widened e) = bounds_read _ e
 bounds_read _ (typed.single e elements leads) = bounds_read _ e
 bounds_read _ (typed.row e bounds) = bounds_read _ e
-bounds_read _ (typed.ended_row e none) = bounds_read _ e
+bounds_read _ (typed.ended_row e) = bounds_read _ e
 bounds_read {g = g} {here = here} {t = t} (core.Load type p b) (typed.load scalar place told) = noted_read here.locals g.structs t b told
 bounds_read {here = here} _ (typed.bounded_object is size) = object_readable here.locals is.limited is.constant
 bounds_read {g = g} {here = here} (core.AddressOf p b) (typed.address_of {mode = m} {t = t} place told) = noted_read here.locals g.structs (Pointer m kinds.One t) b told
 bounds_read {here = here} _ (typed.array {n = n} {p = p} found some few rows bounds size) =
     subst (AreReadable here.locals) (sym bounds) (constant_readable here.locals (pos 0) (pos n) refl (few_within n few))
-bounds_read {here = here} (core.Sum e direction i site b) (typed.sum {p = p} pointer elements number bounds) =
+bounds_read {here = here} _ (typed.ended_array {n = n} {p = p} found few row bounds size) =
+    subst (AreReadable here.locals) (sym bounds) (constant_readable here.locals (pos 0) (pos n) refl (few_within n (omega (arith, few))))
+bounds_read {here = here} (core.Sum e direction i site b) (typed.sum {p = p} counts pointer elements number bounds) =
     sum_read here.locals e direction i p b (subst (AreRead here.locals) elements.bounds (bounds_read e pointer)) (λ d based. beside_readable e d pointer based) bounds
 bounds_read _ (typed.negate e) = tt
 bounds_read _ (typed.complement e) = tt
@@ -230,8 +238,10 @@ bounds_read _ (typed.either a b) = tt
 bounds_read _ (typed.low_byte e) = tt
 bounds_read {g = g} {here = here} {t = t} (core.Call callee arguments b) (typed.call {ts = ts} {r = r} there listed asked told) = call_read g.structs here.locals (terms_of here.locals arguments ts) t r b told
 bounds_read _ typed.next_input = tt
-bounds_read {g = g} {here = here} (core.Allocate count element b) (typed.allocate {t = t} number fresh bounds) = new_read g.structs here.locals count t b bounds
-bounds_read {here = here} _ (typed.cast {q = q} e elements within size limited ints bases) = cast_readable here.locals q limited ints bases
+bounds_read {g = g} {here = here} (core.Allocate count element false b) (typed.allocate {t = t} number fresh bounds) = new_read g.structs here.locals count kinds.Array t b bounds
+bounds_read {g = g} {here = here} (core.Allocate count element true b) (typed.allocate_ended {t = t} number fresh bounds) = new_read g.structs here.locals count kinds.Nt t b bounds
+bounds_read _ (typed.byte_count e elements) = tt
+bounds_read {here = here} _ (typed.cast {q = q} e elements counts within size limited ints bases) = cast_readable here.locals q limited ints bases
 bounds_read {g = g} {here = here} (core.Cast e b) (typed.cast_single {t = t} pointer elements within told) = noted_read here.locals g.structs (Pointer modes.Checked kinds.One t) b told
 bounds_read _ (typed.cast_unbounded e elements) = tt
 
@@ -245,9 +255,15 @@ small_first : (locals : ℕ) (site : Site) → All (IsSmall locals 1) (NotNull s
 small_first locals site = All-cons (IsSmall locals 1) (NotNull site) [] (small_null locals 1 site (omega arith)) (All-nil (IsSmall locals 1))
 
 -- and so is one that an element lies within bounds
-small_access : (locals : ℕ) (p : PointerBounds) (i : core.Expression) (site : Site) → AreWithin p.bounds → All (IsSmall locals 6) (access_checks (Some p) (core.Element i) site)
+small_access : (locals : ℕ) (p : PointerBounds) (i : core.Expression) (site : Site) → AreWithin p.bounds → All (IsSmall locals 6) (access_checks (Some p) (core.Element i false) site)
 small_access locals p i site h =
     let within : Check = Below (record { bounds = p.bounds; site = site }) in
+    All-cons (IsSmall locals 6) (NotNull site) (within ∷ []) (small_null locals 6 site (omega arith))
+    (All-cons (IsSmall locals 6) within [] (record { words = omega arith; reads = h }) (All-nil (IsSmall locals 6)))
+
+small_upper : (locals : ℕ) (p : PointerBounds) (i : core.Expression) (site : Site) → AreWithin p.bounds → All (IsSmall locals 6) (access_checks (Some p) (core.Element i true) site)
+small_upper locals p i site h =
+    let within : Check = UpTo (record { bounds = p.bounds; site = site }) in
     All-cons (IsSmall locals 6) (NotNull site) (within ∷ []) (small_null locals 6 site (omega arith))
     (All-cons (IsSmall locals 6) within [] (record { words = omega arith; reads = h }) (All-nil (IsSmall locals 6)))
 
@@ -277,15 +293,22 @@ module _ (types locals : List CType) (n : ℕ) (few : length locals ≤ n) (with
       All-cons (IsSmall n 7) contains [] (record { words = omega arith; reads = (bounds_local old.bounds h.named, bounds_local new.bounds k.named) }) (All-nil (IsSmall n 7))
 
 -- the elements of a pointer with bounds
-module _ {structs : List Structure} (types : List CType) (locals : ℕ) (e : core.Expression) (t : CType) (p : PointerBounds) (elements : HasElements structs e t p) (read : AreRead types (bounds_of e)) where
+module _ {structs : List Structure} (types : List CType) (locals : ℕ) (e : core.Expression) (c : CType) (p : PointerBounds) (elements : HasElements structs e c p) (read : AreRead types (bounds_of e)) where
   here : AreReadable types p.bounds
   here = subst (AreRead types) elements.bounds read
 
   some_bytes : 1 ≤ size_of (bounds_of e)
-  some_bytes = let size = ap size_of elements.bounds in omega (arith, size, elements.size, elements.some)
+  some_bytes = let size = ap size_of elements.bounds in omega (arith, size, elements.node.size, elements.some)
 
-  accesses : (i : core.Expression) (site : Site) → All (IsSmall locals 6) (access_checks (bounds_of e) (core.Element i) site)
-  accesses i site = subst (λ b. All (IsSmall locals 6) (access_checks b (core.Element i) site)) (sym elements.bounds) (small_access locals p i site here.within)
+  accesses : (i : core.Expression) (site : Site) → All (IsSmall locals 6) (access_checks (bounds_of e) (core.Element i false) site)
+  accesses i site = subst (λ b. All (IsSmall locals 6) (access_checks b (core.Element i false) site)) (sym elements.bounds) (small_access locals p i site here.within)
+
+  -- up to the upper end
+  upper : (i : core.Expression) (site : Site) → All (IsSmall locals 6) (access_checks (bounds_of e) (core.Element i true) site)
+  upper i site = subst (λ b. All (IsSmall locals 6) (access_checks b (core.Element i true) site)) (sym elements.bounds) (small_upper locals p i site here.within)
+
+  counts : (site : Site) → All (IsSmall locals 6) (sum_checks (bounds_of e) site)
+  counts site = subst (λ b. All (IsSmall locals 6) (sum_checks b site)) (sym elements.bounds) (small_sum locals p site here.within)
 
   sums : (site : Site) → All (IsSmall locals 6) (sum_checks (bounds_of e) site)
   sums site = subst (λ b. All (IsSmall locals 6) (sum_checks b site)) (sym elements.bounds) (small_sum locals p site here.within)
@@ -325,6 +348,24 @@ new_element : (structs : List Structure) (t : CType) (element : List Initial) �
 new_element structs t element is =
     record { cells = All-from_recursion IsFresh element (fresh_cells element is.roomy); some = omega (arith, is.size, is.bytes); few = let few = word_few (layout.size_of structs t) is.word in omega (arith, is.size, few) }
 
+new_number : (structs : List Structure) (t : CType) (element : List Initial) → IsNewNumber structs t element → IsElement element
+new_number structs t element is = record { cells = All-from_recursion IsFresh element (fresh_cells element is.roomy); some = some; few = few }
+  where
+    sized : (element_size element ≡ layout.size_of structs t) × (layout.size_of structs t ≤ 4)
+    sized = (subst (λ e. element_size e ≡ layout.size_of structs t) (sym is.cell.is) (omega arith), small t is.number)
+      where
+        small : (t : CType) → is_number t ≡ true → layout.size_of structs t ≤ 4
+        small Int h = omega arith
+        small Char h = omega arith
+        small (Struct k) h = absurd (cc)
+        small (Pointer m k target) h = absurd (cc)
+
+    some : 1 ≤ element_size element
+    some = let cell = is.cell.some in omega (arith, sized.0, cell)
+
+    few : element_size element < 2 ^ 32
+    few = omega (arith, sized.0, sized.1)
+
 -- ---- expressions
 
 mutual
@@ -337,13 +378,14 @@ mutual
   sized_expression n held _ (typed.widened e) = sized_expression n held _ e
   sized_expression n held _ (typed.single e elements leads) = sized_expression n held _ e
   sized_expression n held _ (typed.row e bounds) = sized_expression n held _ e
-  sized_expression n held _ (typed.ended_row e none) = sized_expression n held _ e
-  sized_expression n held _ (typed.load scalar p told) = sized_place n held _ p
+  sized_expression n held _ (typed.ended_row e) = sized_expression n held _ e
+  sized_expression n held _ (typed.load scalar p told) = sized_access n held _ p
   sized_expression n held _ (typed.bounded_object is size) = tt
   sized_expression n held _ (typed.address_of p told) = sized_place n held _ p
   sized_expression n held _ (typed.array found some few rows bounds size) = tt
-  sized_expression n held {here = here} (core.Sum e direction i site b) (typed.sum {t = t} {p = p} pointer elements number bounds) =
-      (sized_expression n held e pointer, sized_expression n held i number, some_bytes here.locals n e t p elements (bounds_read e pointer), sums here.locals n e t p elements (bounds_read e pointer) site)
+  sized_expression n held _ (typed.ended_array found few row bounds size) = tt
+  sized_expression n held {here = here} (core.Sum e direction i site b) (typed.sum {t = t} {p = p} counts pointer elements number bounds) =
+      (sized_expression n held e pointer, sized_expression n held i number, some_bytes here.locals n e _ p elements (bounds_read e pointer), sums here.locals n e _ p elements (bounds_read e pointer) site)
   sized_expression n held _ (typed.negate e) = sized_expression n held _ e
   sized_expression n held _ (typed.complement e) = sized_expression n held _ e
   sized_expression n held _ (typed.inverse e) = sized_expression n held _ e
@@ -356,13 +398,16 @@ mutual
   sized_expression n held _ (typed.low_byte e) = sized_expression n held _ e
   sized_expression n held _ (typed.call callee arguments asked told) = sized_arguments n held _ arguments
   sized_expression n held _ typed.next_input = tt
-  sized_expression n {g = g} held (core.Allocate count element b) (typed.allocate {t = t} number fresh bounds) = (sized_expression n held count number, new_element g.structs t element fresh)
-  sized_expression n {locals = locals} held {here = here} (core.Cast e (Some q)) (typed.cast {t = t} {p = p} pointer elements within size limited ints bases) =
-      (sized_expression n held e pointer, some_bytes here.locals n e t p elements (bounds_read e pointer), casts here.locals n e t p elements (bounds_read e pointer) locals held within (Some q) (cast_readable here.locals q limited ints bases))
+  sized_expression n {g = g} held (core.Allocate count element false b) (typed.allocate {t = t} number fresh bounds) = (sized_expression n held count number, new_element g.structs t element fresh)
+  sized_expression n {g = g} held (core.Allocate count element true b) (typed.allocate_ended {t = t} number fresh bounds) = (sized_expression n held count number, new_number g.structs t element fresh)
+  sized_expression n held {here = here} (core.Length e site) (typed.byte_count {p = p} pointer elements) =
+      (sized_expression n held e pointer, some_bytes here.locals n e _ p elements (bounds_read e pointer), counts here.locals n e _ p elements (bounds_read e pointer) site)
+  sized_expression n {locals = locals} held {here = here} (core.Cast e (Some q)) (typed.cast {t = t} {p = p} pointer elements counts within size limited ints bases) =
+      (sized_expression n held e pointer, some_bytes here.locals n e _ p elements (bounds_read e pointer), casts here.locals n e _ p elements (bounds_read e pointer) locals held within (Some q) (cast_readable here.locals q limited ints bases))
   sized_expression n {g = g} {locals = locals} held {here = here} (core.Cast e b) (typed.cast_single {t = t} {p = p} pointer elements within told) =
-      (sized_expression n held e pointer, some_bytes here.locals n e t p elements (bounds_read e pointer), casts here.locals n e t p elements (bounds_read e pointer) locals held within b (noted_read here.locals g.structs (Pointer modes.Checked kinds.One t) b told))
+      (sized_expression n held e pointer, some_bytes here.locals n e _ p elements (bounds_read e pointer), casts here.locals n e _ p elements (bounds_read e pointer) locals held within b (noted_read here.locals g.structs (Pointer modes.Checked kinds.One t) b told))
   sized_expression n held {here = here} (core.Cast e None) (typed.cast_unbounded {t = t} {p = p} pointer elements) =
-      (sized_expression n held e pointer, some_bytes here.locals n e t p elements (bounds_read e pointer), All-nil (IsSmall n 7))
+      (sized_expression n held e pointer, some_bytes here.locals n e _ p elements (bounds_read e pointer), All-nil (IsSmall n 7))
 
   sized_arguments : (n : ℕ) {g : Frame} {locals : List CType} (held : length locals ≤ n) {here : Scope} {ts : List CType} (es : core.Arguments) → HaveTypes g locals here es ts → SizedArguments n (arguments_of es)
   sized_arguments n held _ typed.done = tt
@@ -372,20 +417,42 @@ mutual
   sized_place n held _ (typed.direct found row) = tt
   sized_place n held (core.Through e core.First zero site) (typed.pointed pointer) = (sized_expression n held _ pointer, small_first n site)
   sized_place n held (core.Through e core.First offset site) (typed.member k pointer found scalar) = (sized_expression n held _ pointer, small_first n site)
-  sized_place n held {here = here} (core.Through e (core.Element i) zero site) (typed.element {t = t} {p = p} pointer elements number) =
-      (sized_expression n held e pointer, (sized_expression n held i number, some_bytes here.locals n e t p elements (bounds_read e pointer), accesses here.locals n e t p elements (bounds_read e pointer) i site))
-  sized_place n held {here = here} (core.Through e (core.Element i) offset site) (typed.element_member {n = m} {p = p} k pointer elements number found scalar) =
-      (sized_expression n held e pointer, (sized_expression n held i number, some_bytes here.locals n e (Struct m) p elements (bounds_read e pointer), accesses here.locals n e (Struct m) p elements (bounds_read e pointer) i site))
+  sized_place n held {here = here} (core.Through e (core.Element i false) zero site) (typed.element {t = t} {p = p} pointer elements number) =
+      (sized_expression n held e pointer, (sized_expression n held i number, some_bytes here.locals n e _ p elements (bounds_read e pointer), accesses here.locals n e _ p elements (bounds_read e pointer) i site))
+  sized_place n held {here = here} (core.Through e (core.Element i false) offset site) (typed.element_member {n = m} {p = p} k pointer elements number found scalar) =
+      (sized_expression n held e pointer, (sized_expression n held i number, some_bytes here.locals n e _ p elements (bounds_read e pointer), accesses here.locals n e _ p elements (bounds_read e pointer) i site))
+
+  sized_access : (n : ℕ) {g : Frame} {locals : List CType} (held : length locals ≤ n) {here : Scope} {t : CType} (p : core.Place) → HasAccess g locals here p t → SizedPlace n (place p)
+  sized_access n held p (typed.at_place h) = sized_place n held p h
+  sized_access n held {here = here} (core.Through e (core.Element i true) zero site) (typed.ended {p = p} pointer elements number) =
+      (sized_expression n held e pointer, (sized_expression n held i number, some_bytes here.locals n e _ p elements (bounds_read e pointer), upper here.locals n e _ p elements (bounds_read e pointer) i site))
 
 -- ---- statements
+
+-- the end at which nothing but 0 is stored, where a place has one
+endless : {g : Frame} {locals : List CType} {here : Scope} {t : CType} (p : core.Place) → HasPlace g locals here p t → HasEnd (place p) (end_of p)
+endless (core.Direct object offset) _ = tt
+endless (core.Through e core.First zero site) (typed.pointed pointer) = tt
+endless (core.Through e core.First offset site) (typed.member k pointer found scalar) = tt
+endless (core.Through e (core.Element i true) offset site) h = elim h [ ]
+endless (core.Through e (core.Element i false) zero site) (typed.element pointer elements number) = tt
+endless (core.Through e (core.Element i false) offset site) (typed.element_member k pointer elements number found scalar) = tt
+
+ends_within : {g : Frame} {locals : List CType} {here : Scope} {t : CType} (p : core.Place) → HasAccess g locals here p t → HasEnd (place p) (end_of p)
+ends_within p (typed.at_place h) = endless p h
+ends_within {here = here} (core.Through e (core.Element i true) zero site) (typed.ended {p = p} pointer elements number) = by (bounds_of e) refl
+  where
+    by : (o : Option PointerBounds) → bounds_of e ≡ o → HasEnd (place (core.Through e (core.Element i true) 0 site)) (store_end o (core.Element i true) site)
+    by None is = tt
+    by (Some b) is = let h : AreReadable here.locals b.bounds = subst (AreRead here.locals) is (bounds_read e pointer) in h.within
 
 sized_simple : (n : ℕ) {g : Frame} {locals : List CType} (held : length locals ≤ n) {here : Scope} (x : core.Statement) → IsSimple g locals here x → SizedStatement n (statement x)
 sized_simple n held _ typed.nothing = tt
 sized_simple n held _ (typed.set_local found e) = sized_expression n held _ e
-sized_simple n held _ (typed.store scalar p e) = (sized_place n held _ p, sized_expression n held _ e)
-sized_simple n held _ (typed.store_bounded is e asked) = (tt, sized_expression n held _ e)
+sized_simple n held _ (typed.store scalar p e) = (sized_access n held _ p, sized_expression n held _ e, ends_within _ p)
+sized_simple n held _ (typed.store_bounded is e asked) = (tt, sized_expression n held _ e, tt)
 sized_simple n held _ (typed.update_local found number char e) = sized_expression n held _ e
-sized_simple n held _ (typed.update number p e) = (sized_place n held _ p, sized_expression n held _ e)
+sized_simple n held _ (typed.update number p e) = (sized_access n held _ p, sized_expression n held _ e, ends_within _ p)
 sized_simple n held _ (typed.evaluate e) = sized_expression n held _ e
 sized_simple n held _ (typed.call_alone callee arguments asked) = sized_arguments n held _ arguments
 sized_simple n held _ (typed.print e) = sized_expression n held _ e

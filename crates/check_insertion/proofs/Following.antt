@@ -1,9 +1,10 @@
 -- Outcomes that follow others, step by step.
-use Rattle.std.proofs.Common.{◌≡◌, ℕ, ◌+◌, ℤ, ◌+ℤ◌, ◌*ℤ◌, Bool, true, false, List, [], ◌∷◌, Option, Some, None, refl, sym, ap, ◌∙◌, subst}
+use Rattle.std.proofs.Common.{◌≡◌, ℕ, zero, suc, ◌+◌, ℤ, ◌+ℤ◌, ◌*ℤ◌, Bool, true, false, List, [], ◌∷◌, Option, Some, None, refl, sym, ap, ◌∙◌, subst, arith}
+use Rattle.std.proofs.lemmas.Int.{ints}
 use Rattle.std.specs.Prelude.{◌==◌, ◌&&◌, ◌||◌, not, slice_get, pos, negsuc}
 use Rattle.act_words.specs.declared.operator.Comparison.{Comparison}
-use Rattle.act_words.specs.Touches.{Asked, Got, Ended}
-use Rattle.pointer_modes.specs.Types.{CType}
+use Rattle.act_words.specs.Touches.{Asked, Got, Ended, spend_tick}
+use Rattle.pointer_modes.specs.Types.{CType, Int, Char, Struct, Pointer}
 use Rattle.ckc_core.specs.declared.program.Site.{Site}
 use Rattle.ckc_text.specs.declared.code.Code.{Code}
 use Rattle.ckc_text.specs.declared.code.Code.TheVariants.{C1, C2, C5}
@@ -15,13 +16,13 @@ use Rattle.ckc_core.specs.declared.program.PointerBounds.{PointerBounds}
 use Rattle.ckc_core.specs.Outcome.{Gives, Ends, Stuck, Unsound, Short, and_then}
 use Rattle.ckc_core.specs.States.{Value, Number, Null, At, Cell, Local, State, in_world, cell_at, same_type, has_type}
 use Rattle.ckc_core.specs.Bounds.{Pointed, Ends as EndsOf, with_ends, ends_from, ends_at, base_byte, term_value, is_valid}
-use Rattle.ckc_core.specs.Pointers.{number_given, checked_if, distance, lies_below, lies_up_to, are_within, cell_behind, pointer_if, pointer_at, reaches, ordered_if, ordered, not_null}
-use Rattle.ckc_core.specs.Steps.{Result, Flow, Next, Broke, Continued, Returned, value_if, value_in, place_if, load_at, asked, choose, store_if, store_over, store_at, leaves_zero, on_next, behind_turn}
-use Rattle.ckc_core.specs.Meaning.{sound_if, audit, cast_if, cast_within, cast_to, element, element_within, reached, summed, Target}
+use Rattle.ckc_core.specs.Pointers.{number_given, checked_if, distance, lies_in, lies_up_to, are_within, cell_behind, pointer_if, pointer_at, reaches, ordered_if, ordered, not_null, counted_if, read_as, byte_read, counted_from, counted as bytes_counted, bytes_of_block}
+use Rattle.ckc_core.specs.Steps.{is_zero, Result, Flow, Next, Broke, Continued, Returned, value_if, value_in, place_if, load_at, asked, choose, store_if, store_over, store_at, leaves_zero, on_next, behind_turn}
+use Rattle.ckc_core.specs.Meaning.{sound_if, audit, cast_if, cast_within, cast_to, element, element_within, end_kept, reached, storable_at, summed, length_of, Target}
 use Rattle.check_insertion.specs.ErasedMeaning as erased
 use Rattle.check_insertion.specs.declared.erased.Check.TheVariants as checks
 use Rattle.check_insertion.specs.Insert as insert
-use Rattle.check_insertion.specs.Insert.{access_checks, sum_checks, cast_checks, below_of, size_of}
+use Rattle.check_insertion.specs.Insert.{access_checks, sum_checks, cast_checks, within_of, store_end, size_of}
 use Rattle.ckc_core.proofs.Locals.{Keeps, keeps_on}
 use Rattle.check_insertion.specs.Keeps.{Follows}
 
@@ -194,33 +195,38 @@ within_stays test site (Some e) byte s next = by (test e byte)
 
 -- ---- elements
 
-within_on : (offset : ℕ) (site : Site) (n : ℤ) (block byte : ℕ) (ends : Option EndsOf) (size : ℕ) (s : State) → ((e : EndsOf) → ends ≡ Some e → e.size ≡ size)
-    → Follows (element_within offset site n (At block byte) ends s)
-    (and_then (and_then (erased.within lies_below site ends (pos byte +ℤ distance directions.Forward size n) s) (λ _ t. Gives (tt {0}) t)) (λ _ t. cell_behind None block (pos byte +ℤ distance directions.Forward size n) offset s))
-within_on offset site n block byte None size s same = tt
-within_on offset site n block byte (Some e) size s same =
+within_on : (terminated : Bool) (offset : ℕ) (site : Site) (n : ℤ) (block byte : ℕ) (ends : Option EndsOf) (size : ℕ) (s : State) → ((e : EndsOf) → ends ≡ Some e → e.size ≡ size)
+    → Follows (element_within terminated offset site n (At block byte) ends s)
+    (and_then (and_then (erased.within (lies_in terminated) site ends (pos byte +ℤ distance directions.Forward size n) s) (λ _ t. Gives (tt {0}) t)) (λ _ t. cell_behind None block (pos byte +ℤ distance directions.Forward size n) offset s))
+within_on terminated offset site n block byte None size s same = tt
+within_on terminated offset site n block byte (Some e) size s same =
     let x = pos byte +ℤ distance directions.Forward e.size n in
-    subst (λ k. Follows (element_within offset site n (At block byte) (Some e) s)
-    (and_then (and_then (erased.within lies_below site (Some e) (pos byte +ℤ distance directions.Forward k n) s) (λ _ t. Gives (tt {0}) t)) (λ _ t. cell_behind None block (pos byte +ℤ distance directions.Forward k n) offset s)))
-    (same e refl) (passed_if (lies_below e x) C2 site (cell_behind (Some site) block x offset s) (cell_behind None block x offset s) s (behind_on site block x offset s))
+    subst (λ k. Follows (element_within terminated offset site n (At block byte) (Some e) s)
+    (and_then (and_then (erased.within (lies_in terminated) site (Some e) (pos byte +ℤ distance directions.Forward k n) s) (λ _ t. Gives (tt {0}) t)) (λ _ t. cell_behind None block (pos byte +ℤ distance directions.Forward k n) offset s)))
+    (same e refl) (passed_if (lies_in terminated e x) C2 site (cell_behind (Some site) block x offset s) (cell_behind None block x offset s) s (behind_on site block x offset s))
 
 -- the step to an element of a pointer with these bounds
 abbrev step_of : Option PointerBounds → Direction → ℤ → erased.Step
 step_of bounds direction n = record { direction = direction; size = size_of bounds; number = n }
 
 -- an element behind its checks, by the bounds of its pointer
-element_here : (bounds : Option PointerBounds) (offset : ℕ) (site : Site) (n : ℤ) (v : Value) (s : State)
-    → Follows (element_within offset site n v (with_ends bounds v s.locals).ends s)
-    (and_then (erased.pass (step_of bounds directions.Forward n) (checks.NotNull site ∷ below_of bounds site) v s) (λ _ t. erased.far_element offset (step_of bounds directions.Forward n) v t))
-element_here bounds offset site n (Number z) s = tt
-element_here None offset site n Null s = refl
-element_here (Some b) offset site n Null s = refl
-element_here None offset site n (At block byte) s = tt
-element_here (Some b) offset site n (At block byte) s =
+element_here : (terminated : Bool) (bounds : Option PointerBounds) (offset : ℕ) (site : Site) (n : ℤ) (v : Value) (s : State)
+    → Follows (element_within terminated offset site n v (with_ends bounds v s.locals).ends s)
+    (and_then (erased.pass (step_of bounds directions.Forward n) (checks.NotNull site ∷ within_of terminated bounds site) v s) (λ _ t. erased.far_element offset (step_of bounds directions.Forward n) v t))
+element_here terminated bounds offset site n (Number z) s = tt
+element_here terminated None offset site n Null s = refl
+element_here terminated (Some b) offset site n Null s = refl
+element_here terminated None offset site n (At block byte) s = tt
+element_here false (Some b) offset site n (At block byte) s =
     let ends = ends_at b s.locals block byte in
     let x = pos byte +ℤ distance directions.Forward b.size n in
-    subst (λ o. Follows (element_within offset site n (At block byte) ends s) o) (within_stays lies_below site ends x s (λ t. cell_behind None block x offset t))
-    (within_on offset site n block byte ends b.size s (sized b s.locals block byte))
+    subst (λ o. Follows (element_within false offset site n (At block byte) ends s) o) (within_stays (lies_in false) site ends x s (λ t. cell_behind None block x offset t))
+    (within_on false offset site n block byte ends b.size s (sized b s.locals block byte))
+element_here true (Some b) offset site n (At block byte) s =
+    let ends = ends_at b s.locals block byte in
+    let x = pos byte +ℤ distance directions.Forward b.size n in
+    subst (λ o. Follows (element_within true offset site n (At block byte) ends s) o) (within_stays (lies_in true) site ends x s (λ t. cell_behind None block x offset t))
+    (within_on true offset site n block byte ends b.size s (sized b s.locals block byte))
 
 -- an access behind its checks, which come first
 pub reached_on : (which : core.Index) (bounds : Option PointerBounds) (offset : ℕ) (site : Site) (v : Value) (n : ℤ) (ls : List Local) (s : State) → s.locals ≡ ls
@@ -228,11 +234,42 @@ pub reached_on : (which : core.Index) (bounds : Option PointerBounds) (offset : 
     (and_then (erased.pass (erased.step_to (insert.index (size_of bounds) which) n) (access_checks bounds which site) v s) (λ _ t. erased.reached (insert.index (size_of bounds) which) offset (erased.step_to (insert.index (size_of bounds) which) n) v t))
 reached_on core.First bounds offset site v n ls s kept =
     subst (λ w. Follows (element offset site w s) (and_then (erased.pass (erased.no_step 1) (checks.NotNull site ∷ []) v s) (λ _ t. erased.element offset v t))) (sym (ends_aside bounds v ls)) (element_on offset site v s)
-reached_on (core.Element number) bounds offset site v n ls s kept =
+reached_on (core.Element number terminated) bounds offset site v n ls s kept =
     let step = step_of bounds directions.Forward n in
-    let right = and_then (erased.pass step (checks.NotNull site ∷ below_of bounds site) v s) (λ _ t. erased.far_element offset step v t) in
-    subst (λ xs. Follows (element_within offset site n (with_ends bounds v xs).value (with_ends bounds v xs).ends s) right) kept
-    (subst (λ w. Follows (element_within offset site n w (with_ends bounds v s.locals).ends s) right) (sym (ends_aside bounds v s.locals)) (element_here bounds offset site n v s))
+    let right = and_then (erased.pass step (checks.NotNull site ∷ within_of terminated bounds site) v s) (λ _ t. erased.far_element offset step v t) in
+    subst (λ xs. Follows (element_within terminated offset site n (with_ends bounds v xs).value (with_ends bounds v xs).ends s) right) kept
+    (subst (λ w. Follows (element_within terminated offset site n w (with_ends bounds v s.locals).ends s) right) (sym (ends_aside bounds v s.locals)) (element_here terminated bounds offset site n v s))
+
+-- ---- stores at the upper end
+
+end_on : (site : Site) (n : ℤ) (v : Value) (block byte : ℕ) (ends : Option EndsOf) (size : ℕ) (s : State) → ((e : EndsOf) → ends ≡ Some e → e.size ≡ size)
+    → Follows (end_kept site n v (At block byte) ends s) (erased.kept_at site ends (pos byte +ℤ distance directions.Forward size n) v s)
+end_on site n v block byte None size s sized = tt
+end_on site n v block byte (Some e) size s sized =
+    subst (λ k. Follows (end_kept site n v (At block byte) (Some e) s) (erased.kept_at site (Some e) (pos byte +ℤ distance directions.Forward k n) v s)) (sized e refl) (same _)
+
+end_here : (bounds : Option PointerBounds) (which : core.Index) (site : Site) (n : ℤ) (w v : Value) (s : State)
+    → Follows (storable_at which site (record { pointer = record { value = w; ends = (with_ends bounds w s.locals).ends }; number = n }) v s)
+    (erased.storable (erased.step_to (insert.index (size_of bounds) which) n) (store_end bounds which site) w v s)
+end_here bounds core.First site n w v s = refl
+end_here bounds (core.Element number false) site n w v s = refl
+end_here None (core.Element number true) site n (Number z) v s = tt
+end_here None (core.Element number true) site n Null v s = tt
+end_here None (core.Element number true) site n (At block byte) v s = tt
+end_here (Some b) (core.Element number true) site n (Number z) v s = tt
+end_here (Some b) (core.Element number true) site n Null v s = tt
+end_here (Some b) (core.Element number true) site n (At block byte) v s =
+    end_on site n v block byte (ends_at b s.locals block byte) b.size s (sized b s.locals block byte)
+
+-- what may be stored at a place, by the bounds of its pointer
+pub storable_on : (which : core.Index) (bounds : Option PointerBounds) (site : Site) (w : Value) (n : ℤ) (v : Value) (ls : List Local) (s : State) → s.locals ≡ ls
+    → Follows (storable_at which site (record { pointer = with_ends bounds w ls; number = n }) v s)
+    (erased.storable (erased.step_to (insert.index (size_of bounds) which) n) (store_end bounds which site) w v s)
+storable_on which bounds site w n v ls s kept =
+    let right = erased.storable (erased.step_to (insert.index (size_of bounds) which) n) (store_end bounds which site) w v s in
+    subst (λ xs. Follows (storable_at which site (record { pointer = with_ends bounds w xs; number = n }) v s) right) kept
+    (subst (λ x. Follows (storable_at which site (record { pointer = record { value = x; ends = (with_ends bounds w s.locals).ends }; number = n }) v s) right) (sym (ends_aside bounds w s.locals))
+    (end_here bounds which site n w v s))
 
 -- ---- sums
 
@@ -262,6 +299,61 @@ pub summed_on : (bounds : Option PointerBounds) (direction : Direction) (site : 
     → Follows (summed direction site n v (with_ends bounds v ls).ends s) (and_then (erased.pass (step_of bounds direction n) (sum_checks bounds site) v s) (λ _ t. erased.moved (step_of bounds direction n) v t))
 summed_on bounds direction site n v ls s kept =
     subst (λ xs. Follows (summed direction site n v (with_ends bounds v xs).ends s) (and_then (erased.pass (step_of bounds direction n) (sum_checks bounds site) v s) (λ _ t. erased.moved (step_of bounds direction n) v t))) kept (summed_here bounds direction site n v s)
+
+-- ---- lengths
+
+counted_on : (more budget : ℕ) (site site' : Option Site) (block byte n : ℕ) (s : State) → Follows (counted_from more budget site block byte n s) (counted_from more budget site' block byte n s)
+counted_on zero budget site site' block byte n s = tt
+counted_on (suc more) budget site site' block byte n s =
+    asked_on (spend_tick budget s.world) s _ _
+    (λ _ t. read_on (cell_at t.blocks block byte) (counted_from more budget site block (byte + 1) (n + 1) t) (counted_from more budget site' block (byte + 1) (n + 1) t) t
+    (counted_on more budget site site' block (byte + 1) (n + 1) t))
+  where
+    zero_on : (test : Bool) (more more' : Result Value) (t : State) → Follows more more' → Follows (counted_if test site n more t) (counted_if test site' n more' t)
+    zero_on true more more' t h = refl
+    zero_on false more more' t h = h
+
+    as_on : (type : CType) (v : Value) (more more' : Result Value) (t : State) → Follows more more' → Follows (read_as type v site n more t) (read_as type v site' n more' t)
+    as_on Int v more more' t h = tt
+    as_on Char (Number z) more more' t h = zero_on (is_zero (Number z)) more more' t h
+    as_on Char Null more more' t h = tt
+    as_on Char (At other at) more more' t h = tt
+    as_on (Struct number) v more more' t h = tt
+    as_on (Pointer mode kind target) v more more' t h = tt
+
+    read_on : (o : Option Cell) (more more' : Result Value) (t : State) → Follows more more' → Follows (byte_read o site n more t) (byte_read o site' n more' t)
+    read_on None more more' t h = tt
+    read_on (Some cell) more more' t h = as_on cell.type cell.value more more' t h
+
+length_here : (bounds : Option PointerBounds) (budget : ℕ) (site : Site) (v : Value) (s : State)
+    → Follows (length_of budget site v (with_ends bounds v s.locals).ends s)
+    (and_then (erased.pass (erased.no_step (size_of bounds)) (sum_checks bounds site) v s) (λ _ t. erased.length_from budget v t))
+length_here bounds budget site (Number z) s = tt
+length_here None budget site Null s = refl
+length_here (Some b) budget site Null s = refl
+length_here None budget site (At block byte) s = tt
+length_here (Some b) budget site (At block byte) s =
+    let ends = ends_at b s.locals block byte in
+    let x = pos byte +ℤ distance directions.Forward b.size (pos 0) in
+    subst (λ o. Follows (length_of budget site (At block byte) ends s) o) (within_stays lies_up_to site ends x s (λ t. bytes_counted budget None block byte t))
+    (length_within ends)
+  where
+    -- no step leads to where the pointer stands
+    stands : pos byte +ℤ distance directions.Forward b.size (pos 0) ≡ pos byte
+    stands = omega (arith, ints)
+
+    length_within : (ends : Option EndsOf) → Follows (length_of budget site (At block byte) ends s)
+        (and_then (and_then (erased.within lies_up_to site ends (pos byte +ℤ distance directions.Forward b.size (pos 0)) s) (λ _ t. Gives (tt {0}) t)) (λ _ t. bytes_counted budget None block byte s))
+    length_within None = tt
+    length_within (Some e) =
+        subst (λ x. Follows (length_of budget site (At block byte) (Some e) s) (and_then (and_then (erased.within lies_up_to site (Some e) x s) (λ _ t. Gives (tt {0}) t)) (λ _ t. bytes_counted budget None block byte s))) (sym stands)
+        (passed_if (lies_up_to e (pos byte)) C2 site (bytes_counted budget (Some site) block byte s) (bytes_counted budget None block byte s) s
+        (counted_on (suc (bytes_of_block (slice_get s.blocks block))) budget (Some site) None block byte 0 s))
+
+pub length_on : (bounds : Option PointerBounds) (budget : ℕ) (site : Site) (v : Value) (s : State)
+    → Follows (length_of budget site v (with_ends bounds v s.locals).ends s)
+    (and_then (erased.pass (erased.no_step (size_of bounds)) (sum_checks bounds site) v s) (λ _ t. erased.length_from budget v t))
+length_on bounds budget site v s = length_here bounds budget site v s
 
 -- ---- order
 
@@ -299,7 +391,7 @@ contained_on site v old new s = by (are_within old new)
 
 -- the new bounds, counted in elements of the old ones
 abbrev recounted : PointerBounds → PointerBounds → PointerBounds
-recounted old new = record { bounds = new.bounds; size = old.size; site = new.site }
+recounted old new = record { bounds = new.bounds; size = old.size; terminated = false; site = new.site }
 
 cast_here : (old new : PointerBounds) (block byte : ℕ) (s : State) (o n : Option EndsOf) → ends_at old s.locals block byte ≡ o → ends_at new s.locals block byte ≡ n
     → Follows (cast_within new.site (At block byte) o n s) (and_then (and_then (erased.contained new.site o (ends_at (recounted old new) s.locals block byte) s) (λ _ t. Gives (tt {0}) t)) (λ _ t. Gives (At block byte) t))
@@ -312,7 +404,7 @@ cast_here old new block byte s (Some eo) (Some en) e e' = by (eo.size == en.size
     by false h = tt
     by true h =
         let same : new.size ≡ old.size = sym (sized new s.locals block byte en e') ∙ sym (eqb-true eo.size en.size h) ∙ sized old s.locals block byte eo e in
-        let there : ends_at (recounted old new) s.locals block byte ≡ Some en = ap (λ k. ends_at (record { bounds = new.bounds; size = k; site = new.site }) s.locals block byte) (sym same) ∙ e' in
+        let there : ends_at (recounted old new) s.locals block byte ≡ Some en = ap (λ k. ends_at (record { bounds = new.bounds; size = k; terminated = false; site = new.site }) s.locals block byte) (sym same) ∙ e' in
         subst (λ o. Follows (checked_if (are_within eo en) C5 new.site (Gives (At block byte) s) s) (and_then (and_then (erased.contained new.site (Some eo) o s) (λ _ t. Gives (tt {0}) t)) (λ _ t. Gives (At block byte) t))) (sym there)
         (contained_on new.site (At block byte) eo en s)
 

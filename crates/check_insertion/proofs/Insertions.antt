@@ -1,5 +1,5 @@
 -- A program with its checks inserted does what it means: an induction over the ticks, and over the tree.
-use Rattle.std.proofs.Common.{◌≡◌, ℕ, zero, suc, ◌+◌, Bool, true, false, List, [], ◌∷◌, map, length, replicate, Option, Some, None, refl, sym, ap, ◌∙◌, subst}
+use Rattle.std.proofs.Common.{◌≡◌, ℕ, ℤ, zero, suc, ◌+◌, Bool, true, false, List, [], ◌∷◌, map, length, replicate, Option, Some, None, refl, sym, ap, ◌∙◌, subst}
 use Rattle.std.specs.Prelude.{◌==◌, slice_get, option_map, pos}
 use Rattle.flat_bytes.specs.Blocks.{first_offset}
 use Rattle.act_words.specs.declared.settings.Settings.{Settings}
@@ -9,11 +9,12 @@ use Rattle.act_words.specs.Touches.{spend_tick, enter_call, next_input, touch, u
 use Rattle.ckc_core.specs.declared.program.Site.{Site}
 use Rattle.pointer_modes.specs.Types.{CType}
 use Rattle.ckc_core.specs.declared.program.Callee.{Callee}
+use Rattle.act_words.specs.declared.operator.Operator.{Operator}
 use Rattle.ckc_core.specs.declared.program.Callee.TheVariants as callees
 use Rattle.ckc_core.specs.Outcome.{Gives, Ends, Stuck, Unsound, Short, and_then}
 use Rattle.ckc_core.specs.Programs.{Import, ProgramOf, parted}
 use Rattle.ckc_core.specs.Core as core
-use Rattle.ckc_core.specs.States.{Value, At, State}
+use Rattle.ckc_core.specs.States.{Value, At, Local, State, cell_at}
 use Rattle.ckc_core.specs.Bounds.{Pointed, with_ends}
 use Rattle.ckc_core.specs.Steps.{Result, Flow, store_at, setting_of, given, place_at, variable_at, load_at, pointer_to, truth, same_place, test_given, arithmetic_of, compared, negated, complemented, low_byte_of, words_of, reply_as, back, passed, cross, cross_if, call_tainted, crossed, fit, parameters_of, takes, enter_if, called, result_given, set_local, kept_if, is_char, printed, put, no_result, answer, locals_for, exit, initial}
 use Rattle.ckc_core.specs.Meaning as meaning
@@ -24,8 +25,8 @@ use Rattle.check_insertion.specs.Erased as erased_language
 use Rattle.check_insertion.specs.Insert as insert
 use Rattle.check_insertion.specs.Insert.{access_checks, with_checks}
 use Rattle.check_insertion.specs.Keeps.{Follows, KeepsMeaning}
-use Rattle.check_insertion.proofs.Following.{FollowsBy, same, on, on_with, on_by, flat, given_on, number_kept, asked_on, chosen, next_on, turned_on, audit_on, ends_aside, reached_on, summed_on, ordered_on, cast_on, load_on, store_on}
-use Rattle.ckc_core.proofs.Locals.{Keeps, CallsKeep, back_keeps, value_keeps, index_keeps}
+use Rattle.check_insertion.proofs.Following.{FollowsBy, same, on, on_with, on_by, flat, given_on, number_kept, asked_on, chosen, next_on, turned_on, audit_on, ends_aside, reached_on, storable_on, length_on, summed_on, ordered_on, cast_on, load_on, store_on}
+use Rattle.ckc_core.proofs.Locals.{Keeps, CallsKeep, back_keeps, value_keeps, index_keeps, cell_keeps, reached_keeps, arithmetic_keeps, kept_keeps}
 
 -- a function of the core, with its checks
 pub function_there : (fs : List core.Function) (n : ℕ) → slice_get (map insert.function fs) n ≡ option_map insert.function (slice_get fs n)
@@ -137,11 +138,14 @@ module _ (audited : Bool) (program : ProgramOf core.Statements) (settings : Sett
       value_on (core.Order comparison left right site) s =
           on (meaning.value audited g k left s) (erased.value g' k' (insert.expression left) s) _ _ (value_on left s)
           (λ a t. on (meaning.value audited g k right t) (erased.value g' k' (insert.expression right) t) _ _ (value_on right t) (λ b u. ordered_on comparison site a b u))
-      value_on (core.Allocate count element bounds) s =
-          audit_on audited bounds _ (erased.value g' k' (insert.expression (core.Allocate count element bounds)) s)
+      value_on (core.Allocate count element terminated bounds) s =
+          audit_on audited bounds _ (erased.value g' k' (insert.expression (core.Allocate count element terminated bounds)) s)
           (on (and_then (meaning.value audited g k count s) (number_given None)) (and_then (erased.value g' k' (insert.expression count) s) (number_given None)) _ _
           (on (meaning.value audited g k count s) (erased.value g' k' (insert.expression count) s) (number_given None) (number_given None) (value_on count s) (λ v t. same (number_given None v t)))
-          (λ z t. same (allocated settings.trusted element z t)))
+          (λ z t. same (allocated settings.trusted terminated element z t)))
+      value_on (core.Length pointer site) s =
+          on (meaning.value audited g k pointer s) (erased.value g' k' (insert.expression pointer) s) _ _ (value_on pointer s)
+          (λ v t. length_on (bounds_of pointer) settings.budget site v t)
       value_on (core.Cast pointer bounds) s =
           audit_on audited bounds _ (erased.value g' k' (insert.expression (core.Cast pointer bounds)) s)
           (on (meaning.value audited g k pointer s) (erased.value g' k' (insert.expression pointer) s) _ _ (value_on pointer s) (λ v t. cast_on (bounds_of pointer) bounds v t))
@@ -161,7 +165,7 @@ module _ (audited : Bool) (program : ProgramOf core.Statements) (settings : Sett
 
       index_on : (size : ℕ) (which : core.Index) (s : State) → Follows (meaning.number_of audited g k which s) (erased.number_of g' k' (insert.index size which) s)
       index_on size core.First s = refl
-      index_on size (core.Element number) s =
+      index_on size (core.Element number terminated) s =
           on (meaning.value audited g k number s) (erased.value g' k' (insert.expression number) s) (number_given None) (number_given None) (value_on number s) (λ v t. same (number_given None v t))
 
     -- ---- statements
@@ -176,31 +180,50 @@ module _ (audited : Bool) (program : ProgramOf core.Statements) (settings : Sett
     variable_on (Unsound site t) = tt
     variable_on Short = refl
 
+    -- what follows the pointer and the index of an access follows what they are with its checks inserted
+    through_on : (pointer : core.Expression) (which : core.Index) (offset : ℕ) (site : Site) (rest : Target → State → Result Flow) (rest' : erased.Target → State → Result Flow) (s : State)
+        → ((v : Value) (n : ℤ) (ls : List Local) (t : State) → t.locals ≡ ls → Follows (rest (record { pointer = with_ends (bounds_of pointer) v ls; number = n }) t) (rest' (record { pointer = v; number = n }) t))
+        → Follows (and_then (meaning.target_of audited g k (core.Through pointer which offset site) s) rest) (and_then (erased.target_of g' k' (insert.place (core.Through pointer which offset site)) s) rest')
+    through_on pointer which offset site rest rest' s follows =
+        let size : ℕ = insert.size_of (bounds_of pointer) in
+        let target : Pointed → State → Result Target =
+        λ q t. and_then (meaning.number_of audited g k which t) (λ n u. Gives (record { pointer = q; number = n }) u) in
+        let target' : Value → State → Result erased.Target =
+        λ v t. and_then (erased.number_of g' k' (insert.index size which) t) (λ n u. Gives (record { pointer = v; number = n }) u) in
+        let left = flat (meaning.pointed audited g k pointer s) target rest
+        ∙ flat (meaning.value audited g k pointer s) (λ v t. Gives (with_ends (bounds_of pointer) v t.locals) t) (λ q t. and_then (target q t) rest) in
+        let right = flat (erased.value g' k' (insert.expression pointer) s) target' rest' in
+        subst (λ o. Follows o (and_then (erased.target_of g' k' (insert.place (core.Through pointer which offset site)) s) rest')) (sym left)
+        (subst (λ o. Follows (and_then (meaning.value audited g k pointer s) (λ v t. and_then (target (with_ends (bounds_of pointer) v t.locals) t) rest)) o) (sym right)
+        (on (meaning.value audited g k pointer s) (erased.value g' k' (insert.expression pointer) s) _ _ (value_on pointer s)
+        (λ v t.
+        subst (λ o. Follows o (and_then (target' v t) rest')) (sym (flat (meaning.number_of audited g k which t) (λ n u. Gives (record { pointer = with_ends (bounds_of pointer) v t.locals; number = n }) u) rest))
+        (subst (λ o. Follows (and_then (meaning.number_of audited g k which t) (λ n u. rest (record { pointer = with_ends (bounds_of pointer) v t.locals; number = n }) u)) o)
+        (sym (flat (erased.number_of g' k' (insert.index size which) t) (λ n u. Gives (record { pointer = v; number = n }) u) rest'))
+        (on_with (meaning.number_of audited g k which t) (erased.number_of g' k' (insert.index size which) t) _ _ t.locals (index_on size which t) (index_keeps audited g k follow.keeps t.locals which t refl)
+        (λ n u kept. follows v n t.locals u kept))))))
+
     -- a store, whose checks come behind its value
     store_through_on : (type : CType) (pointer : core.Expression) (which : core.Index) (offset : ℕ) (site : Site) (e : core.Expression) (s : State)
         → Follows (meaning.effect audited g k (core.Store type (core.Through pointer which offset site) e) s) (erased.effect g' k' (insert.statement (core.Store type (core.Through pointer which offset site) e)) s)
     store_through_on type pointer which offset site e s =
-        let p : core.Place = core.Through pointer which offset site in
-        let store : Target → State → Result Flow =
-        λ q t. and_then (meaning.value audited g k e t) (λ v u. and_then (place_from p q u) (λ place w. store_at type (site_of p) place v w)) in
-        let store' : erased.Target → State → Result Flow =
-        λ q t. and_then (erased.value g' k' (insert.expression e) t) (λ v u. and_then (erased.place_from (insert.place p) q u) (λ place w. store_at type None place v w)) in
-        let target : Pointed → State → Result Target =
-        λ q t. and_then (meaning.number_of audited g k which t) (λ n u. Gives (record { pointer = q; number = n }) u) in
-        let target' : Value → State → Result erased.Target =
-        λ v t. and_then (erased.number_of g' k' (insert.index (insert.size_of (bounds_of pointer)) which) t) (λ n u. Gives (record { pointer = v; number = n }) u) in
-        let left = flat (meaning.pointed audited g k pointer s) target store
-        ∙ flat (meaning.value audited g k pointer s) (λ v t. Gives (with_ends (bounds_of pointer) v t.locals) t) (λ q t. and_then (target q t) store) in
-        let right = flat (erased.value g' k' (insert.expression pointer) s) target' store' in
-        subst (λ o. Follows o (erased.effect g' k' (insert.statement (core.Store type p e)) s)) (sym left)
-        (subst (λ o. Follows (and_then (meaning.value audited g k pointer s) (λ v t. and_then (target (with_ends (bounds_of pointer) v t.locals) t) store)) o) (sym right)
-        (on (meaning.value audited g k pointer s) (erased.value g' k' (insert.expression pointer) s) _ _ (value_on pointer s)
-        (λ v t.
-        subst (λ o. Follows o (and_then (target' v t) store')) (sym (flat (meaning.number_of audited g k which t) (λ n u. Gives (record { pointer = with_ends (bounds_of pointer) v t.locals; number = n }) u) store))
-        (subst (λ o. Follows (and_then (meaning.number_of audited g k which t) (λ n u. store (record { pointer = with_ends (bounds_of pointer) v t.locals; number = n }) u)) o) (sym (flat (erased.number_of g' k' (insert.index (insert.size_of (bounds_of pointer)) which) t) (λ n u. Gives (record { pointer = v; number = n }) u) store'))
-        (on_with (meaning.number_of audited g k which t) (erased.number_of g' k' (insert.index (insert.size_of (bounds_of pointer)) which) t) _ _ t.locals (index_on (insert.size_of (bounds_of pointer)) which t) (index_keeps audited g k follow.keeps t.locals which t refl)
-        (λ n u kept. on_with (meaning.value audited g k e u) (erased.value g' k' (insert.expression e) u) _ _ t.locals (value_on e u) (value_keeps audited g k follow.keeps t.locals e u kept)
-        (λ w x kept_still. on _ _ _ _ (reached_on which (bounds_of pointer) offset site v n t.locals x kept_still) (λ at y. store_on type (site_of p) None at w y))))))))
+        through_on pointer which offset site _ _ s
+        (λ v n ls u kept. on_with (meaning.value audited g k e u) (erased.value g' k' (insert.expression e) u) _ _ ls (value_on e u) (value_keeps audited g k follow.keeps ls e u kept)
+        (λ w x x_kept. on_with _ _ _ _ ls (reached_on which (bounds_of pointer) offset site v n ls x x_kept) (reached_keeps ls x x_kept which offset site (record { pointer = with_ends (bounds_of pointer) v ls; number = n }))
+        (λ at y y_kept. on _ _ _ _ (storable_on which (bounds_of pointer) site v n w ls y y_kept) (λ _ z. store_on type (Some site) None at w z))))
+
+    -- an update, whose checks come before it
+    update_through_on : (type : CType) (pointer : core.Expression) (which : core.Index) (offset : ℕ) (place_site : Site) (operator : Operator) (e : core.Expression) (site : Site) (s : State)
+        → Follows (meaning.effect audited g k (core.Update type (core.Through pointer which offset place_site) operator e site) s)
+        (erased.effect g' k' (insert.statement (core.Update type (core.Through pointer which offset place_site) operator e site)) s)
+    update_through_on type pointer which offset place_site operator e site s =
+        through_on pointer which offset place_site _ _ s
+        (λ v n ls t kept. on_with _ _ _ _ ls (reached_on which (bounds_of pointer) offset place_site v n ls t kept) (reached_keeps ls t kept which offset place_site (record { pointer = with_ends (bounds_of pointer) v ls; number = n }))
+        (λ at u u_kept. on_with (load_at type (Some site) at u) (load_at type None at u) _ _ ls (load_on type (Some site) None at u) (cell_keeps ls u u_kept type (Some site) (cell_at u.blocks at.0 at.1))
+        (λ old w w_kept. on_with (meaning.value audited g k e w) (erased.value g' k' (insert.expression e) w) _ _ ls (value_on e w) (value_keeps audited g k follow.keeps ls e w w_kept)
+        (λ a x x_kept. on_with (arithmetic_of operator site old a x) (arithmetic_of operator site old a x) _ _ ls (same (arithmetic_of operator site old a x)) (arithmetic_keeps ls x x_kept operator site old a)
+        (λ new y y_kept. on_with (kept_if (is_char type) new y) (kept_if (is_char type) new y) _ _ ls (same (kept_if (is_char type) new y)) (kept_keeps ls y y_kept (is_char type) new)
+        (λ last z z_kept. on _ _ _ _ (storable_on which (bounds_of pointer) place_site v n last ls z z_kept) (λ _ l. store_on type (Some site) None at last l)))))))
 
     mutual
       effect_on : (x : core.Statement) (s : State) → Follows (meaning.effect audited g k x s) (erased.effect g' k' (insert.statement x) s)
@@ -216,12 +239,14 @@ module _ (audited : Bool) (program : ProgramOf core.Statements) (settings : Sett
           on (given (slice_get s.locals local) s) (given (slice_get s.locals local) s) _ _ (same (given (slice_get s.locals local) s))
           (λ old t. on (meaning.value audited g k e t) (erased.value g' k' (insert.expression e) t) _ _ (value_on e t)
           (λ v u. same (and_then (arithmetic_of operator site old v u) (λ new w. and_then (kept_if char new w) (set_local local)))))
-      effect_on (core.Update type p operator e site) s =
-          on (meaning.place audited g k p s) (erased.place g' k' (insert.place p) s) _ _ (place_on p s)
-          (λ at t. on (load_at type (Some site) at t) (load_at type None at t) _ _ (load_on type (Some site) None at t)
-          (λ old u. on (meaning.value audited g k e u) (erased.value g' k' (insert.expression e) u) _ _ (value_on e u)
-          (λ v w. on (arithmetic_of operator site old v w) (arithmetic_of operator site old v w) _ _ (same (arithmetic_of operator site old v w))
-          (λ new x. on (kept_if (is_char type) new x) (kept_if (is_char type) new x) _ _ (same (kept_if (is_char type) new x)) (λ last y. store_on type (Some site) None at last y)))))
+      effect_on (core.Update type (core.Direct object offset) operator e site) s =
+          on_by bare (meaning.target_of audited g k (core.Direct object offset) s) (erased.target_of g' k' (erased_language.Direct object offset) s) _ _ (variable_on (variable_at g object offset s))
+          (λ q t. on (place_at None object offset t) (place_at None object offset t) _ _ (same (place_at None object offset t))
+          (λ at u. on (load_at type (Some site) at u) (load_at type None at u) _ _ (load_on type (Some site) None at u)
+          (λ old w. on (meaning.value audited g k e w) (erased.value g' k' (insert.expression e) w) _ _ (value_on e w)
+          (λ v x. on (arithmetic_of operator site old v x) (arithmetic_of operator site old v x) _ _ (same (arithmetic_of operator site old v x))
+          (λ new y. on (kept_if (is_char type) new y) (kept_if (is_char type) new y) _ _ (same (kept_if (is_char type) new y)) (λ last z. store_on type (Some site) None at last z))))))
+      effect_on (core.Update type (core.Through pointer which offset place_site) operator e site) s = update_through_on type pointer which offset place_site operator e site s
       effect_on (core.Evaluate e) s = on (meaning.value audited g k e s) (erased.value g' k' (insert.expression e) s) _ _ (value_on e s) (λ v t. refl)
       effect_on (core.CallAlone callee arguments) s =
           on (meaning.values audited g k arguments s) (erased.values g' k' (insert.arguments_of arguments) s) _ _ (values_on arguments s)

@@ -1,14 +1,15 @@
 -- With their checks, programs need as many words of the stack as before, and have at most twice as many nodes.
-use Rattle.std.proofs.Common.{◌≡◌, ℕ, ◌+◌, ◌*◌, ◌≤◌, length, Option, Some, None, refl, arith}
+use Rattle.std.proofs.Common.{◌≡◌, ℕ, ◌+◌, ◌*◌, ◌≤◌, length, Bool, true, false, Option, Some, None, refl, arith}
 use Rattle.ckc_core.specs.declared.program.PointerBounds.{PointerBounds}
 use Rattle.ckc_core.specs.declared.program.Site.{Site}
+use Rattle.check_insertion.specs.declared.erased.Reading.{Reading}
 use Rattle.ckc_core.specs.Meaning.{bounds_of}
 use Rattle.ckc_core.specs.Core as core
 use Rattle.ckc_core.specs.Stacks as stacks
 use Rattle.ckc_core.specs.Weights as weights
-use Rattle.check_insertion.specs.Insert.{expression, arguments_of, place, index, size_of, below_of, up_to_of, cast_checks, statement, statements, function}
-use Rattle.check_insertion.specs.Stacks.{expression_stack, arguments_stack, place_stack, index_stack, store_stack, statement_stack, statements_stack, body_stack}
-use Rattle.check_insertion.specs.Weights.{expression_weight, arguments_weight, place_weight, index_weight, statement_weight, statements_weight}
+use Rattle.check_insertion.specs.Insert.{expression, arguments_of, place, index, size_of, within_of, store_end, end_of, up_to_of, cast_checks, statement, statements, function}
+use Rattle.check_insertion.specs.Stacks.{expression_stack, arguments_stack, place_stack, index_stack, store_stack, update_stack, statement_stack, statements_stack, body_stack}
+use Rattle.check_insertion.specs.Weights.{end_weight, expression_weight, arguments_weight, place_weight, index_weight, statement_weight, statements_weight}
 
 -- ---- words of the stack
 
@@ -32,7 +33,8 @@ mutual
   same_stack core.NextInput = refl
   same_stack (core.Sum pointer direction number site bounds) = rw (same_stack pointer, same_stack number) refl
   same_stack (core.Order comparison left right site) = rw (same_stack left, same_stack right) refl
-  same_stack (core.Allocate count element bounds) = same_stack count
+  same_stack (core.Allocate count element terminated bounds) = same_stack count
+  same_stack (core.Length pointer site) = rw (same_stack pointer) refl
   same_stack (core.Cast pointer bounds) = rw (same_stack pointer) refl
 
   same_arguments : (es : core.Arguments) → arguments_stack (arguments_of es) ≡ stacks.arguments_stack es
@@ -45,12 +47,22 @@ mutual
 
   same_index : (size : ℕ) (which : core.Index) → index_stack (index size which) ≡ stacks.index_stack which
   same_index size core.First = refl
-  same_index size (core.Element number) = rw (same_stack number) refl
+  same_index size (core.Element number terminated) = rw (same_stack number) refl
 
 same_store : (p : core.Place) (e : core.Expression) → store_stack (place p) (expression e) ≡ stacks.store_stack p e
 same_store (core.Direct object offset) e = rw (same_stack e) refl
 same_store (core.Through pointer core.First offset site) e = rw (same_stack pointer, same_stack e) refl
-same_store (core.Through pointer (core.Element number) offset site) e = rw (same_stack pointer, same_stack number, same_stack e) refl
+same_store (core.Through pointer (core.Element number terminated) offset site) e = rw (same_stack pointer, same_stack number, same_stack e) refl
+
+same_element : (bounds : Option PointerBounds) (which : core.Index) (site : Site) (value : ℕ) → update_stack (store_end bounds which site) value ≡ stacks.element_stack bounds which value
+same_element bounds core.First site value = refl
+same_element bounds (core.Element number false) site value = refl
+same_element None (core.Element number true) site value = refl
+same_element (Some b) (core.Element number true) site value = refl
+
+same_update : (p : core.Place) (value : ℕ) → update_stack (end_of p) value ≡ stacks.update_stack p value
+same_update (core.Direct object offset) value = refl
+same_update (core.Through pointer which offset site) value = same_element (bounds_of pointer) which site value
 
 mutual
   same_statement : (x : core.Statement) → statement_stack (statement x) ≡ stacks.statement_stack x
@@ -58,7 +70,7 @@ mutual
   same_statement (core.SetLocal local value) = same_stack value
   same_statement (core.Store type p value) = same_store p value
   same_statement (core.UpdateLocal char local operator value site) = rw (same_stack value) refl
-  same_statement (core.Update type p operator value site) = rw (same_place p, same_stack value) refl
+  same_statement (core.Update type p operator value site) = rw (same_place p, same_stack value, same_update p (stacks.expression_stack value)) refl
   same_statement (core.Evaluate value) = same_stack value
   same_statement (core.CallAlone callee arguments) = same_arguments arguments
   same_statement (core.Print number) = same_stack number
@@ -80,9 +92,13 @@ same_body f = rw (same_statements f.body) refl
 
 -- ---- nodes
 
-one_below : (bounds : Option PointerBounds) (site : Site) → length (below_of bounds site) ≤ 1
-one_below None site = omega arith
-one_below (Some b) site = omega arith
+one_within : (terminated : Bool) (bounds : Option PointerBounds) (site : Site) → length (within_of terminated bounds site) ≤ 1
+one_within terminated None site = omega arith
+one_within terminated (Some b) site = omega arith
+
+one_end : (o : Option Reading) → end_weight o ≤ 1
+one_end None = omega arith
+one_end (Some r) = omega arith
 
 one_up_to : (bounds : Option PointerBounds) (site : Site) → length (up_to_of bounds site) ≤ 1
 one_up_to None site = omega arith
@@ -113,7 +129,8 @@ mutual
   few_nodes core.NextInput = omega arith
   few_nodes (core.Sum pointer direction number site bounds) = omega (arith, few_nodes pointer, few_nodes number, one_up_to (bounds_of pointer) site)
   few_nodes (core.Order comparison left right site) = omega (arith, few_nodes left, few_nodes right)
-  few_nodes (core.Allocate count element bounds) = omega (arith, few_nodes count)
+  few_nodes (core.Allocate count element terminated bounds) = omega (arith, few_nodes count)
+  few_nodes (core.Length pointer site) = omega (arith, few_nodes pointer, one_up_to (bounds_of pointer) site)
   few_nodes (core.Cast pointer bounds) = omega (arith, few_nodes pointer, one_cast (bounds_of pointer) bounds)
 
   few_in_arguments : (es : core.Arguments) → arguments_weight (arguments_of es) ≤ 2 * weights.arguments_weight es
@@ -123,16 +140,16 @@ mutual
   few_in_place : (p : core.Place) → 1 + place_weight (place p) ≤ 2 * weights.place_weight p
   few_in_place (core.Direct object offset) = omega arith
   few_in_place (core.Through pointer core.First offset site) = omega (arith, few_nodes pointer)
-  few_in_place (core.Through pointer (core.Element number) offset site) =
-      omega (arith, few_nodes pointer, few_nodes number, one_below (bounds_of pointer) site)
+  few_in_place (core.Through pointer (core.Element number terminated) offset site) =
+      omega (arith, few_nodes pointer, few_nodes number, one_within terminated (bounds_of pointer) site)
 
 mutual
   few_in_statement : (x : core.Statement) → statement_weight (statement x) ≤ 2 * weights.statement_weight x
   few_in_statement core.Nothing = omega arith
   few_in_statement (core.SetLocal local value) = omega (arith, few_nodes value)
-  few_in_statement (core.Store type p value) = omega (arith, few_in_place p, few_nodes value)
+  few_in_statement (core.Store type p value) = omega (arith, few_in_place p, few_nodes value, one_end (end_of p))
   few_in_statement (core.UpdateLocal char local operator value site) = omega (arith, few_nodes value)
-  few_in_statement (core.Update type p operator value site) = omega (arith, few_in_place p, few_nodes value)
+  few_in_statement (core.Update type p operator value site) = omega (arith, few_in_place p, few_nodes value, one_end (end_of p))
   few_in_statement (core.Evaluate value) = omega (arith, few_nodes value)
   few_in_statement (core.CallAlone callee arguments) = omega (arith, few_in_arguments arguments)
   few_in_statement (core.Print number) = omega (arith, few_nodes number)

@@ -1,5 +1,5 @@
 -- Programs whose accesses have their checks, and whose pointers have no bounds.
-use Rattle.std.specs.Prelude.{ℕ, suc, Bool, List, [], ◌∷◌, map, option_map}
+use Rattle.std.specs.Prelude.{ℕ, suc, Bool, List, [], ◌∷◌, Option, map, option_map}
 use Rattle.std.proofs.Common.{ℤ}
 use Rattle.act_words.specs.declared.operator.Operator.{Operator}
 use Rattle.act_words.specs.declared.operator.Comparison.{Comparison}
@@ -11,6 +11,7 @@ use Rattle.ckc_core.specs.Programs.{FunctionOf, Initial, ProgramOf}
 use Rattle.ckc_core.specs.Core.{import_of, initial, object}
 use Rattle.check_insertion.specs.declared.erased as code
 use Rattle.check_insertion.specs.declared.erased.Check.{Check}
+use Rattle.check_insertion.specs.declared.erased.Reading.{Reading}
 use Rattle.check_insertion.specs.declared.erased.Expr.{Row_of-Expr, end_of-Expr, more_of-Expr}
 use Rattle.check_insertion.specs.declared.erased.Stmt.{Row_of-Stmt, end_of-Stmt, more_of-Stmt}
 use Rattle.check_insertion.specs.declared.erased.Expr.TheVariants as exprs
@@ -47,8 +48,10 @@ mutual
     Sum : (pointer : Expression) (direction : Direction) (number : Expression) (size : ℕ) (checks : List Check) → Expression
     -- the order of two pointers in one block, behind the checks of both
     Order : (comparison : Comparison) (left : Expression) (left_checks : List Check) (right : Expression) (right_checks : List Check) → Expression
-    -- a new block of so many elements, each with these cells, or null
-    Allocate : (count : Expression) (element : List Initial) → Expression
+    -- a new block of so many elements, each with these cells, or null; where it is null-terminated, of one more, which is 0
+    Allocate : (count : Expression) (element : List Initial) (terminated : Bool) → Expression
+    -- how many bytes stand before the first zero, from the one on that a pointer to elements of so many bytes leads to, behind its checks
+    Length : (pointer : Expression) (size : ℕ) (checks : List Check) → Expression
     -- a pointer to elements of so many bytes, behind its checks
     Cast : (pointer : Expression) (size : ℕ) (checks : List Check) → Expression
 
@@ -73,10 +76,11 @@ mutual
   pub data Statement : Type 0 where
     Nothing : Statement
     SetLocal : (local : ℕ) (value : Expression) → Statement
-    Store : (type : CType) (place : Place) (value : Expression) → Statement
+    -- where there is an end, nothing but 0 is stored at it (C3)
+    Store : (type : CType) (place : Place) (value : Expression) (end : Option Reading) → Statement
     -- the old value and an operator with another one; a local of type `char` keeps the result modulo 256
     UpdateLocal : (is_char : Bool) (local : ℕ) (operator : Operator) (value : Expression) (site : Site) → Statement
-    Update : (type : CType) (place : Place) (operator : Operator) (value : Expression) (site : Site) → Statement
+    Update : (type : CType) (place : Place) (operator : Operator) (value : Expression) (site : Site) (end : Option Reading) → Statement
     -- a value that is left
     Evaluate : (value : Expression) → Statement
     -- a call without a result
@@ -132,7 +136,8 @@ abbrev mutual
   expression (exprs.Sum' p pointer direction q number size checks) = Sum (expression pointer) direction (expression number) size checks.items
   expression (exprs.Order' comparison p left left_checks q right right_checks) =
       Order comparison (expression left) left_checks.items (expression right) right_checks.items
-  expression (exprs.Allocate' p count element) = Allocate (expression count) (map initial element.items)
+  expression (exprs.Allocate' p count element terminated) = Allocate (expression count) (map initial element.items) terminated
+  expression (exprs.Length' p pointer size checks) = Length (expression pointer) size checks.items
   expression (exprs.Cast' p pointer size checks) = Cast (expression pointer) size checks.items
 
   pub arguments : {m : _} → Row_of-Expr m → Arguments
@@ -157,9 +162,9 @@ abbrev mutual
   pub statement : code.Stmt.Stmt → Statement
   statement stmts.Nothing = Nothing
   statement (stmts.SetLocal local value) = SetLocal local (expression value)
-  statement (stmts.Store type cell value) = Store (ctype type) (place cell) (expression value)
+  statement (stmts.Store type cell value end) = Store (ctype type) (place cell) (expression value) end
   statement (stmts.UpdateLocal is_char local operator value site) = UpdateLocal is_char local operator (expression value) site
-  statement (stmts.Update type cell operator value site) = Update (ctype type) (place cell) operator (expression value) site
+  statement (stmts.Update type cell operator value site end) = Update (ctype type) (place cell) operator (expression value) site end
   statement (stmts.Evaluate value) = Evaluate (expression value)
   statement (stmts.CallAlone call) = CallAlone call.callee (arguments_of call.arguments.items)
   statement (stmts.Print number) = Print (expression number)

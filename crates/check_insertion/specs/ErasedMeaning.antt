@@ -1,7 +1,8 @@
 -- What a program with checks means: a check that fails ends the run at its site, and what no check keeps away is stuck.
-use Rattle.std.specs.Prelude.{ℕ, zero, suc, ◌+◌, pos, Bool, true, false, not, List, [], ◌∷◌, Option, Some, None, slice_get, replicate}
+use Rattle.std.specs.Prelude.{ℕ, zero, suc, ◌+◌, pos, Bool, true, false, not, ◌||◌, List, [], ◌∷◌, Option, Some, None, slice_get, replicate}
+use Rattle.std.specs.Ordering.{int_eq}
 use Rattle.std.proofs.Common.{ℤ, ◌+ℤ◌}
-use Rattle.ckc_text.specs.declared.code.Code.TheVariants.{C1, C2, C5}
+use Rattle.ckc_text.specs.declared.code.Code.TheVariants.{C1, C2, C3, C5}
 use Rattle.act_words.specs.declared.ending.Ending.TheVariants.{Check as Failed}
 use Rattle.act_words.specs.declared.settings.Settings.{Settings}
 use Rattle.act_words.specs.Acts.{Act}
@@ -19,9 +20,9 @@ use Rattle.ckc_core.specs.Bounds.{Ends as EndsOf, ends_at}
 use Rattle.ckc_core.specs.Steps.{Result, Flow, Next, Broke, Continued, Returned, KnotOf, SettingOf, setting_of}
 use Rattle.ckc_core.specs.Steps.{given, value_if, place_at, variable_at, load_at, pointer_to}
 use Rattle.ckc_core.specs.Steps.{truth, number_of_test, same_place, test_given, arithmetic_of, compared, negated, complemented, low_byte_of, asked, crossed}
-use Rattle.ckc_core.specs.Steps.{back, called, result_given, choose, store_at, set_local, kept_if, is_char, printed, put, on_next, behind_turn, no_result}
+use Rattle.ckc_core.specs.Steps.{back, called, result_given, choose, store_at, set_local, kept_if, is_char, is_zero, printed, put, on_next, behind_turn, no_result}
 use Rattle.ckc_core.specs.Steps.{fit, parameters_of, answer, locals_for, exit, initial}
-use Rattle.ckc_core.specs.Pointers.{number_given, checked_if, distance, lies_below, lies_up_to, are_within, cell_behind, pointer_at, ordered, allocated}
+use Rattle.ckc_core.specs.Pointers.{number_given, checked_if, distance, lies_below, lies_up_to, are_within, cell_behind, pointer_at, ordered, allocated, counted as bytes_counted}
 use Rattle.check_insertion.specs.declared.erased.Check.{Check}
 use Rattle.check_insertion.specs.declared.erased.Reading.{Reading}
 use Rattle.check_insertion.specs.declared.erased.Check.TheVariants as checks
@@ -51,7 +52,7 @@ no_step size = record { direction = directions.Forward; size = size; number = po
 
 -- the bounds of a check, counted in elements of so many bytes
 abbrev pub counted : Reading → ℕ → PointerBounds
-counted r size = record { bounds = r.bounds; size = size; site = r.site }
+counted r size = record { bounds = r.bounds; size = size; terminated = false; site = r.site }
 
 -- a byte lies as a test of the ends says (C2)
 abbrev pub within : (EndsOf → ℤ → Bool) → Site → Option EndsOf → ℤ → State → Result (Unit {0})
@@ -101,6 +102,24 @@ abbrev pub reached : erased.Index → ℕ → Step → Value → State → Resul
 reached erased.First offset step v s = element offset v s
 reached (erased.Element number size) offset step v s = far_element offset step v s
 
+-- how many bytes stand before the first zero, from the one on that a pointer leads to; each byte that is read costs a tick
+abbrev pub length_from : ℕ → Value → State → Result Value
+length_from budget (Number number) s = Stuck None s
+length_from budget Null s = Stuck None s
+length_from budget (At block byte) s = bytes_counted budget None block byte s
+
+-- a value that may be stored at a byte, where nothing but 0 is stored at the upper end (C3)
+abbrev pub kept_at : Site → Option EndsOf → ℤ → Value → State → Result (Unit {0})
+kept_at site None byte v s = Stuck (Some site) s
+kept_at site (Some e) byte v s = checked_if (is_zero v || not (int_eq byte e.high)) C3 site (Gives tt s) s
+
+-- the same a step from a pointer, by the locals at this moment
+abbrev pub storable : Step → Option Reading → Value → Value → State → Result (Unit {0})
+storable step None p v s = Gives tt s
+storable step (Some r) (Number number) v s = Stuck (Some r.site) s
+storable step (Some r) Null v s = Stuck (Some r.site) s
+storable step (Some r) (At block byte) v s = kept_at r.site (ends_at (counted r step.size) s.locals block byte) (pos byte +ℤ far step) v s
+
 -- a pointer a step on
 abbrev pub moved : Step → Value → State → Result Value
 moved step (Number number) s = Stuck None s
@@ -144,7 +163,9 @@ abbrev mutual
   value g k (erased.Order comparison left left_checks right right_checks) s =
       and_then (value g k left s) (λ a t. and_then (value g k right t) (λ b u. and_then (pass (no_step 1) left_checks a u)
       (λ _ w. and_then (pass (no_step 1) right_checks b w) (λ _ x. ordered comparison None a b x))))
-  value g k (erased.Allocate count element) s = and_then (and_then (value g k count s) (number_given None)) (allocated g.trusted element)
+  value g k (erased.Allocate count element terminated) s = and_then (and_then (value g k count s) (number_given None)) (allocated g.trusted terminated element)
+  value g k (erased.Length pointer size checks) s =
+      and_then (value g k pointer s) (λ v t. and_then (pass (no_step size) checks v t) (λ _ u. length_from g.budget v u))
   value g k (erased.Cast pointer size checks) s = and_then (value g k pointer s) (λ v t. and_then (pass (no_step size) checks v t) (λ _ u. Gives v u))
 
   -- the values of arguments, from left to right
@@ -181,19 +202,26 @@ place_from (erased.Direct object offset) t s = place_at None object offset s
 place_from (erased.Through pointer index offset checks) t s =
     and_then (pass (step_to index t.number) checks t.pointer s) (λ _ u. reached index offset (step_to index t.number) t.pointer u)
 
+-- the step from its pointer to a place
+abbrev pub step_from : erased.Place → Target → Step
+step_from (erased.Direct object offset) t = no_step 1
+step_from (erased.Through pointer index offset checks) t = step_to index t.number
+
 abbrev mutual
   -- the effect of a statement
   pub effect : Setting → Knot → erased.Statement → State → Result Flow
   effect g k erased.Nothing s = Gives Next s
   effect g k (erased.SetLocal local e) s = and_then (value g k e s) (set_local local)
-  effect g k (erased.Store type p e) s =
-      and_then (target_of g k p s) (λ q t. and_then (value g k e t) (λ v u. and_then (place_from p q u) (λ place w. store_at type None place v w)))
+  effect g k (erased.Store type p e end) s =
+      and_then (target_of g k p s) (λ q t. and_then (value g k e t) (λ v u. and_then (place_from p q u)
+      (λ at w. and_then (storable (step_from p q) end q.pointer v w) (λ _ x. store_at type None at v x))))
   effect g k (erased.UpdateLocal char local operator e site) s =
       and_then (given (slice_get s.locals local) s) (λ old t. and_then (value g k e t)
       (λ v u. and_then (arithmetic_of operator site old v u) (λ new w. and_then (kept_if char new w) (set_local local))))
-  effect g k (erased.Update type p operator e site) s =
-      and_then (place g k p s) (λ at t. and_then (load_at type None at t) (λ old u. and_then (value g k e u)
-      (λ v w. and_then (arithmetic_of operator site old v w) (λ new x. and_then (kept_if (is_char type) new x) (store_at type None at)))))
+  effect g k (erased.Update type p operator e site end) s =
+      and_then (target_of g k p s) (λ q t. and_then (place_from p q t) (λ at u. and_then (load_at type None at u) (λ old w. and_then (value g k e w)
+      (λ v x. and_then (arithmetic_of operator site old v x) (λ new y. and_then (kept_if (is_char type) new y)
+      (λ kept z. and_then (storable (step_from p q) end q.pointer kept z) (λ _ last. store_at type None at kept last)))))))
   effect g k (erased.Evaluate e) s = and_then (value g k e s) (λ _ t. Gives Next t)
   effect g k (erased.CallAlone callee arguments) s = and_then (values g k arguments s) (λ vs t. and_then (called g k callee vs t) no_result)
   effect g k (erased.Print e) s = and_then (value g k e s) printed

@@ -1,5 +1,5 @@
 -- The checks of a core, inserted: each access gets those that its pointer needs, at the site of the access.
-use Rattle.std.specs.Prelude.{ℕ, List, [], ◌∷◌, map, Option, Some, None}
+use Rattle.std.specs.Prelude.{ℕ, Bool, true, false, List, [], ◌∷◌, map, Option, Some, None}
 use Rattle.ckc_core.specs.declared.program.PointerBounds.{PointerBounds}
 use Rattle.ckc_core.specs.declared.program.Site.{Site}
 use Rattle.ckc_core.specs.Programs.{ProgramOf, parted}
@@ -15,10 +15,6 @@ use Rattle.check_insertion.specs.Erased.{Erased}
 abbrev pub read_at : PointerBounds → Site → Reading
 read_at b site = record { bounds = b.bounds; site = site }
 
-abbrev pub below_of : Option PointerBounds → Site → List Check
-below_of None site = []
-below_of (Some b) site = Below (read_at b site) ∷ []
-
 abbrev pub up_to_of : Option PointerBounds → Site → List Check
 up_to_of None site = []
 up_to_of (Some b) site = UpTo (read_at b site) ∷ []
@@ -28,10 +24,30 @@ abbrev pub size_of : Option PointerBounds → ℕ
 size_of None = 1
 size_of (Some b) = b.size
 
+-- that an element lies within bounds, or at the upper end where these are null-terminated
+abbrev pub within : Bool → Reading → Check
+within false r = Below r
+within true r = UpTo r
+
+abbrev pub within_of : Bool → Option PointerBounds → Site → List Check
+within_of terminated None site = []
+within_of terminated (Some b) site = within terminated (read_at b site) ∷ []
+
 -- what has to hold of a pointer with these bounds before an access: it isn't null (C1), and an element lies within them (C2)
 abbrev pub access_checks : Option PointerBounds → core.Index → Site → List Check
 access_checks bounds core.First site = NotNull site ∷ []
-access_checks bounds (core.Element number) site = NotNull site ∷ below_of bounds site
+access_checks bounds (core.Element number terminated) site = NotNull site ∷ within_of terminated bounds site
+
+-- the bounds at whose upper end nothing but 0 is stored (C3)
+abbrev pub store_end : Option PointerBounds → core.Index → Site → Option Reading
+store_end bounds core.First site = None
+store_end bounds (core.Element number false) site = None
+store_end None (core.Element number true) site = None
+store_end (Some b) (core.Element number true) site = Some (read_at b site)
+
+abbrev pub end_of : core.Place → Option Reading
+end_of (core.Direct object offset) = None
+end_of (core.Through pointer which offset site) = store_end (bounds_of pointer) which site
 
 -- and before it is moved
 abbrev pub sum_checks : Option PointerBounds → Site → List Check
@@ -64,7 +80,8 @@ abbrev mutual
   expression (core.Sum pointer direction number site bounds) =
       erased.Sum (expression pointer) direction (expression number) (size_of (bounds_of pointer)) (sum_checks (bounds_of pointer) site)
   expression (core.Order comparison left right site) = erased.Order comparison (expression left) (NotNull site ∷ []) (expression right) (NotNull site ∷ [])
-  expression (core.Allocate count element bounds) = erased.Allocate (expression count) element
+  expression (core.Allocate count element terminated bounds) = erased.Allocate (expression count) element terminated
+  expression (core.Length pointer site) = erased.Length (expression pointer) (size_of (bounds_of pointer)) (sum_checks (bounds_of pointer) site)
   expression (core.Cast pointer bounds) = erased.Cast (expression pointer) (size_of (bounds_of pointer)) (cast_checks (bounds_of pointer) bounds)
 
   pub arguments_of : core.Arguments → erased.Arguments
@@ -79,15 +96,15 @@ abbrev mutual
   -- an element of so many bytes
   pub index : ℕ → core.Index → erased.Index
   index size core.First = erased.First
-  index size (core.Element number) = erased.Element (expression number) size
+  index size (core.Element number terminated) = erased.Element (expression number) size
 
 abbrev mutual
   pub statement : core.Statement → erased.Statement
   statement core.Nothing = erased.Nothing
   statement (core.SetLocal local value) = erased.SetLocal local (expression value)
-  statement (core.Store type p value) = erased.Store type (place p) (expression value)
+  statement (core.Store type p value) = erased.Store type (place p) (expression value) (end_of p)
   statement (core.UpdateLocal is_char local operator value site) = erased.UpdateLocal is_char local operator (expression value) site
-  statement (core.Update type p operator value site) = erased.Update type (place p) operator (expression value) site
+  statement (core.Update type p operator value site) = erased.Update type (place p) operator (expression value) site (end_of p)
   statement (core.Evaluate value) = erased.Evaluate (expression value)
   statement (core.CallAlone callee arguments) = erased.CallAlone callee (arguments_of arguments)
   statement (core.Print number) = erased.Print (expression number)

@@ -1,5 +1,6 @@
 -- How many words the parts of a program have on the stack at most.
-use Rattle.std.specs.Prelude.{ℕ, zero, suc, ◌+◌, max}
+use Rattle.std.specs.Prelude.{ℕ, zero, suc, ◌+◌, max, Option, Some, None}
+use Rattle.check_insertion.specs.declared.erased.Reading.{Reading}
 use Rattle.check_insertion.specs.Erased as erased
 
 -- an offset is added to an address on the stack
@@ -27,7 +28,8 @@ abbrev mutual
   expression_stack erased.NextInput = 1
   expression_stack (erased.Sum pointer direction number size checks) = max (expression_stack pointer) (max (1 + expression_stack number) 6)
   expression_stack (erased.Order comparison left left_checks right right_checks) = max (expression_stack left) (max (1 + expression_stack right) 2)
-  expression_stack (erased.Allocate count element) = expression_stack count
+  expression_stack (erased.Allocate count element terminated) = expression_stack count
+  expression_stack (erased.Length pointer size checks) = max (expression_stack pointer) 6
   expression_stack (erased.Cast pointer size checks) = max (expression_stack pointer) 7
 
   pub arguments_stack : erased.Arguments → ℕ
@@ -53,13 +55,18 @@ abbrev pub store_stack : erased.Place → erased.Expression → ℕ
 store_stack (erased.Direct object offset) value = max (offset_stack offset) (1 + expression_stack value)
 store_stack (erased.Through pointer index offset checks) value = max (expression_stack pointer) (value_stack index value)
 
+-- an update has its address under the old value, and where it has an end, its pointer and its index, with the words of checks above
+abbrev pub update_stack : Option Reading → ℕ → ℕ
+update_stack None value = 2 + value
+update_stack (Some r) value = max 8 (3 + value)
+
 abbrev mutual
   pub statement_stack : erased.Statement → ℕ
   statement_stack erased.Nothing = 0
   statement_stack (erased.SetLocal local value) = expression_stack value
-  statement_stack (erased.Store type p value) = store_stack p value
+  statement_stack (erased.Store type p value end) = store_stack p value
   statement_stack (erased.UpdateLocal char local operator value site) = 1 + expression_stack value
-  statement_stack (erased.Update type p operator value site) = max (place_stack p) (2 + expression_stack value)
+  statement_stack (erased.Update type p operator value site end) = max (place_stack p) (update_stack end (expression_stack value))
   statement_stack (erased.Evaluate value) = expression_stack value
   statement_stack (erased.CallAlone callee arguments) = arguments_stack arguments
   statement_stack (erased.Print number) = expression_stack number

@@ -1,6 +1,7 @@
 -- How many nodes the parts of a program have. A node is an expression, a place, a check or a statement; a pointer to a place is one
 -- node with it.
-use Rattle.std.specs.Prelude.{ℕ, ◌+◌, length}
+use Rattle.std.specs.Prelude.{ℕ, ◌+◌, length, Option, Some, None}
+use Rattle.check_insertion.specs.declared.erased.Reading.{Reading}
 use Rattle.check_insertion.specs.Erased as erased
 
 abbrev mutual
@@ -24,7 +25,8 @@ abbrev mutual
   expression_weight (erased.Sum pointer direction number size checks) = 1 + length checks + expression_weight pointer + expression_weight number
   expression_weight (erased.Order comparison left left_checks right right_checks) =
       1 + length left_checks + length right_checks + expression_weight left + expression_weight right
-  expression_weight (erased.Allocate count element) = 1 + expression_weight count
+  expression_weight (erased.Allocate count element terminated) = 1 + expression_weight count
+  expression_weight (erased.Length pointer size checks) = 1 + length checks + expression_weight pointer
   expression_weight (erased.Cast pointer size checks) = 1 + length checks + expression_weight pointer
 
   pub arguments_weight : erased.Arguments → ℕ
@@ -39,13 +41,18 @@ abbrev mutual
   index_weight erased.First = 0
   index_weight (erased.Element number size) = expression_weight number
 
+-- the check of an end at which nothing but 0 is stored
+abbrev pub end_weight : Option Reading → ℕ
+end_weight None = 0
+end_weight (Some r) = 1
+
 abbrev mutual
   pub statement_weight : erased.Statement → ℕ
   statement_weight erased.Nothing = 1
   statement_weight (erased.SetLocal local value) = 1 + expression_weight value
-  statement_weight (erased.Store type p value) = 1 + place_weight p + expression_weight value
+  statement_weight (erased.Store type p value end) = 1 + end_weight end + place_weight p + expression_weight value
   statement_weight (erased.UpdateLocal char local operator value site) = 1 + expression_weight value
-  statement_weight (erased.Update type p operator value site) = 1 + place_weight p + expression_weight value
+  statement_weight (erased.Update type p operator value site end) = 1 + end_weight end + place_weight p + expression_weight value
   statement_weight (erased.Evaluate value) = 1 + expression_weight value
   statement_weight (erased.CallAlone callee arguments) = 1 + arguments_weight arguments
   statement_weight (erased.Print number) = 1 + expression_weight number

@@ -35,7 +35,8 @@ fn bounds_of(pointer: &Expr) -> Option<PointerBounds>
         | Expr::OrElse { .. }
         | Expr::LowByte(_)
         | Expr::NextInput
-        | Expr::Order { .. } => None,
+        | Expr::Order { .. }
+        | Expr::Length { .. } => None,
     }
 }
 
@@ -77,15 +78,42 @@ pub fn access_checks(
 {
     let mut checks = not_null(alloc, site)?;
     match (index, bounds_of(pointer)) {
-        (Index::Element(_), Some(bounds)) => {
-            checks.push(Check::Below(read_at(bounds, site)))?;
+        (Index::Element { terminated, .. }, Some(bounds)) => {
+            checks.push(within(*terminated, read_at(bounds, site)))?;
         }
-        (Index::Element(_), None) | (Index::First, _) => {}
+        (Index::Element { .. }, None) | (Index::First, _) => {}
     }
     Ok(checks)
 }
 
-/// What has to hold of a pointer before it is moved.
+// That an element lies within bounds, or at the upper end where these are null-terminated.
+fn within(terminated: bool, reading: Reading) -> Check
+    ensures { result ≡ insert.within terminated reading }
+{
+    if terminated {
+        Check::UpTo(reading)
+    } else {
+        Check::Below(reading)
+    }
+}
+
+/// The bounds at whose upper end nothing but 0 is stored, if there are any.
+pub fn store_end(pointer: &Expr, index: &Index, site: Site) -> Option<Reading>
+    ensures { result ≡ insert.store_end (bounds_of_expression (expression pointer.now)) (index_of index.now) site }
+{
+    match (index, bounds_of(pointer)) {
+        (
+            Index::Element {
+                terminated: true,
+                ..
+            },
+            Some(bounds),
+        ) => Some(read_at(bounds, site)),
+        (Index::Element { .. } | Index::First, _) => None,
+    }
+}
+
+/// What has to hold of a pointer before it is moved, or its bytes are counted.
 pub fn sum_checks(alloc: Global, pointer: &Expr, site: Site) -> Result<Vec<Check>, NoMemory>
     ensures { IfOk result (λ checks. checks.items ≡ insert.sum_checks (bounds_of_expression (expression pointer.now)) site) }
 {

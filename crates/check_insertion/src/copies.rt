@@ -61,8 +61,11 @@ fn object(alloc: Global, object: &Object) -> Result<Object, NoMemory>
     ensures { IfOk result (λ copy. object_of copy ≡ object_of object.now) }
 {
     let cells = cells(alloc, object.cells.as_slice())?;
-    let is_sealed = object.is_sealed;
-    Ok(Object { cells, is_sealed })
+    Ok(Object {
+        cells,
+        zero_ended: object.zero_ended,
+        is_sealed: object.is_sealed,
+    })
 }
 
 // A copy more, of the variable of this number.

@@ -103,10 +103,18 @@ pub enum Expr {
         right: Box<Expr>,
         right_checks: Vec<Check>,
     },
-    /// A new block of so many elements, each with these cells, or null.
+    /// A new block of so many elements, each with these cells, or null; where it is null-terminated, of one more, which is 0.
     Allocate {
         count: Box<Expr>,
         element: Vec<Initial>,
+        terminated: bool,
+    },
+    /// How many bytes stand before the first zero, from the one on that a pointer to elements of so many bytes leads to, behind
+    /// its checks.
+    Length {
+        pointer: Box<Expr>,
+        size: u32,
+        checks: Vec<Check>,
     },
     /// A pointer to elements of so many bytes, behind its checks.
     Cast {
@@ -149,10 +157,12 @@ pub enum Stmt {
         local: u32,
         value: Expr,
     },
+    /// Where there is an end, nothing but 0 is stored at it (C3).
     Store {
         ctype: CType,
         cell: CellPlace,
         value: Expr,
+        end: Option<Reading>,
     },
     /// The old value and an operator with another one. A local of type `char` keeps the result modulo 256.
     UpdateLocal {
@@ -168,6 +178,7 @@ pub enum Stmt {
         operator: Operator,
         value: Expr,
         site: Site,
+        end: Option<Reading>,
     },
     /// A value that is left.
     Evaluate(Expr),

@@ -67,7 +67,13 @@ pub fn expression(alloc: Global, expr: &program::Expr) -> Result<Expr, NoMemory>
             right,
             site,
         } => order(alloc, *comparison, left, right, *site),
-        program::Expr::Allocate { count, element, .. } => allocate(alloc, count, element),
+        program::Expr::Allocate {
+            count,
+            element,
+            terminated,
+            ..
+        } => allocate(alloc, count, element, *terminated),
+        program::Expr::Length { pointer, site } => length(alloc, pointer, *site),
         program::Expr::Cast { pointer, bounds } => cast(alloc, pointer, *bounds),
     }
 }
@@ -219,12 +225,36 @@ fn order(
 
 // A new block.
 #[cycle(expressions)]
-fn allocate(alloc: Global, count: &program::Expr, element: &[Initial]) -> Result<Expr, NoMemory>
-    ensures { IfOk result (λ e. erased.expression e ≡ erased.Allocate (insert.expression (core.expression count.now)) (map core.initial element.now)) }
+fn allocate(
+    alloc: Global,
+    count: &program::Expr,
+    element: &[Initial],
+    terminated: bool,
+) -> Result<Expr, NoMemory>
+    ensures { IfOk result (λ e. erased.expression e ≡ erased.Allocate (insert.expression (core.expression count.now)) (map core.initial element.now) terminated) }
 {
     let count = boxed(alloc, count)?;
     let element = cells(alloc, element)?;
-    Ok(Expr::Allocate { count, element })
+    Ok(Expr::Allocate {
+        count,
+        element,
+        terminated,
+    })
+}
+
+// How many bytes stand before the first zero, behind the checks of their pointer.
+#[cycle(expressions)]
+fn length(alloc: Global, pointer: &program::Expr, site: Site) -> Result<Expr, NoMemory>
+    ensures { IfOk result (λ e. erased.expression e ≡ erased.Length (insert.expression (core.expression pointer.now)) (insert.size_of (bounds_of (core.expression pointer.now))) (insert.sum_checks (bounds_of (core.expression pointer.now)) site)) }
+{
+    let checks = sum_checks(alloc, pointer, site)?;
+    let size = size_of(pointer);
+    let pointer = boxed(alloc, pointer)?;
+    Ok(Expr::Length {
+        pointer,
+        size,
+        checks,
+    })
 }
 
 // A pointer with other bounds, behind its checks.
@@ -303,7 +333,7 @@ fn index(alloc: Global, size: u32, which: &program::Index) -> Result<Index, NoMe
 {
     match which {
         program::Index::First => Ok(Index::First),
-        program::Index::Element(number) => Ok(Index::Element {
+        program::Index::Element { number, .. } => Ok(Index::Element {
             number: boxed(alloc, number)?,
             size,
         }),

@@ -6,7 +6,8 @@ ghost use Rattle.ckc_core.specs.Core as core;
 ghost use Rattle.check_insertion.specs.Erased as erased;
 ghost use Rattle.check_insertion.specs.Insert as insert;
 
-use crate::erased::{CellPlace, Stmt};
+use crate::checks::store_end;
+use crate::erased::{Reading, Stmt};
 use crate::expressions::{call, expression, place};
 use act_words::operator::Operator;
 use ckc_core::program;
@@ -24,6 +25,21 @@ fn set_local(alloc: Global, local: u32, value: &program::Expr) -> Result<Stmt, N
     Ok(Stmt::SetLocal { local, value })
 }
 
+// The bounds at whose upper end nothing but 0 is stored, if there are any.
+fn end_of(cell: &program::CellPlace) -> Option<Reading>
+    ensures { result ≡ insert.end_of (core.place cell.now) }
+{
+    match cell {
+        program::CellPlace::Direct { .. } => None,
+        program::CellPlace::Through {
+            pointer,
+            index,
+            site,
+            ..
+        } => store_end(pointer, index, *site),
+    }
+}
+
 // A new value of a cell.
 fn store(
     alloc: Global,
@@ -31,12 +47,18 @@ fn store(
     cell: &program::CellPlace,
     value: &program::Expr,
 ) -> Result<Stmt, NoMemory>
-    ensures { IfOk result (λ s. erased.statement s ≡ erased.Store (ctype_of ctype.now) (insert.place (core.place cell.now)) (insert.expression (core.expression value.now))) }
+    ensures { IfOk result (λ s. erased.statement s ≡ erased.Store (ctype_of ctype.now) (insert.place (core.place cell.now)) (insert.expression (core.expression value.now)) (insert.end_of (core.place cell.now))) }
 {
+    let end = end_of(cell);
     let cell = place(alloc, cell)?;
     let value = expression(alloc, value)?;
     let ctype = ctype.copy(alloc)?;
-    Ok(Stmt::Store { ctype, cell, value })
+    Ok(Stmt::Store {
+        ctype,
+        cell,
+        value,
+        end,
+    })
 }
 
 // The old value of a local variable and an operator with another one.
@@ -69,8 +91,9 @@ fn update(
     value: &program::Expr,
     site: Site,
 ) -> Result<Stmt, NoMemory>
-    ensures { IfOk result (λ s. erased.statement s ≡ erased.Update (ctype_of ctype.now) (insert.place (core.place cell.now)) operator (insert.expression (core.expression value.now)) site) }
+    ensures { IfOk result (λ s. erased.statement s ≡ erased.Update (ctype_of ctype.now) (insert.place (core.place cell.now)) operator (insert.expression (core.expression value.now)) site (insert.end_of (core.place cell.now))) }
 {
+    let end = end_of(cell);
     let cell = place(alloc, cell)?;
     let value = expression(alloc, value)?;
     let ctype = ctype.copy(alloc)?;
@@ -80,6 +103,7 @@ fn update(
         operator,
         value,
         site,
+        end,
     })
 }
 

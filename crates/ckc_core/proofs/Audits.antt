@@ -16,8 +16,8 @@ use Rattle.ckc_core.specs.Core as core
 use Rattle.ckc_core.specs.States.{Value, State, in_world}
 use Rattle.ckc_core.specs.Bounds.{with_ends, is_valid}
 use Rattle.ckc_core.specs.Steps.{Result, Flow, Next, Broke, Continued, Returned, setting_of, given, variable_at, load_at, pointer_to, truth, same_place, test_given, arithmetic_of, compared, negated, complemented, low_byte_of, words_of, reply_as, back, passed, cross, cross_if, call_tainted, crossed, fit, parameters_of, takes, enter_if, called, result_given, choose, store_at, set_local, kept_if, is_char, printed, put, on_next, behind_turn, no_result, answer, locals_for, exit, initial, asked}
-use Rattle.ckc_core.specs.Pointers.{number_given, distance, ordered, not_null, allocated}
-use Rattle.ckc_core.specs.Meaning.{Knot, Setting, sound_if, audit, site_of, bounds_of, cast_to, number_of, place_from, pointed, reached, summed, target_of, value, values, place, effect, effects, body_if, body_of, knot, run_from}
+use Rattle.ckc_core.specs.Pointers.{number_given, ordered, not_null, allocated}
+use Rattle.ckc_core.specs.Meaning.{Knot, Setting, sound_if, audit, site_of, bounds_of, cast_to, number_of, place_from, pointed, reached, storable, length_of, summed, target_of, value, values, place, effect, effects, body_if, body_of, knot, run_from}
 use Rattle.ckc_core.specs.Audits.{Agrees, AuditChangesNothing}
 
 same : {A : Type 0} (o : Result A) → Agrees o o
@@ -161,12 +161,15 @@ module _ (program : ProgramOf core.Statements) (settings : Settings) where
           on (value true g k left s) (value false g k' left s) _ _ (value_on left s)
           (λ a t. on (value true g k right t) (value false g k' right t) _ _ (value_on right t)
           (λ b u. same (and_then (not_null site a u) (λ _ w. and_then (not_null site b w) (λ _ x. ordered comparison (Some site) a b x)))))
-      value_on (core.Allocate count element bounds) s =
+      value_on (core.Allocate count element terminated bounds) s =
           on _ _ (audit true bounds) (audit false bounds)
-          (on (and_then (value true g k count s) (number_given None)) (and_then (value false g k' count s) (number_given None)) (allocated settings.trusted element) (allocated settings.trusted element)
+          (on (and_then (value true g k count s) (number_given None)) (and_then (value false g k' count s) (number_given None)) (allocated settings.trusted terminated element) (allocated settings.trusted terminated element)
           (on (value true g k count s) (value false g k' count s) (number_given None) (number_given None) (value_on count s) (λ v t. same (number_given None v t)))
-          (λ z t. same (allocated settings.trusted element z t)))
+          (λ z t. same (allocated settings.trusted terminated element z t)))
           (λ v t. audited_on bounds v t)
+      value_on (core.Length pointer site) s =
+          on (value true g k pointer s) (value false g k' pointer s) _ _ (value_on pointer s)
+          (λ v t. same (length_of settings.budget site v (with_ends (bounds_of pointer) v t.locals).ends t))
       value_on (core.Cast pointer bounds) s =
           on _ _ (audit true bounds) (audit false bounds)
           (on (value true g k pointer s) (value false g k' pointer s) _ _ (value_on pointer s)
@@ -188,7 +191,7 @@ module _ (program : ProgramOf core.Statements) (settings : Settings) where
 
       index_on : (index : core.Index) (s : State) → Agrees (number_of true g k index s) (number_of false g k' index s)
       index_on core.First s = refl
-      index_on (core.Element number) s =
+      index_on (core.Element number terminated) s =
           on (value true g k number s) (value false g k' number s) (number_given None) (number_given None) (value_on number s) (λ v t. same (number_given None v t))
 
     -- ---- statements
@@ -208,16 +211,18 @@ module _ (program : ProgramOf core.Statements) (settings : Settings) where
       effect_on (core.Store type p e) s =
           on (target_of true g k p s) (target_of false g k' p s) _ _ (target_on p s)
           (λ q t. on (value true g k e t) (value false g k' e t) _ _ (value_on e t)
-          (λ v u. same (and_then (place_from p q u) (λ at w. store_at type (site_of p) at v w))))
+          (λ v u. same (and_then (place_from p q u) (λ at w. and_then (storable p q v w) (λ _ x. store_at type (site_of p) at v x)))))
       effect_on (core.UpdateLocal char local operator e site) s =
           on (given (slice_get s.locals local) s) (given (slice_get s.locals local) s) _ _ (same (given (slice_get s.locals local) s))
           (λ old t. on (value true g k e t) (value false g k' e t) _ _ (value_on e t)
           (λ v u. same (and_then (arithmetic_of operator site old v u) (λ new w. and_then (kept_if char new w) (set_local local)))))
       effect_on (core.Update type p operator e site) s =
-          on (place true g k p s) (place false g k' p s) _ _ (place_on p s)
-          (λ at t. on (load_at type (Some site) at t) (load_at type (Some site) at t) _ _ (same (load_at type (Some site) at t))
-          (λ old u. on (value true g k e u) (value false g k' e u) _ _ (value_on e u)
-          (λ v w. same (and_then (arithmetic_of operator site old v w) (λ new x. and_then (kept_if (is_char type) new x) (store_at type (Some site) at))))))
+          on (target_of true g k p s) (target_of false g k' p s) _ _ (target_on p s)
+          (λ q t. on (place_from p q t) (place_from p q t) _ _ (same (place_from p q t))
+          (λ at u. on (load_at type (Some site) at u) (load_at type (Some site) at u) _ _ (same (load_at type (Some site) at u))
+          (λ old w. on (value true g k e w) (value false g k' e w) _ _ (value_on e w)
+          (λ v x. same (and_then (arithmetic_of operator site old v x) (λ new y. and_then (kept_if (is_char type) new y)
+          (λ kept z. and_then (storable p q kept z) (λ _ last. store_at type (Some site) at kept last))))))))
       effect_on (core.Evaluate e) s = on (value true g k e s) (value false g k' e s) _ _ (value_on e s) (λ v t. refl)
       effect_on (core.CallAlone callee arguments) s =
           on (values true g k arguments s) (values false g k' arguments s) _ _ (values_on arguments s)

@@ -1,6 +1,7 @@
 -- A meaning with as many ticks as its budget is never short of them: an induction over the meaning, with the ticks spent.
 use Rattle.std.proofs.Common.{◌≡◌, ℕ, zero, suc, ◌+◌, ◌*◌, ◌≤◌, Bool, true, false, ℤ, ◌+ℤ◌, List, [], length, replicate, Option, Some, None, refl, arith}
 use Rattle.std.specs.Prelude.{◌==◌, ◌&&◌, ◌||◌, not, nat_lt, slice_get, pos, negsuc}
+use Rattle.std.specs.Ordering.{int_eq}
 use Rattle.flat_bytes.specs.Blocks.{first_offset, is_refused}
 use Rattle.act_words.specs.declared.settings.Settings.{Settings}
 use Rattle.act_words.specs.Acts.{Act, Passed}
@@ -22,11 +23,11 @@ use Rattle.ckc_core.specs.declared.program.PointerBounds.{PointerBounds}
 use Rattle.ckc_core.specs.Bounds.{Ends as EndsOf, ends_at, Pointed, with_ends, is_valid}
 use Rattle.ckc_core.specs.Core as core
 use Rattle.ckc_core.specs.States.{Value, Number, Null, At, Cell, Local, State, in_world, cell_at, same_type, has_type}
-use Rattle.ckc_core.specs.Steps.{variable_if, variable_at, Result, Flow, Next, Broke, Continued, Returned, given, checked, value_if, value_in, load_at, place_if, pointer_to, truth, same_place, test_given, result_of, arithmetic_of, compared, negated, complemented, low_byte_of, asked, words_of, reply_as, passed, cross, cross_if, call_tainted, crossed, takes, enter_if, call_trusted, called, result_given, choose, store_if, store_over, store_at, set_local, kept_if, is_char, printed, put, on_next, behind_turn, no_result, answer, locals_for, back, exit, initial, place_at, set_if, set_over, leaves_zero, fit, parameters_of, fits_result, answer_if}
-use Rattle.ckc_core.specs.Meaning.{Knot, bounds_of, Setting, audit, body_if, body_of, cast_to, cast_if, cast_within, effect, effects, element, element_within, number_of, knot, run_of, place, place_from, pointed, Target, target_of, reached, site_of, sound_if, summed, value, values}
-use Rattle.ckc_core.specs.Pointers.{number_given, checked_if, distance, lies_below, lies_up_to, are_within, cell_behind, reaches, pointer_if, pointer_at, ordered_if, ordered, not_null, counter_behind, element_size, made_if, allocated}
+use Rattle.ckc_core.specs.Steps.{variable_if, is_zero, variable_at, Result, Flow, Next, Broke, Continued, Returned, given, checked, value_if, value_in, load_at, place_if, pointer_to, truth, same_place, test_given, result_of, arithmetic_of, compared, negated, complemented, low_byte_of, asked, words_of, reply_as, passed, cross, cross_if, call_tainted, crossed, takes, enter_if, call_trusted, called, result_given, choose, store_if, store_over, store_at, set_local, kept_if, is_char, printed, put, on_next, behind_turn, no_result, answer, locals_for, back, exit, initial, place_at, set_if, set_over, leaves_zero, fit, parameters_of, fits_result, answer_if}
+use Rattle.ckc_core.specs.Meaning.{Knot, bounds_of, Setting, audit, body_if, body_of, cast_to, cast_if, cast_within, effect, effects, element, element_within, length_of, end_kept, storable_at, storable, number_of, knot, run_of, place, place_from, pointed, Target, target_of, reached, site_of, sound_if, summed, value, values}
+use Rattle.ckc_core.specs.Pointers.{number_given, checked_if, distance, lies_in, lies_up_to, are_within, cell_behind, reaches, pointer_if, pointer_at, ordered_if, ordered, not_null, counter_behind, element_size, made_if, allocated, made_elements, counted_if, read_as, byte_read, counted_from, counted, bytes_of_block}
 use Rattle.ckc_text.specs.declared.code.Code.{Code}
-use Rattle.ckc_text.specs.declared.code.Code.TheVariants.{C2, C5}
+use Rattle.ckc_text.specs.declared.code.Code.TheVariants.{C2, C3, C5}
 use Rattle.ckc_core.proofs.Ticks.{HasSpent, Answers, Crosses, tick_answers, enter_answers, touch_answers, until_crosses, next_answers}
 
 -- from a state in which so many ticks were spent at least: no fewer were in the state behind a value, and it isn't short
@@ -117,16 +118,16 @@ module _ (budget : ℕ) where
     pointer_at_goes site block (pos byte) = pointer_goes_if (reaches (slice_get s.blocks block) byte) site block byte
     pointer_at_goes site block (negsuc byte) = tt
 
-    within_goes : (offset : ℕ) (site : Site) (n : ℤ) (v : Value) (ends : Option EndsOf) → Goes budget low (element_within offset site n v ends s)
-    within_goes offset site n (Number z) ends = tt
-    within_goes offset site n Null ends = tt
-    within_goes offset site n (At block byte) None = tt
-    within_goes offset site n (At block byte) (Some e) =
-        let x = pos byte +ℤ distance directions.Forward e.size n in checked_goes_if (lies_below e x) C2 site (cell_behind (Some site) block x offset s) (cell_behind_goes (Some site) block x offset)
+    within_goes : (terminated : Bool) (offset : ℕ) (site : Site) (n : ℤ) (v : Value) (ends : Option EndsOf) → Goes budget low (element_within terminated offset site n v ends s)
+    within_goes terminated offset site n (Number z) ends = tt
+    within_goes terminated offset site n Null ends = tt
+    within_goes terminated offset site n (At block byte) None = tt
+    within_goes terminated offset site n (At block byte) (Some e) =
+        let x = pos byte +ℤ distance directions.Forward e.size n in checked_goes_if (lies_in terminated e x) C2 site (cell_behind (Some site) block x offset s) (cell_behind_goes (Some site) block x offset)
 
     reached_goes : (index : core.Index) (offset : ℕ) (site : Site) (t : Target) → Goes budget low (reached index offset site t s)
     reached_goes core.First offset site t = element_goes offset site t.pointer.value
-    reached_goes (core.Element number) offset site t = within_goes offset site t.number t.pointer.value t.pointer.ends
+    reached_goes (core.Element number terminated) offset site t = within_goes terminated offset site t.number t.pointer.value t.pointer.ends
 
     summed_goes : (direction : Direction) (site : Site) (n : ℤ) (v : Value) (ends : Option EndsOf) → Goes budget low (summed direction site n v ends s)
     summed_goes direction site n (Number z) ends = tt
@@ -151,13 +152,31 @@ module _ (budget : ℕ) where
     ordered_goes comparison site (At block byte) Null = tt
     ordered_goes comparison site (At block byte) (At other byte') = ordered_goes_if (block == other) comparison site byte byte'
 
-    made_goes_if : (test : Bool) (n : ℕ) (element : List Initial) → Goes budget low (made_if test n element s)
-    made_goes_if true n element = spent
-    made_goes_if false n element = record { least = spent.least; most = spent.most }
+    made_goes_if : (test terminated : Bool) (n : ℕ) (element : List Initial) → Goes budget low (made_if test terminated n element s)
+    made_goes_if true terminated n element = spent
+    made_goes_if false terminated n element = record { least = spent.least; most = spent.most }
 
-    allocated_goes : (size : ℕ) (element : List Initial) (z : ℤ) → Goes budget low (allocated size element z s)
-    allocated_goes size element (negsuc n) = spent
-    allocated_goes size element (pos n) = made_goes_if (is_refused size (counter_behind first_offset s.blocks) (n * element_size element)) n element
+    allocated_goes : (size : ℕ) (terminated : Bool) (element : List Initial) (z : ℤ) → Goes budget low (allocated size terminated element z s)
+    allocated_goes size terminated element (negsuc n) = spent
+    allocated_goes size terminated element (pos zero) = spent
+    allocated_goes size terminated element (pos (suc n)) =
+        made_goes_if (is_refused size (counter_behind first_offset s.blocks) (made_elements terminated (suc n) * element_size element)) terminated (suc n) element
+
+    read_goes : (type : CType) (v : Value) (site : Option Site) (n : ℕ) (more : Result Value) → Goes budget low more → Goes budget low (read_as type v site n more s)
+    read_goes Int v site n more h = tt
+    read_goes Char (Number z) site n more h = counted_goes_if (is_zero (Number z)) site n more h
+      where
+        counted_goes_if : (test : Bool) (site : Option Site) (n : ℕ) (more : Result Value) → Goes budget low more → Goes budget low (counted_if test site n more s)
+        counted_goes_if true site n more h = spent
+        counted_goes_if false site n more h = h
+    read_goes Char Null site n more h = tt
+    read_goes Char (At block byte) site n more h = tt
+    read_goes (Struct number) v site n more h = tt
+    read_goes (Pointer mode kind target) v site n more h = tt
+
+    byte_read_goes : (o : Option Cell) (site : Option Site) (n : ℕ) (more : Result Value) → Goes budget low more → Goes budget low (byte_read o site n more s)
+    byte_read_goes None site n more h = tt
+    byte_read_goes (Some cell) site n more h = read_goes cell.type cell.value site n more h
 
     cast_goes_if : (test : Bool) (site : Site) (v : Value) (old new : EndsOf) → Goes budget low (cast_if test site v old new s)
     cast_goes_if true site v old new = checked_goes_if (are_within old new) C5 site (Gives v s) spent
@@ -294,6 +313,36 @@ module _ (budget : ℕ) where
     place_from_goes (core.Direct object offset) t = direct_goes None object offset
     place_from_goes (core.Through pointer index offset site) t = reached_goes index offset site t
 
+    end_goes : (site : Site) (n : ℤ) (v w : Value) (ends : Option EndsOf) → Goes budget low (end_kept site n v w ends s)
+    end_goes site n v (Number z) ends = tt
+    end_goes site n v Null ends = tt
+    end_goes site n v (At block byte) None = tt
+    end_goes site n v (At block byte) (Some e) =
+        checked_goes_if (is_zero v || not (int_eq (pos byte +ℤ distance directions.Forward e.size n) e.high)) C3 site (Gives tt s) spent
+
+    storable_goes : (p : core.Place) (t : Target) (v : Value) → Goes budget low (storable p t v s)
+    storable_goes (core.Direct object offset) t v = spent
+    storable_goes (core.Through pointer core.First offset site) t v = spent
+    storable_goes (core.Through pointer (core.Element number false) offset site) t v = spent
+    storable_goes (core.Through pointer (core.Element number true) offset site) t v = end_goes site t.number v t.pointer.value t.pointer.ends
+
+  -- each byte that is read costs a tick
+  counted_goes_from : (more low : ℕ) (site : Option Site) (block byte n : ℕ) (s : State) → HasSpent budget low s.world → Goes budget low (counted_from more budget site block byte n s)
+  counted_goes_from zero low site block byte n s spent = tt
+  counted_goes_from (suc more) low site block byte n s spent =
+      lowered low _
+      (asked_goes (suc low) (spend_tick budget s.world) s _ (tick_answers budget low s.world spent)
+      (λ _ t t_spent. byte_read_goes (suc low) t t_spent (cell_at t.blocks block byte) site n (counted_from more budget site block (byte + 1) (n + 1) t)
+      (counted_goes_from more (suc low) site block (byte + 1) (n + 1) t t_spent)))
+
+  length_goes : (low : ℕ) (site : Site) (v : Value) (ends : Option EndsOf) (s : State) → HasSpent budget low s.world → Goes budget low (length_of budget site v ends s)
+  length_goes low site (Number z) ends s spent = tt
+  length_goes low site Null ends s spent = tt
+  length_goes low site (At block byte) None s spent = tt
+  length_goes low site (At block byte) (Some e) s spent =
+      checked_goes_if low s spent (lies_up_to e (pos byte)) C2 site (counted budget (Some site) block byte s)
+      (counted_goes_from (suc (bytes_of_block (slice_get s.blocks block))) low (Some site) block byte 0 s spent)
+
   module _ (audited : Bool) (program : ProgramOf core.Statements) (sandbox_size trusted_size n : ℕ) where
     abbrev g : Setting
     g = record { program = program; budget = budget; sandbox = sandbox_size; trusted = trusted_size }
@@ -399,12 +448,15 @@ module _ (budget : ℕ) where
             (λ b u u_spent. goes_on low (not_null site a u) _ (not_null_goes low u u_spent site a)
             (λ _ w w_spent. goes_on low (not_null site b w) _ (not_null_goes low w w_spent site b)
             (λ _ x x_spent. ordered_goes low x x_spent comparison (Some site) a b))))
-        value_goes (core.Allocate count element bounds) low enough s spent =
+        value_goes (core.Allocate count element terminated bounds) low enough s spent =
             goes_on low _ (audit audited bounds)
-            (goes_on low (and_then (value audited g k count s) (number_given None)) (allocated trusted_size element)
+            (goes_on low (and_then (value audited g k count s) (number_given None)) (allocated trusted_size terminated element)
             (goes_on low (value audited g k count s) (number_given None) (value_goes count low enough s spent) (λ v t t_spent. number_goes low t t_spent None v))
-            (λ z t t_spent. allocated_goes low t t_spent trusted_size element z))
+            (λ z t t_spent. allocated_goes low t t_spent trusted_size terminated element z))
             (λ v t t_spent. audit_goes low t t_spent audited bounds v)
+        value_goes (core.Length pointer site) low enough s spent =
+            goes_on low (value audited g k pointer s) _ (value_goes pointer low enough s spent)
+            (λ v t t_spent. length_goes low site v (with_ends (bounds_of pointer) v t.locals).ends t t_spent)
         value_goes (core.Cast pointer bounds) low enough s spent =
             goes_on low _ (audit audited bounds)
             (goes_on low (value audited g k pointer s) _ (value_goes pointer low enough s spent)
@@ -426,7 +478,7 @@ module _ (budget : ℕ) where
 
         index_goes : (index : core.Index) (low : ℕ) (enough : budget ≤ low + n) (s : State) → HasSpent budget low s.world → Goes budget low (number_of audited g k index s)
         index_goes core.First low enough s spent = spent
-        index_goes (core.Element number) low enough s spent =
+        index_goes (core.Element number terminated) low enough s spent =
             goes_on low (value audited g k number s) (number_given None) (value_goes number low enough s spent) (λ v t t_spent. number_goes low t t_spent None v)
 
       pointed_goes : (e : core.Expression) (low : ℕ) (enough : budget ≤ low + n) (s : State) → HasSpent budget low s.world → Goes budget low (pointed audited g k e s)
@@ -454,18 +506,22 @@ module _ (budget : ℕ) where
         effect_goes (core.Store type p e) low enough s spent =
             goes_on low (target_of audited g k p s) _ (target_goes p low enough s spent)
             (λ q t t_spent. goes_on low (value audited g k e t) _ (value_goes e low enough t t_spent)
-            (λ v u u_spent. goes_on low (place_from p q u) _ (place_from_goes low u u_spent p q) (λ at w w_spent. store_goes low type (site_of p) at v w w_spent)))
+            (λ v u u_spent. goes_on low (place_from p q u) _ (place_from_goes low u u_spent p q)
+            (λ at w w_spent. goes_on low (storable p q v w) _ (storable_goes low w w_spent p q v) (λ _ x x_spent. store_goes low type (site_of p) at v x x_spent))))
         effect_goes (core.UpdateLocal char local operator e site) low enough s spent =
             goes_on low (given (slice_get s.locals local) s) _ (given_goes low s spent (slice_get s.locals local))
             (λ old t t_spent. goes_on low (value audited g k e t) _ (value_goes e low enough t t_spent)
             (λ v u u_spent. goes_on low (arithmetic_of operator site old v u) _ (arithmetic_goes low u u_spent operator site old v)
             (λ new w w_spent. goes_on low (kept_if char new w) (set_local local) (kept_goes low w w_spent char new) (λ last x x_spent. set_goes low local last x x_spent))))
         effect_goes (core.Update type p operator e site) low enough s spent =
-            goes_on low (place audited g k p s) _ (place_goes p low enough s spent)
-            (λ at t t_spent. goes_on low (load_at type (Some site) at t) _ (cell_goes low t t_spent type (Some site) (cell_at t.blocks at.0 at.1))
-            (λ old u u_spent. goes_on low (value audited g k e u) _ (value_goes e low enough u u_spent)
-            (λ v w w_spent. goes_on low (arithmetic_of operator site old v w) _ (arithmetic_goes low w w_spent operator site old v)
-            (λ new x x_spent. goes_on low (kept_if (is_char type) new x) (store_at type (Some site) at) (kept_goes low x x_spent (is_char type) new) (λ last y y_spent. store_goes low type (Some site) at last y y_spent)))))
+            goes_on low (target_of audited g k p s) _ (target_goes p low enough s spent)
+            (λ q t t_spent. goes_on low (place_from p q t) _ (place_from_goes low t t_spent p q)
+            (λ at u u_spent. goes_on low (load_at type (Some site) at u) _ (cell_goes low u u_spent type (Some site) (cell_at u.blocks at.0 at.1))
+            (λ old w w_spent. goes_on low (value audited g k e w) _ (value_goes e low enough w w_spent)
+            (λ v x x_spent. goes_on low (arithmetic_of operator site old v x) _ (arithmetic_goes low x x_spent operator site old v)
+            (λ new y y_spent. goes_on low (kept_if (is_char type) new y) _ (kept_goes low y y_spent (is_char type) new)
+            (λ kept z z_spent. goes_on low (storable p q kept z) _ (storable_goes low z z_spent p q kept)
+            (λ _ last last_spent. store_goes low type (Some site) at kept last last_spent)))))))
         effect_goes (core.Evaluate e) low enough s spent = goes_on low (value audited g k e s) _ (value_goes e low enough s spent) (λ v t t_spent. t_spent)
         effect_goes (core.CallAlone callee arguments) low enough s spent =
             goes_on low (values audited g k arguments s) _ (values_go arguments low enough s spent)

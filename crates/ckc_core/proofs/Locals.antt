@@ -1,33 +1,30 @@
 -- An expression leaves the locals as they are.
-use Rattle.std.proofs.Common.{◌≡◌, ℕ, zero, suc, ◌+◌, ◌*◌, ◌≤◌, Bool, true, false, ℤ, ◌+ℤ◌, List, [], length, replicate, Option, Some, None, refl, subst}
-use Rattle.std.specs.Prelude.{◌==◌, ◌&&◌, ◌||◌, not, nat_lt, slice_get, pos, negsuc}
+use Rattle.std.proofs.Common.{◌≡◌, ℕ, zero, suc, ◌+◌, ◌*◌, Bool, true, false, ℤ, ◌+ℤ◌, List, length, Option, Some, None, refl, subst}
+use Rattle.std.specs.Prelude.{◌==◌, ◌||◌, not, nat_lt, slice_get, pos, negsuc}
 use Rattle.flat_bytes.specs.Blocks.{first_offset, is_refused}
-use Rattle.act_words.specs.declared.settings.Settings.{Settings}
-use Rattle.act_words.specs.Acts.{Act, Passed}
+use Rattle.act_words.specs.Acts.{Passed}
 use Rattle.ckc_core.specs.Outcome.{Gives, Ends, Stuck, Unsound, Short, and_then}
 use Rattle.act_words.specs.Checks.{Checked, Holds, Fails, is_word_number}
 use Rattle.act_words.specs.Arithmetic as arithmetic
-use Rattle.act_words.specs.World.{new_world}
-use Rattle.act_words.specs.Touches.{Asked, Got, Ended, Crossed, spend_tick, enter_call, next_input, touch, until_return}
+use Rattle.act_words.specs.Touches.{Asked, Got, Ended, spend_tick, enter_call, next_input, touch}
 use Rattle.pointer_modes.specs.Types.{CType, Int, Char, Struct, Pointer}
 use Rattle.ckc_core.specs.declared.program.Site.{Site}
 use Rattle.act_words.specs.declared.operator.Operator.{Operator}
 use Rattle.act_words.specs.declared.operator.Comparison.{Comparison}
 use Rattle.ckc_core.specs.declared.program.Callee.{Callee}
 use Rattle.ckc_core.specs.declared.program.Callee.TheVariants as callees
-use Rattle.ckc_core.specs.Programs.{Import, Initial, ProgramOf, parted}
+use Rattle.ckc_core.specs.Programs.{Import, Initial}
 use Rattle.ckc_core.specs.declared.program.Direction.{Direction}
 use Rattle.ckc_core.specs.declared.program.Direction.TheVariants as directions
 use Rattle.ckc_core.specs.declared.program.PointerBounds.{PointerBounds}
 use Rattle.ckc_core.specs.Bounds.{Ends as EndsOf, ends_at, Pointed, with_ends, is_valid}
 use Rattle.ckc_core.specs.Core as core
-use Rattle.ckc_core.specs.States.{Value, Number, Null, At, Cell, Local, State, in_world, cell_at, same_type, has_type}
-use Rattle.ckc_core.specs.Steps.{variable_if, variable_at, Result, Flow, Next, Broke, Continued, Returned, given, checked, value_if, value_in, load_at, place_if, pointer_to, truth, same_place, test_given, result_of, arithmetic_of, compared, negated, complemented, low_byte_of, asked, words_of, reply_as, passed, cross, cross_if, call_tainted, crossed, takes, enter_if, call_trusted, called, result_given, choose, store_if, store_over, store_at, set_local, kept_if, is_char, printed, put, on_next, behind_turn, no_result, answer, locals_for, back, exit, initial, place_at, set_if, set_over, leaves_zero, fit, parameters_of, fits_result, answer_if}
-use Rattle.ckc_core.specs.Meaning.{Knot, bounds_of, Setting, audit, body_if, body_of, cast_to, cast_if, cast_within, effect, effects, element, element_within, number_of, knot, run_of, place, place_from, pointed, Target, target_of, reached, site_of, sound_if, summed, value, values}
-use Rattle.ckc_core.specs.Pointers.{number_given, checked_if, distance, lies_below, lies_up_to, are_within, cell_behind, reaches, pointer_if, pointer_at, ordered_if, ordered, not_null, counter_behind, element_size, made_if, allocated}
+use Rattle.ckc_core.specs.States.{Value, Number, Null, At, Cell, Local, State, in_world, cell_at, same_type}
+use Rattle.ckc_core.specs.Steps.{kept_if, variable_if, is_zero, Result, given, checked, value_if, value_in, load_at, place_if, pointer_to, truth, same_place, test_given, result_of, arithmetic_of, compared, negated, complemented, low_byte_of, asked, words_of, reply_as, passed, cross, cross_if, call_tainted, takes, enter_if, called, result_given, choose, back, place_at}
+use Rattle.ckc_core.specs.Meaning.{Knot, bounds_of, Setting, audit, cast_to, cast_if, cast_within, element, element_within, length_of, number_of, place, Target, reached, site_of, sound_if, summed, value, values}
+use Rattle.ckc_core.specs.Pointers.{number_given, checked_if, distance, lies_in, lies_up_to, are_within, cell_behind, reaches, pointer_if, pointer_at, ordered_if, ordered, not_null, counter_behind, element_size, made_if, allocated, made_elements, counted_if, read_as, byte_read, counted_from, counted, bytes_of_block}
 use Rattle.ckc_text.specs.declared.code.Code.{Code}
 use Rattle.ckc_text.specs.declared.code.Code.TheVariants.{C2, C5}
-use Rattle.ckc_core.proofs.Ticks.{HasSpent, Answers, Crosses, tick_answers, enter_answers, touch_answers, until_crosses, next_answers}
 
 -- what is given stands among these locals
 abbrev pub Keeps : List Local → {A : Type 0} → Result A → Type 0
@@ -73,7 +70,7 @@ module _ (ls : List Local) (s : State) (kept : s.locals ≡ ls) where
   value_keeps_if true site v = kept
   value_keeps_if false site v = tt
 
-  cell_keeps : (type : CType) (site : Option Site) (o : Option Cell) → Keeps ls (value_in type site o s)
+  pub cell_keeps : (type : CType) (site : Option Site) (o : Option Cell) → Keeps ls (value_in type site o s)
   cell_keeps type site None = tt
   cell_keeps type site (Some cell) = value_keeps_if (same_type type cell.type) site cell.value
 
@@ -114,16 +111,16 @@ module _ (ls : List Local) (s : State) (kept : s.locals ≡ ls) where
   pointer_at_keeps site block (pos byte) = pointer_keeps_if (reaches (slice_get s.blocks block) byte) site block byte
   pointer_at_keeps site block (negsuc byte) = tt
 
-  within_keeps : (offset : ℕ) (site : Site) (n : ℤ) (v : Value) (ends : Option EndsOf) → Keeps ls (element_within offset site n v ends s)
-  within_keeps offset site n (Number z) ends = tt
-  within_keeps offset site n Null ends = tt
-  within_keeps offset site n (At block byte) None = tt
-  within_keeps offset site n (At block byte) (Some e) =
-      let x = pos byte +ℤ distance directions.Forward e.size n in checked_keeps_if (lies_below e x) C2 site (cell_behind (Some site) block x offset s) (cell_behind_keeps (Some site) block x offset)
+  within_keeps : (terminated : Bool) (offset : ℕ) (site : Site) (n : ℤ) (v : Value) (ends : Option EndsOf) → Keeps ls (element_within terminated offset site n v ends s)
+  within_keeps terminated offset site n (Number z) ends = tt
+  within_keeps terminated offset site n Null ends = tt
+  within_keeps terminated offset site n (At block byte) None = tt
+  within_keeps terminated offset site n (At block byte) (Some e) =
+      let x = pos byte +ℤ distance directions.Forward e.size n in checked_keeps_if (lies_in terminated e x) C2 site (cell_behind (Some site) block x offset s) (cell_behind_keeps (Some site) block x offset)
 
-  reached_keeps : (index : core.Index) (offset : ℕ) (site : Site) (t : Target) → Keeps ls (reached index offset site t s)
+  pub reached_keeps : (index : core.Index) (offset : ℕ) (site : Site) (t : Target) → Keeps ls (reached index offset site t s)
   reached_keeps core.First offset site t = element_keeps offset site t.pointer.value
-  reached_keeps (core.Element number) offset site t = within_keeps offset site t.number t.pointer.value t.pointer.ends
+  reached_keeps (core.Element number terminated) offset site t = within_keeps terminated offset site t.number t.pointer.value t.pointer.ends
 
   summed_keeps : (direction : Direction) (site : Site) (n : ℤ) (v : Value) (ends : Option EndsOf) → Keeps ls (summed direction site n v ends s)
   summed_keeps direction site n (Number z) ends = tt
@@ -148,13 +145,31 @@ module _ (ls : List Local) (s : State) (kept : s.locals ≡ ls) where
   ordered_keeps comparison site (At block byte) Null = tt
   ordered_keeps comparison site (At block byte) (At other byte') = ordered_keeps_if (block == other) comparison site byte byte'
 
-  made_keeps_if : (test : Bool) (n : ℕ) (element : List Initial) → Keeps ls (made_if test n element s)
-  made_keeps_if true n element = kept
-  made_keeps_if false n element = kept
+  made_keeps_if : (test terminated : Bool) (n : ℕ) (element : List Initial) → Keeps ls (made_if test terminated n element s)
+  made_keeps_if true terminated n element = kept
+  made_keeps_if false terminated n element = kept
 
-  allocated_keeps : (size : ℕ) (element : List Initial) (z : ℤ) → Keeps ls (allocated size element z s)
-  allocated_keeps size element (negsuc n) = kept
-  allocated_keeps size element (pos n) = made_keeps_if (is_refused size (counter_behind first_offset s.blocks) (n * element_size element)) n element
+  allocated_keeps : (size : ℕ) (terminated : Bool) (element : List Initial) (z : ℤ) → Keeps ls (allocated size terminated element z s)
+  allocated_keeps size terminated element (negsuc n) = kept
+  allocated_keeps size terminated element (pos zero) = kept
+  allocated_keeps size terminated element (pos (suc n)) =
+      made_keeps_if (is_refused size (counter_behind first_offset s.blocks) (made_elements terminated (suc n) * element_size element)) terminated (suc n) element
+
+  read_keeps : (type : CType) (v : Value) (site : Option Site) (n : ℕ) (more : Result Value) → Keeps ls more → Keeps ls (read_as type v site n more s)
+  read_keeps Int v site n more h = tt
+  read_keeps Char (Number z) site n more h = counted_keeps_if (is_zero (Number z)) site n more h
+    where
+      counted_keeps_if : (test : Bool) (site : Option Site) (n : ℕ) (more : Result Value) → Keeps ls more → Keeps ls (counted_if test site n more s)
+      counted_keeps_if true site n more h = kept
+      counted_keeps_if false site n more h = h
+  read_keeps Char Null site n more h = tt
+  read_keeps Char (At block byte) site n more h = tt
+  read_keeps (Struct number) v site n more h = tt
+  read_keeps (Pointer mode kind target) v site n more h = tt
+
+  byte_read_keeps : (o : Option Cell) (site : Option Site) (n : ℕ) (more : Result Value) → Keeps ls more → Keeps ls (byte_read o site n more s)
+  byte_read_keeps None site n more h = tt
+  byte_read_keeps (Some cell) site n more h = read_keeps cell.type cell.value site n more h
 
   cast_keeps_if : (test : Bool) (site : Site) (v : Value) (old new : EndsOf) → Keeps ls (cast_if test site v old new s)
   cast_keeps_if true site v old new = checked_keeps_if (are_within old new) C5 site (Gives v s) kept
@@ -186,7 +201,7 @@ module _ (ls : List Local) (s : State) (kept : s.locals ≡ ls) where
   test_keeps None = tt
   test_keeps (Some test) = kept
 
-  arithmetic_keeps : (operator : Operator) (site : Site) (v w : Value) → Keeps ls (arithmetic_of operator site v w s)
+  pub arithmetic_keeps : (operator : Operator) (site : Site) (v w : Value) → Keeps ls (arithmetic_of operator site v w s)
   arithmetic_keeps operator site (Number a) (Number b) = checked_keeps (result_of operator site a b)
   arithmetic_keeps operator site (Number a) Null = tt
   arithmetic_keeps operator site (Number a) (At block byte) = tt
@@ -215,6 +230,10 @@ module _ (ls : List Local) (s : State) (kept : s.locals ≡ ls) where
   byte_keeps Null = tt
   byte_keeps (At block byte) = tt
 
+  pub kept_keeps : (char : Bool) (v : Value) → Keeps ls (kept_if char v s)
+  kept_keeps true v = byte_keeps v
+  kept_keeps false v = kept
+
   result_keeps : (o : Option Value) → Keeps ls (result_given o s)
   result_keeps None = tt
   result_keeps (Some v) = kept
@@ -222,6 +241,22 @@ module _ (ls : List Local) (s : State) (kept : s.locals ≡ ls) where
 -- calls of functions keep the locals of the one that calls
 abbrev pub CallsKeep : Knot → Type 0
 CallsKeep k = (function : ℕ) (vs : List Value) (s : State) → Keeps s.locals (k.call function vs s)
+
+-- each byte that is read costs a tick
+counted_keeps_from : (ls : List Local) (budget more : ℕ) (site : Option Site) (block byte n : ℕ) (s : State) → s.locals ≡ ls → Keeps ls (counted_from more budget site block byte n s)
+counted_keeps_from ls budget zero site block byte n s kept = tt
+counted_keeps_from ls budget (suc more) site block byte n s kept =
+    asked_keeps ls (spend_tick budget s.world) s _ kept
+    (λ _ t t_kept. byte_read_keeps ls t t_kept (cell_at t.blocks block byte) site n (counted_from more budget site block (byte + 1) (n + 1) t)
+    (counted_keeps_from ls budget more site block (byte + 1) (n + 1) t t_kept))
+
+length_keeps : (ls : List Local) (budget : ℕ) (site : Site) (v : Value) (ends : Option EndsOf) (s : State) → s.locals ≡ ls → Keeps ls (length_of budget site v ends s)
+length_keeps ls budget site (Number z) ends s kept = tt
+length_keeps ls budget site Null ends s kept = tt
+length_keeps ls budget site (At block byte) None s kept = tt
+length_keeps ls budget site (At block byte) (Some e) s kept =
+    checked_keeps_if ls s kept (lies_up_to e (pos byte)) C2 site (counted budget (Some site) block byte s)
+    (counted_keeps_from ls budget (suc (bytes_of_block (slice_get s.blocks block))) (Some site) block byte 0 s kept)
 
 module _ (audited : Bool) (g : Setting) (k : Knot) (calls : CallsKeep k) where
   reply_keeps : (ls : List Local) (type : Option CType) (site : Site) (reply : ℕ) (s : State) → s.locals ≡ ls → Keeps ls (reply_as type site reply s)
@@ -323,12 +358,15 @@ module _ (audited : Bool) (g : Setting) (k : Knot) (calls : CallsKeep k) where
           (λ b u u_kept. keeps_on ls (not_null site a u) _ (not_null_keeps ls u u_kept site a)
           (λ _ w w_kept. keeps_on ls (not_null site b w) _ (not_null_keeps ls w w_kept site b)
           (λ _ x x_kept. ordered_keeps ls x x_kept comparison (Some site) a b))))
-      value_keeps (core.Allocate count element bounds) s kept =
+      value_keeps (core.Allocate count element terminated bounds) s kept =
           keeps_on ls _ (audit audited bounds)
-          (keeps_on ls (and_then (value audited g k count s) (number_given None)) (allocated g.trusted element)
+          (keeps_on ls (and_then (value audited g k count s) (number_given None)) (allocated g.trusted terminated element)
           (keeps_on ls (value audited g k count s) (number_given None) (value_keeps count s kept) (λ v t t_kept. number_keeps ls t t_kept None v))
-          (λ z t t_kept. allocated_keeps ls t t_kept g.trusted element z))
+          (λ z t t_kept. allocated_keeps ls t t_kept g.trusted terminated element z))
           (λ v t t_kept. audit_keeps ls t t_kept audited bounds v)
+      value_keeps (core.Length pointer site) s kept =
+          keeps_on ls (value audited g k pointer s) _ (value_keeps pointer s kept)
+          (λ v t t_kept. length_keeps ls g.budget site v (with_ends (bounds_of pointer) v t.locals).ends t t_kept)
       value_keeps (core.Cast pointer bounds) s kept =
           keeps_on ls _ (audit audited bounds)
           (keeps_on ls (value audited g k pointer s) _ (value_keeps pointer s kept)
@@ -350,5 +388,5 @@ module _ (audited : Bool) (g : Setting) (k : Knot) (calls : CallsKeep k) where
 
       pub index_keeps : (index : core.Index) (s : State) → s.locals ≡ ls → Keeps ls (number_of audited g k index s)
       index_keeps core.First s kept = kept
-      index_keeps (core.Element number) s kept =
+      index_keeps (core.Element number terminated) s kept =
           keeps_on ls (value audited g k number s) (number_given None) (value_keeps number s kept) (λ v t t_kept. number_keeps ls t t_kept None v)

@@ -1,5 +1,5 @@
 -- The ends of pointers, and which pointers are valid with their bounds.
-use Rattle.std.specs.Prelude.{ℕ, ◌==◌, ◌&&◌, Bool, true, false, cond, List, Option, Some, None, slice_get, nat_le, int_le, pos, sum}
+use Rattle.std.specs.Prelude.{ℕ, ◌-◌, ◌==◌, ◌&&◌, Bool, true, false, cond, List, Option, Some, None, slice_get, nat_le, int_le, pos, sum}
 use Rattle.std.proofs.Common.{ℤ, ◌+ℤ◌, ◌*ℤ◌}
 use Rattle.bounds_exprs.specs.declared.term.Term.{Term}
 use Rattle.ckc_core.specs.declared.program.PointerBounds.{PointerBounds}
@@ -77,17 +77,22 @@ with_ends (Some p) (At block byte) locals = record { value = At block byte; ends
 abbrev pub block_size : Block → ℕ
 block_size b = sum (strides b.cells)
 
--- both ends lie from a block's start to its end, where the lower isn't above the upper
+-- both ends lie from a block's start to this byte, where the lower isn't above the upper
 abbrev pub lie_within : Ends → ℕ → Bool
 lie_within e size = cond (int_le e.low e.high) (int_le (pos 0) e.low && int_le e.high (pos size)) true
 
-abbrev valid_in : Option Block → ℕ → Option Ends → Bool
-valid_in None byte ends = false
-valid_in (Some b) byte None = false
-valid_in (Some b) byte (Some ends) = nat_le byte (block_size b) && lie_within ends (block_size b)
+-- the byte up to which ends may lie: the block's end, or the first one of the last element, where a zero stands
+abbrev pub room_of : Bool → Block → ℕ → ℕ
+room_of false b size = block_size b
+room_of true b size = block_size b - size
 
--- a pointer is null, or it stands in a block, up to its end, and so do its ends
+abbrev valid_in : Bool → Option Block → ℕ → Option Ends → Bool
+valid_in terminated None byte ends = false
+valid_in terminated (Some b) byte None = false
+valid_in terminated (Some b) byte (Some ends) = nat_le byte (block_size b) && lie_within ends (room_of terminated b ends.size)
+
+-- a pointer is null, or it stands in a block, up to its end, and so do its ends, up to the last element where it is null-terminated
 abbrev pub is_valid : PointerBounds → Value → State → Bool
 is_valid p (Number number) s = false
 is_valid p Null s = true
-is_valid p (At block byte) s = valid_in (slice_get s.blocks block) byte (ends_at p s.locals block byte)
+is_valid p (At block byte) s = valid_in p.terminated (slice_get s.blocks block) byte (ends_at p s.locals block byte)

@@ -48,8 +48,10 @@ mutual
     Sum : (pointer : Expression) (direction : Direction) (number : Expression) (site : Site) (bounds : Option PointerBounds) → Expression
     -- the order of two pointers in one block
     Order : (comparison : Comparison) (left right : Expression) (site : Site) → Expression
-    -- a new block of so many elements, each with these cells, or null
-    Allocate : (count : Expression) (element : List Initial) (bounds : Option PointerBounds) → Expression
+    -- a new block of so many elements, each with these cells, or null; where it is null-terminated, of one more, which is 0
+    Allocate : (count : Expression) (element : List Initial) (terminated : Bool) (bounds : Option PointerBounds) → Expression
+    -- how many bytes stand before the first zero
+    Length : (pointer : Expression) (site : Site) → Expression
     -- a pointer with other bounds, which have to lie within its own where there are some
     Cast : (pointer : Expression) (bounds : Option PointerBounds) → Expression
 
@@ -58,10 +60,11 @@ mutual
     Done : Arguments
     More : (first : Expression) (rest : Arguments) → Arguments
 
-  -- which element an access takes, from the one that its pointer leads to: that one, or the one of a number
+  -- which element an access takes, from the one that its pointer leads to: that one, or the one of a number, of a null-terminated
+  -- pointer or of another one
   pub data Index : Type 0 where
     First : Index
-    Element : (number : Expression) → Index
+    Element : (number : Expression) (terminated : Bool) → Index
 
   -- where a cell stands: so many bytes behind the first one of a file-level variable, or of an element that a pointer leads to
   pub data Place : Type 0 where
@@ -138,7 +141,8 @@ abbrev mutual
   expression exprs.NextInput = NextInput
   expression (exprs.Sum' p pointer direction q number site bounds) = Sum (expression pointer) direction (expression number) site bounds
   expression (exprs.Order' comparison p left q right site) = Order comparison (expression left) (expression right) site
-  expression (exprs.Allocate' p count element bounds) = Allocate (expression count) (map initial element.items) bounds
+  expression (exprs.Allocate' p count element terminated bounds) = Allocate (expression count) (map initial element.items) terminated bounds
+  expression (exprs.Length' p pointer site) = Length (expression pointer) site
   expression (exprs.Cast' p pointer bounds) = Cast (expression pointer) bounds
 
   pub arguments : {m : _} → Row_of-Expr m → Arguments
@@ -151,7 +155,7 @@ abbrev mutual
 
   pub index : code.Index.Index → Index
   index indexes.First = First
-  index (indexes.Element' p number) = Element (expression number)
+  index (indexes.Element' p number terminated) = Element (expression number) terminated
 
 -- the arguments in a slice
 abbrev pub arguments_of : List code.Expr.Expr → Arguments
@@ -200,7 +204,7 @@ abbrev pub import_of : code.Import.Import → Import
 import_of i = record { name = i.name; parameters = i.parameters; result = option_map ctype i.result }
 
 abbrev pub object : code.Object.Object → Variable
-object o = record { cells = map initial o.cells.items; is_sealed = o.is_sealed }
+object o = record { cells = map initial o.cells.items; zero_ended = o.zero_ended; is_sealed = o.is_sealed }
 
 -- a function on its side
 abbrev pub definition : code.Definition.Definition → Definition Statements

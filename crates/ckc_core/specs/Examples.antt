@@ -4,7 +4,7 @@ use Rattle.std.proofs.Common.{ℤ, ◌-ℤ◌, neg_ℤ}
 use Rattle.act_words.specs.declared.ending.Ending.{Ending}
 use Rattle.act_words.specs.declared.ending.Ending.TheVariants.{Exit, Check, Stop}
 use Rattle.ckc_text.specs.declared.code.Code.{Code}
-use Rattle.ckc_text.specs.declared.code.Code.TheVariants.{C1, C2, C5, C6, S1, S2}
+use Rattle.ckc_text.specs.declared.code.Code.TheVariants.{C1, C2, C3, C5, C6, S1, S2}
 use Rattle.ckc_core.specs.Outcome.{Outcome, Gives, Ends, Stuck, Unsound, Short}
 use Rattle.pointer_modes.specs.declared.ctype.Mode.TheVariants as modes
 use Rattle.pointer_modes.specs.declared.ctype.Kind.TheVariants as kinds
@@ -31,7 +31,7 @@ site line col = record { place = record { line = line; col = col } }
 
 -- the bounds of a `ptr` whose element has so many bytes
 abbrev pub one_of : ℕ → Option PointerBounds
-one_of size = Some (record { bounds = record { base = None; lo = constant (pos 0); hi = constant (pos 1) }; size = size; site = site 1 1 })
+one_of size = Some (record { bounds = record { base = None; lo = constant (pos 0); hi = constant (pos 1) }; size = size; terminated = false; site = site 1 1 })
 
 abbrev pub int_local : ℕ → Expression
 int_local local = Core.Local local None
@@ -90,7 +90,7 @@ first_run_ends = ends_as (runs first_run 100) (Exit (pos 42))
 
 -- array_ptr<int>, whose element has 4 bytes, with these ends
 abbrev pub ints : ℤ → ℤ → Option PointerBounds
-ints lo hi = Some (record { bounds = record { base = None; lo = constant lo; hi = constant hi }; size = 4; site = site 1 1 })
+ints lo hi = Some (record { bounds = record { base = None; lo = constant lo; hi = constant hi }; size = 4; terminated = false; site = site 1 1 })
 
 abbrev pub int_array : CType
 int_array = Pointer modes.Checked kinds.Array Int
@@ -98,14 +98,14 @@ int_array = Pointer modes.Checked kinds.Array Int
 -- { array_ptr<int> a : count(3) = calloc<int>(count, sizeof(int)); BODY }
 abbrev pub with_array : ℕ → List Statement → Core
 with_array count statements =
-    one (int_array ∷ []) [] (Core.SetLocal 0 (Core.Allocate (number count) (int_cell 0 ∷ []) (ints (pos 0) (pos 3))) ∷ statements)
+    one (int_array ∷ []) [] (Core.SetLocal 0 (Core.Allocate (number count) (int_cell 0 ∷ []) false (ints (pos 0) (pos 3))) ∷ statements)
 
 abbrev pub array : Expression
 array = Core.Local 0 (ints (pos 0) (pos 3))
 
 -- a[n]
 abbrev pub element : ℤ → Core.Place
-element n = Core.Through array (Core.Element (Core.Number n)) 0 (site 2 1)
+element n = Core.Through array (Core.Element (Core.Number n) false) 0 (site 2 1)
 
 -- *(a + n)
 abbrev pub sum : ℤ → Expression
@@ -117,7 +117,7 @@ array_ends =
     ends_as
     (runs
     (with_array 3 (Core.Store Int (element (pos 2)) (number 7)
-    ∷ (Core.Return (Core.Load Int (Core.Through (sum (pos 2)) (Core.Element (number 0)) 0 (site 2 8)) None) ∷ []))) 100)
+    ∷ (Core.Return (Core.Load Int (Core.Through (sum (pos 2)) (Core.Element (number 0) false) 0 (site 2 8)) None) ∷ []))) 100)
     (Exit (pos 7))
 
 abbrev returns : Expression → Outcome State (Unit {0})
@@ -137,20 +137,81 @@ array_bounds =
 abbrev pub null_arrays : Type 0
 null_arrays =
     ends_as (runs (with_array 0 (Core.Return (Core.Not array) ∷ [])) 100) (Exit (pos 1))
-    × ends_as (returns (Core.Not (Core.Allocate (Core.Number (negsuc 0)) (int_cell 0 ∷ []) None))) (Exit (pos 1))
+    × ends_as (returns (Core.Not (Core.Allocate (Core.Number (negsuc 0)) (int_cell 0 ∷ []) false None))) (Exit (pos 1))
     × ends_as (runs (with_array 9 (Core.Return (Core.Not array) ∷ [])) 100) (Exit (pos 1))
     × ends_as (runs (with_array 0 (Core.Return (Core.Load Int (element (pos 0)) None) ∷ [])) 100) (Check C1 (record { line = 2; col = 1 }))
 
 -- _Dynamic_bounds_cast<array_ptr<int>>(a, bounds(a + lo, a + hi)) != NULL
 abbrev cast_between : ℤ → ℤ → Expression
 cast_between lo hi =
-    Core.Not (Core.Not (Core.Cast array (Some (record { bounds = record { base = None; lo = constant lo; hi = constant hi }; size = 4; site = site 2 3 }))))
+    Core.Not (Core.Not (Core.Cast array (Some (record { bounds = record { base = None; lo = constant lo; hi = constant hi }; size = 4; terminated = false; site = site 2 3 }))))
 
 -- a cast may narrow bounds at both ends, and make them empty, but never widen them
 abbrev pub cast_ends : Type 0
 cast_ends =
     ends_as (returns (cast_between (pos 1) (pos 2))) (Exit (pos 1)) × ends_as (returns (cast_between (pos 5) (pos 4))) (Exit (pos 1))
     × fails (cast_between (pos 0) (pos 4)) C5 3 × fails (cast_between (negsuc 0) (pos 3)) C5 3
+
+-- ---- null-terminated pointers
+
+abbrev pub char_cell : ℕ → Initial
+char_cell n = record { type = Char; stride = 1; number = pos n }
+
+-- "ab", which a zero ends
+abbrev pub text : Variable
+text = record { cells = char_cell 97 ∷ char_cell 98 ∷ char_cell 0 ∷ []; zero_ended = true; is_sealed = false }
+
+-- nt_array_ptr<char> with `count(n)`
+abbrev pub chars : ℤ → Option PointerBounds
+chars n = Some (record { bounds = record { base = None; lo = constant (pos 0); hi = constant n }; size = 1; terminated = true; site = site 1 1 })
+
+-- "ab" as a pointer with `count(n)`
+abbrev pub string : ℤ → Expression
+string n = Core.AddressOf (Core.Direct 0 0) (chars n)
+
+-- the k-th byte of it
+abbrev pub byte_of : ℤ → ℤ → Core.Place
+byte_of n k = Core.Through (string n) (Core.Element (Core.Number k) true) 0 (site 2 1)
+
+abbrev in_text : ℕ → List Statement → Outcome State (Unit {0})
+in_text budget statements = runs (one [] (text ∷ []) statements) budget
+
+abbrev without_text : List Statement → Outcome State (Unit {0})
+without_text statements = runs (one [] [] statements) 100
+
+abbrev reads_byte : ℤ → ℤ → Outcome State (Unit {0})
+reads_byte n k = in_text 100 (Core.Return (Core.Load Char (byte_of n k) None) ∷ [])
+
+abbrev stores_byte : ℤ → ℤ → ℕ → Outcome State (Unit {0})
+stores_byte n k value = in_text 100 (Core.Store Char (byte_of n k) (number value) ∷ (Core.Return (Core.Load Char (byte_of (pos 2) k) None) ∷ []))
+
+-- the upper end is read, and nothing behind it; bounds reach up to the last zero, and not behind it
+abbrev pub text_reads : Type 0
+text_reads =
+    ends_as (reads_byte (pos 2) (pos 1)) (Exit (pos 98)) × ends_as (reads_byte (pos 2) (pos 2)) (Exit (pos 0))
+    × ends_as (reads_byte (pos 0) (pos 1)) (Check C2 (record { line = 2; col = 1 })) × is_unsound (reads_byte (pos 3) (pos 0)) (site 1 1)
+
+-- at the upper end 0 is stored, and nothing else, wherever the block ends
+abbrev pub text_stores : Type 0
+text_stores =
+    ends_as (stores_byte (pos 2) (pos 1) 7) (Exit (pos 7)) × ends_as (stores_byte (pos 2) (pos 2) 0) (Exit (pos 0))
+    × ends_as (stores_byte (pos 2) (pos 2) 7) (Check C3 (record { line = 2; col = 1 }))
+    × ends_as (stores_byte (pos 1) (pos 1) 7) (Check C3 (record { line = 2; col = 1 }))
+
+-- strlen("ab") reads three bytes, each for a tick
+abbrev pub text_counts : Type 0
+text_counts =
+    ends_as (in_text 3 (Core.Return (Core.Length (string (pos 2)) (site 2 1)) ∷ [])) (Exit (pos 2))
+    × ends_as (in_text 2 (Core.Return (Core.Length (string (pos 2)) (site 2 1)) ∷ [])) (Stop S1 None)
+    × ends_as (in_text 3 (Core.Return (Core.Length (string (negsuc 0)) (site 2 1)) ∷ [])) (Check C2 (record { line = 2; col = 1 }))
+    × ends_as (in_text 3 (Core.Return (Core.Length Core.Null (site 2 1)) ∷ [])) (Check C1 (record { line = 2; col = 1 }))
+
+-- nt_calloc<char>(n, sizeof(char)) has n characters and a zero behind them; of none it is null
+abbrev pub text_allocations : Type 0
+text_allocations =
+    ends_as (without_text (Core.Return (Core.Length (Core.Allocate (number 2) (char_cell 0 ∷ []) true (chars (pos 2))) (site 2 1)) ∷ [])) (Exit (pos 0))
+    × ends_as (without_text (Core.Return (Core.Not (Core.Allocate (number 0) (char_cell 0 ∷ []) true None)) ∷ [])) (Exit (pos 1))
+    × is_unsound (without_text (Core.Evaluate (Core.Allocate (number 2) (char_cell 0 ∷ []) true (chars (pos 3))) ∷ [])) (site 1 1)
 
 -- int main(void) { int x = 2147483647; x = x + 1; return 0; }
 abbrev pub overflow_ends : Type 0
@@ -216,7 +277,7 @@ struct_ends = ends_as (runs members 100) (Exit (pos 51))
 -- whether a pointer to a byte of a block of 4 bytes is valid with bounds from one end to the other, counted in bytes
 abbrev valid_between : ℕ → ℤ → ℤ → Bool
 valid_between byte lo hi =
-    is_valid (record { bounds = record { base = None; lo = constant lo; hi = constant hi }; size = 1; site = site 1 1 }) (At 0 byte)
+    is_valid (record { bounds = record { base = None; lo = constant lo; hi = constant hi }; size = 1; terminated = false; site = site 1 1 }) (At 0 byte)
     (initial (parted (one [] (open_variable (int_cell 0 ∷ []) ∷ []) [])) world)
 
 -- valid are bounds up to both ends of the block, and no further

@@ -1,8 +1,9 @@
 -- What a program means: pointers with their ends, each check at its site, and stuck where nothing is meant. Where the meaning is
 -- audited, a pointer that isn't valid with its bounds ends the run as unsound.
 use Rattle.std.specs.Prelude.{ℕ, zero, suc, ◌+◌, ◌==◌, pos, Bool, true, false, not, ◌||◌, List, [], ◌∷◌, Option, Some, None, slice_get, replicate}
+use Rattle.std.specs.Ordering.{int_eq}
 use Rattle.std.proofs.Common.{ℤ, ◌+ℤ◌}
-use Rattle.ckc_text.specs.declared.code.Code.TheVariants.{C1, C2, C5}
+use Rattle.ckc_text.specs.declared.code.Code.TheVariants.{C1, C2, C3, C5}
 use Rattle.act_words.specs.declared.ending.Ending.TheVariants.{Check}
 use Rattle.act_words.specs.declared.settings.Settings.{Settings}
 use Rattle.act_words.specs.Acts.{Act}
@@ -22,10 +23,10 @@ use Rattle.ckc_core.specs.Bounds.{Pointed, Ends as EndsOf, with_ends, ends_at, i
 use Rattle.ckc_core.specs.Steps.{Result, Flow, Next, Broke, Continued, Returned, KnotOf, SettingOf, setting_of}
 use Rattle.ckc_core.specs.Steps.{given, value_if, place_at, variable_at, load_at, pointer_to}
 use Rattle.ckc_core.specs.Steps.{truth, number_of_test, same_place, test_given, arithmetic_of, compared, negated, complemented, low_byte_of, asked, crossed}
-use Rattle.ckc_core.specs.Steps.{back, called, result_given, choose, store_at, set_local, kept_if, is_char, printed, put, on_next, behind_turn, no_result}
+use Rattle.ckc_core.specs.Steps.{back, called, result_given, choose, store_at, set_local, kept_if, is_char, is_zero, printed, put, on_next, behind_turn, no_result}
 use Rattle.ckc_core.specs.Steps.{fit, parameters_of, answer, locals_for, exit, initial}
-use Rattle.ckc_core.specs.Pointers.{number_given, checked_if, distance, lies_below, lies_up_to, are_within, cell_behind}
-use Rattle.ckc_core.specs.Pointers.{pointer_at, ordered, not_null, allocated}
+use Rattle.ckc_core.specs.Pointers.{number_given, checked_if, distance, lies_in, lies_up_to, are_within, cell_behind}
+use Rattle.ckc_core.specs.Pointers.{pointer_at, ordered, not_null, allocated, counted}
 
 abbrev pub Knot : Type 0
 Knot = KnotOf core.Expression core.Statement
@@ -55,7 +56,8 @@ bounds_of (core.Call callee arguments bounds) = bounds
 bounds_of core.NextInput = None
 bounds_of (core.Sum pointer direction number site bounds) = bounds
 bounds_of (core.Order comparison left right site) = None
-bounds_of (core.Allocate count element bounds) = bounds
+bounds_of (core.Allocate count element terminated bounds) = bounds
+bounds_of (core.Length pointer site) = None
 bounds_of (core.Cast pointer bounds) = bounds
 
 abbrev pub sound_if : Bool → Site → Value → State → Result Value
@@ -78,14 +80,15 @@ element offset site (Number number) s = Stuck (Some site) s
 element offset site Null s = Ends (Check C1 site.place) s
 element offset site (At block byte) s = place_at (Some site) block (byte + offset) s
 
--- the same of the element of a number: the pointer isn't null (C1), and the element lies within its ends (C2)
-abbrev pub element_within : ℕ → Site → ℤ → Value → Option EndsOf → State → Result (ℕ × ℕ)
-element_within offset site n (Number number) ends s = Stuck (Some site) s
-element_within offset site n Null ends s = Ends (Check C1 site.place) s
-element_within offset site n (At block byte) None s = Stuck (Some site) s
-element_within offset site n (At block byte) (Some e) s =
+-- the same of the element of a number: the pointer isn't null (C1), and the element lies within its ends (C2), of a null-terminated
+-- pointer up to the upper one
+abbrev pub element_within : Bool → ℕ → Site → ℤ → Value → Option EndsOf → State → Result (ℕ × ℕ)
+element_within terminated offset site n (Number number) ends s = Stuck (Some site) s
+element_within terminated offset site n Null ends s = Ends (Check C1 site.place) s
+element_within terminated offset site n (At block byte) None s = Stuck (Some site) s
+element_within terminated offset site n (At block byte) (Some e) s =
     let x = pos byte +ℤ distance directions.Forward e.size n in
-    checked_if (lies_below e x) C2 site (cell_behind (Some site) block x offset s) s
+    checked_if (lies_in terminated e x) C2 site (cell_behind (Some site) block x offset s) s
 
 -- a pointer, and the number of the element that an access takes
 pub record Target : Type 0 where
@@ -94,7 +97,25 @@ pub record Target : Type 0 where
 
 abbrev pub reached : core.Index → ℕ → Site → Target → State → Result (ℕ × ℕ)
 reached core.First offset site t s = element offset site t.pointer.value s
-reached (core.Element number) offset site t s = element_within offset site t.number t.pointer.value t.pointer.ends s
+reached (core.Element number terminated) offset site t s = element_within terminated offset site t.number t.pointer.value t.pointer.ends s
+
+-- at the upper end nothing but 0 is stored (C3)
+abbrev pub end_kept : Site → ℤ → Value → Value → Option EndsOf → State → Result (Unit {0})
+end_kept site n v (Number number) ends s = Stuck (Some site) s
+end_kept site n v Null ends s = Stuck (Some site) s
+end_kept site n v (At block byte) None s = Stuck (Some site) s
+end_kept site n v (At block byte) (Some e) s =
+    checked_if (is_zero v || not (int_eq (pos byte +ℤ distance directions.Forward e.size n) e.high)) C3 site (Gives tt s) s
+
+abbrev pub storable_at : core.Index → Site → Target → Value → State → Result (Unit {0})
+storable_at core.First site t v s = Gives tt s
+storable_at (core.Element number false) site t v s = Gives tt s
+storable_at (core.Element number true) site t v s = end_kept site t.number v t.pointer.value t.pointer.ends s
+
+-- a value that may be stored at a place, which has been reached: at the upper end of a null-terminated pointer it is 0
+abbrev pub storable : core.Place → Target → Value → State → Result (Unit {0})
+storable (core.Direct object offset) t v s = Gives tt s
+storable (core.Through pointer index offset site) t v s = storable_at index site t v s
 
 abbrev pub without_ends : ℕ × ℕ → Target
 without_ends place = record { pointer = record { value = At place.0 place.1; ends = None }; number = pos 0 }
@@ -107,6 +128,14 @@ summed direction site n (At block byte) None s = Stuck (Some site) s
 summed direction site n (At block byte) (Some e) s =
     let x = pos byte +ℤ distance direction e.size n in
     checked_if (lies_up_to e x) C2 site (pointer_at (Some site) block x s) s
+
+-- how many bytes stand before the first zero: the pointer isn't null (C1), and it lies up to the ends (C2); each byte that is read
+-- costs a tick
+abbrev pub length_of : ℕ → Site → Value → Option EndsOf → State → Result Value
+length_of budget site (Number number) ends s = Stuck (Some site) s
+length_of budget site Null ends s = Ends (Check C1 site.place) s
+length_of budget site (At block byte) None s = Stuck (Some site) s
+length_of budget site (At block byte) (Some e) s = checked_if (lies_up_to e (pos byte)) C2 site (counted budget (Some site) block byte s) s
 
 -- of elements with as many bytes
 abbrev pub cast_if : Bool → Site → Value → EndsOf → EndsOf → State → Result Value
@@ -163,8 +192,10 @@ abbrev mutual
   value audited g k (core.Order comparison left right site) s =
       and_then (value audited g k left s) (λ a t. and_then (value audited g k right t) (λ b u. and_then (not_null site a u)
       (λ _ w. and_then (not_null site b w) (λ _ x. ordered comparison (Some site) a b x))))
-  value audited g k (core.Allocate count element bounds) s =
-      and_then (and_then (and_then (value audited g k count s) (number_given None)) (allocated g.trusted element)) (audit audited bounds)
+  value audited g k (core.Allocate count element terminated bounds) s =
+      and_then (and_then (and_then (value audited g k count s) (number_given None)) (allocated g.trusted terminated element)) (audit audited bounds)
+  value audited g k (core.Length pointer site) s =
+      and_then (value audited g k pointer s) (λ v t. length_of g.budget site v (with_ends (bounds_of pointer) v t.locals).ends t)
   value audited g k (core.Cast pointer bounds) s =
       and_then (and_then (value audited g k pointer s) (λ v t. cast_to bounds (with_ends (bounds_of pointer) v t.locals) t)) (audit audited bounds)
 
@@ -183,7 +214,7 @@ abbrev mutual
   -- the number of an element
   pub number_of : Bool → Setting → Knot → core.Index → State → Result ℤ
   number_of audited g k core.First s = Gives (pos 0) s
-  number_of audited g k (core.Element number) s = and_then (value audited g k number s) (number_given None)
+  number_of audited g k (core.Element number terminated) s = and_then (value audited g k number s) (number_given None)
 
 -- a pointer with its ends at that moment
 abbrev pub pointed : Bool → Setting → Knot → core.Expression → State → Result Pointed
@@ -206,13 +237,14 @@ abbrev mutual
   effect audited g k (core.SetLocal local e) s = and_then (value audited g k e s) (set_local local)
   effect audited g k (core.Store type p e) s =
       and_then (target_of audited g k p s) (λ q t. and_then (value audited g k e t)
-      (λ v u. and_then (place_from p q u) (λ place w. store_at type (site_of p) place v w)))
+      (λ v u. and_then (place_from p q u) (λ at w. and_then (storable p q v w) (λ _ x. store_at type (site_of p) at v x))))
   effect audited g k (core.UpdateLocal char local operator e site) s =
       and_then (given (slice_get s.locals local) s) (λ old t. and_then (value audited g k e t)
       (λ v u. and_then (arithmetic_of operator site old v u) (λ new w. and_then (kept_if char new w) (set_local local))))
   effect audited g k (core.Update type p operator e site) s =
-      and_then (place audited g k p s) (λ at t. and_then (load_at type (Some site) at t) (λ old u. and_then (value audited g k e u)
-      (λ v w. and_then (arithmetic_of operator site old v w) (λ new x. and_then (kept_if (is_char type) new x) (store_at type (Some site) at)))))
+      and_then (target_of audited g k p s) (λ q t. and_then (place_from p q t) (λ at u. and_then (load_at type (Some site) at u)
+      (λ old w. and_then (value audited g k e w) (λ v x. and_then (arithmetic_of operator site old v x) (λ new y. and_then (kept_if (is_char type) new y)
+      (λ kept z. and_then (storable p q kept z) (λ _ last. store_at type (Some site) at kept last)))))))
   effect audited g k (core.Evaluate e) s = and_then (value audited g k e s) (λ _ t. Gives Next t)
   effect audited g k (core.CallAlone callee arguments) s = and_then (values audited g k arguments s) (λ vs t. and_then (called g k callee vs t) no_result)
   effect audited g k (core.Print e) s = and_then (value audited g k e s) printed

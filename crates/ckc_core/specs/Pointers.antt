@@ -1,7 +1,7 @@
 -- What is done with pointers, as the meanings of both languages share it: elements, sums, order, new blocks.
 use Rattle.std.specs.Prelude.{ℕ, zero, suc, ◌+◌, ◌*◌, ◌==◌, ◌&&◌, ◌||◌, Bool, true, false, List, [], ◌∷◌, ◌++◌, length, map, sum, Option, Some, None}
 use Rattle.std.specs.Prelude.{slice_get, nat_le, int_lt, int_le, pos, negsuc}
-use Rattle.std.proofs.Common.{ℤ, ◌+ℤ◌, ◌*ℤ◌, neg_ℤ}
+use Rattle.std.proofs.Common.{ℤ, ◌*ℤ◌, neg_ℤ}
 use Rattle.ckc_text.specs.declared.code.Code.{Code}
 use Rattle.ckc_text.specs.declared.code.Code.TheVariants.{C1}
 use Rattle.act_words.specs.declared.ending.Ending.TheVariants.{Check}
@@ -13,9 +13,11 @@ use Rattle.ckc_core.specs.declared.program.Direction.TheVariants as directions
 use Rattle.ckc_core.specs.declared.program.Site.{Site}
 use Rattle.ckc_core.specs.Outcome.{Gives, Ends as Over, Stuck}
 use Rattle.ckc_core.specs.Programs.{Initial}
-use Rattle.ckc_core.specs.States.{Value, Number, Null, At, Cell, Block, State, zero_of}
+use Rattle.act_words.specs.Touches.{spend_tick}
+use Rattle.pointer_modes.specs.Types.{CType, Char}
+use Rattle.ckc_core.specs.States.{Value, Number, Null, At, Cell, Block, State, zero_of, cell_at}
 use Rattle.ckc_core.specs.Bounds.{Ends, block_size}
-use Rattle.ckc_core.specs.Steps.{Result, place_at, number_of_test}
+use Rattle.ckc_core.specs.Steps.{Result, place_at, number_of_test, is_zero, asked}
 
 -- ---- ends
 
@@ -26,6 +28,11 @@ lies_below e byte = int_le e.low byte && int_lt byte e.high
 -- the same, or at the upper one
 abbrev pub lies_up_to : Ends → ℤ → Bool
 lies_up_to e byte = int_le e.low byte && int_le byte e.high
+
+-- a byte at which an element may stand: below the upper end, and of a null-terminated pointer at it too
+abbrev pub lies_in : Bool → Ends → ℤ → Bool
+lies_in false e byte = lies_below e byte
+lies_in true e byte = lies_up_to e byte
 
 -- new ends within old ones, or turned
 abbrev pub are_within : Ends → Ends → Bool
@@ -114,15 +121,50 @@ abbrev pub cells_of_elements : ℕ → List Initial → List Cell
 cells_of_elements zero element = []
 cells_of_elements (suc n) element = element_cells element ++ cells_of_elements n element
 
--- the block of so many elements
-abbrev pub new_block : ℕ → List Initial → Block
-new_block n element = record { cells = cells_of_elements n element; zero_ended = false; is_sealed = false }
+-- how many elements a block of so many has: one more, which is 0, where it is null-terminated
+abbrev pub made_elements : Bool → ℕ → ℕ
+made_elements false n = n
+made_elements true n = suc n
 
-abbrev pub made_if : Bool → ℕ → List Initial → State → Result Value
-made_if true n element s = Gives Null s
-made_if false n element s = Gives (At (length s.blocks) 0) (record s { blocks = s.blocks ++ new_block n element ∷ [] })
+-- the block of so many elements
+abbrev pub new_block : Bool → ℕ → List Initial → Block
+new_block terminated n element = record { cells = cells_of_elements (made_elements terminated n) element; zero_ended = terminated; is_sealed = false }
+
+abbrev pub made_if : Bool → Bool → ℕ → List Initial → State → Result Value
+made_if true terminated n element s = Gives Null s
+made_if false terminated n element s = Gives (At (length s.blocks) 0) (record s { blocks = s.blocks ++ new_block terminated n element ∷ [] })
 
 -- a new block of so many elements in a memory of this size: null where there are none, or where it is refused
-abbrev pub allocated : ℕ → List Initial → ℤ → State → Result Value
-allocated size element (negsuc n) s = Gives Null s
-allocated size element (pos n) s = made_if (is_refused size (counter_behind first_offset s.blocks) (n * element_size element)) n element s
+abbrev pub allocated : ℕ → Bool → List Initial → ℤ → State → Result Value
+allocated size terminated element (negsuc n) s = Gives Null s
+allocated size terminated element (pos zero) s = Gives Null s
+allocated size terminated element (pos (suc n)) s =
+    made_if (is_refused size (counter_behind first_offset s.blocks) (made_elements terminated (suc n) * element_size element)) terminated (suc n) element s
+
+-- ---- null-terminated bytes
+
+-- how many bytes stand before the first zero, of which so many were counted: a tick is spent for each byte that is read
+abbrev pub counted_if : Bool → Option Site → ℕ → Result Value → State → Result Value
+counted_if true site n more s = Gives (Number (pos n)) s
+counted_if false site n more s = more
+
+abbrev pub read_as : CType → Value → Option Site → ℕ → Result Value → State → Result Value
+read_as Char (Number number) site n more s = counted_if (is_zero (Number number)) site n more s
+read_as type value site n more s = Stuck site s
+
+abbrev pub byte_read : Option Cell → Option Site → ℕ → Result Value → State → Result Value
+byte_read None site n more s = Stuck site s
+byte_read (Some cell) site n more s = read_as cell.type cell.value site n more s
+
+-- from a byte of a block on, which has so many bytes at most behind it
+abbrev pub counted_from : ℕ → ℕ → Option Site → (block byte n : ℕ) → State → Result Value
+counted_from zero budget site block byte n s = Stuck site s
+counted_from (suc more) budget site block byte n s =
+    asked (spend_tick budget s.world) s (λ _ t. byte_read (cell_at t.blocks block byte) site n (counted_from more budget site block (byte + 1) (n + 1) t) t)
+
+abbrev pub bytes_of_block : Option Block → ℕ
+bytes_of_block None = 0
+bytes_of_block (Some b) = block_size b
+
+abbrev pub counted : ℕ → Option Site → (block byte : ℕ) → State → Result Value
+counted budget site block byte s = counted_from (suc (bytes_of_block (slice_get s.blocks block))) budget site block byte 0 s

@@ -40,14 +40,15 @@ pub record Initial : Type 0 where
   pub stride : ℕ
   pub number : ℤ
 
--- a file-level variable before the run: its cells, and whether no pointer leads to it
+-- a file-level variable or a string before the run: its cells, whether a zero ends it, and whether no pointer leads to it
 pub record Variable : Type 0 where
   pub cells : List Initial
+  pub zero_ended : Bool
   pub is_sealed : Bool
 
 -- one that pointers may lead to
 abbrev pub open_variable : List Initial → Variable
-open_variable cells = record { cells = cells; is_sealed = false }
+open_variable cells = record { cells = cells; zero_ended = false; is_sealed = false }
 
 -- a whole source: its file-level variables, its functions in the order in which they are first declared, and the number of `main`
 -- among those that are trusted

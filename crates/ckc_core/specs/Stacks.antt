@@ -1,6 +1,8 @@
 -- How many words the parts of a program have on the stack at most.
-use Rattle.std.specs.Prelude.{ℕ, zero, suc, ◌+◌, max}
+use Rattle.std.specs.Prelude.{ℕ, zero, suc, ◌+◌, max, Bool, true, false, Option, Some, None}
+use Rattle.ckc_core.specs.declared.program.PointerBounds.{PointerBounds}
 use Rattle.ckc_core.specs.Core as core
+use Rattle.ckc_core.specs.Meaning.{bounds_of}
 
 -- an offset is added to an address on the stack
 abbrev pub offset_stack : ℕ → ℕ
@@ -27,7 +29,8 @@ abbrev mutual
   expression_stack core.NextInput = 1
   expression_stack (core.Sum pointer direction number site bounds) = max (expression_stack pointer) (max (1 + expression_stack number) 6)
   expression_stack (core.Order comparison left right site) = max (expression_stack left) (max (1 + expression_stack right) 2)
-  expression_stack (core.Allocate count element bounds) = expression_stack count
+  expression_stack (core.Allocate count element terminated bounds) = expression_stack count
+  expression_stack (core.Length pointer site) = max (expression_stack pointer) 6
   expression_stack (core.Cast pointer bounds) = max (expression_stack pointer) 7
 
   pub arguments_stack : core.Arguments → ℕ
@@ -41,17 +44,29 @@ abbrev mutual
   -- what stands above a pointer: its index, and the words of its checks, of which the pointer is one
   pub index_stack : core.Index → ℕ
   index_stack core.First = 0
-  index_stack (core.Element number) = max (1 + expression_stack number) 6
+  index_stack (core.Element number terminated) = max (1 + expression_stack number) 6
 
 -- what stands above the pointer of a store: its index and its value, and the words of its checks
 abbrev pub value_stack : core.Index → core.Expression → ℕ
 value_stack core.First value = max (1 + expression_stack value) 2
-value_stack (core.Element number) value = max (1 + expression_stack number) (max (2 + expression_stack value) 6)
+value_stack (core.Element number terminated) value = max (1 + expression_stack number) (max (2 + expression_stack value) 6)
 
 -- a store has its address, or its pointer and its index, on the stack while its value is computed
 abbrev pub store_stack : core.Place → core.Expression → ℕ
 store_stack (core.Direct object offset) value = max (offset_stack offset) (1 + expression_stack value)
 store_stack (core.Through pointer index offset site) value = max (expression_stack pointer) (value_stack index value)
+
+-- an update has its address under the old value; where nothing but 0 may be stored at an upper end, it has its pointer and its index there, with the
+-- words of checks above
+abbrev pub element_stack : Option PointerBounds → core.Index → ℕ → ℕ
+element_stack bounds core.First value = 2 + value
+element_stack bounds (core.Element number false) value = 2 + value
+element_stack None (core.Element number true) value = 2 + value
+element_stack (Some b) (core.Element number true) value = max 8 (3 + value)
+
+abbrev pub update_stack : core.Place → ℕ → ℕ
+update_stack (core.Direct object offset) value = 2 + value
+update_stack (core.Through pointer which offset site) value = element_stack (bounds_of pointer) which value
 
 abbrev mutual
   pub statement_stack : core.Statement → ℕ
@@ -59,7 +74,7 @@ abbrev mutual
   statement_stack (core.SetLocal local value) = expression_stack value
   statement_stack (core.Store type p value) = store_stack p value
   statement_stack (core.UpdateLocal char local operator value site) = 1 + expression_stack value
-  statement_stack (core.Update type p operator value site) = max (place_stack p) (2 + expression_stack value)
+  statement_stack (core.Update type p operator value site) = max (place_stack p) (update_stack p (expression_stack value))
   statement_stack (core.Evaluate value) = expression_stack value
   statement_stack (core.CallAlone callee arguments) = arguments_stack arguments
   statement_stack (core.Print number) = expression_stack number

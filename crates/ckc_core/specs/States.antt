@@ -157,4 +157,4 @@ initial_cells cells = map (λ (i : Initial). record { type = i.type; stride = i.
 
 -- and its block
 abbrev pub object_block : Variable → Block
-object_block v = record { cells = initial_cells v.cells; zero_ended = false; is_sealed = v.is_sealed }
+object_block v = record { cells = initial_cells v.cells; zero_ended = v.zero_ended; is_sealed = v.is_sealed }

@@ -1,5 +1,5 @@
 -- How many nodes the parts of a program have. A node is an expression, a place or a statement; a pointer to a place is one node
--- with it.
+-- with it, and a count of bytes is two.
 use Rattle.std.specs.Prelude.{ℕ, ◌+◌}
 use Rattle.ckc_core.specs.Core as core
 
@@ -23,7 +23,8 @@ abbrev mutual
   expression_weight core.NextInput = 1
   expression_weight (core.Sum pointer direction number site bounds) = 1 + expression_weight pointer + expression_weight number
   expression_weight (core.Order comparison left right site) = 1 + expression_weight left + expression_weight right
-  expression_weight (core.Allocate count element bounds) = 1 + expression_weight count
+  expression_weight (core.Allocate count element terminated bounds) = 1 + expression_weight count
+  expression_weight (core.Length pointer site) = 2 + expression_weight pointer
   expression_weight (core.Cast pointer bounds) = 1 + expression_weight pointer
 
   pub arguments_weight : core.Arguments → ℕ
@@ -36,7 +37,7 @@ abbrev mutual
 
   pub index_weight : core.Index → ℕ
   index_weight core.First = 0
-  index_weight (core.Element number) = expression_weight number
+  index_weight (core.Element number terminated) = expression_weight number
 
 abbrev mutual
   pub statement_weight : core.Statement → ℕ

@@ -24,6 +24,10 @@ pub fn examples()
     ensures bounds { examples.array_bounds }
     ensures null_arrays { examples.null_arrays }
     ensures casts { examples.cast_ends }
+    ensures text_reads { examples.text_reads }
+    ensures text_stores { examples.text_stores }
+    ensures text_counts { examples.text_counts }
+    ensures text_allocations { examples.text_allocations }
 {}
 
 /// What a program means is told: it has as many ticks as its budget, and is never short of them.

@@ -19,12 +19,13 @@ pub enum Callee {
     Tainted { import: u32, site: Site },
 }
 
-/// The bounds of a pointer at a node of the tree: their normal form over the locals, the bytes of an element, and where the
-/// node stands.
+/// The bounds of a pointer at a node of the tree: their normal form over the locals, the bytes of an element, whether a zero
+/// stands at the upper end or behind it, and where the node stands.
 #[derive(Clone, Copy)]
 pub struct PointerBounds {
     pub bounds: Bounds,
     pub size: u32,
+    pub terminated: bool,
     pub site: Site,
 }
 
@@ -41,8 +42,9 @@ pub enum Direction {
 pub enum Index {
     /// That one, of a pointer to a single object.
     First,
-    /// The one of a number, which has to lie within the bounds of the pointer.
-    Element(Box<Expr>),
+    /// The one of a number, which has to lie within the bounds of the pointer; where that is null-terminated it may lie at the
+    /// upper end, where nothing but 0 is stored.
+    Element { number: Box<Expr>, terminated: bool },
 }
 
 /// An expression, in which checked pointers have their bounds. Locals, file-level variables and functions are numbered from 0 in the order of their declarations.
@@ -121,11 +123,17 @@ pub enum Expr {
         right: Box<Expr>,
         site: Site,
     },
-    /// A new block of so many elements, each with these cells, or null.
+    /// A new block of so many elements, each with these cells, or null; where it is null-terminated, of one more, which is 0.
     Allocate {
         count: Box<Expr>,
         element: Vec<Initial>,
+        terminated: bool,
         bounds: Option<PointerBounds>,
+    },
+    /// How many bytes stand before the first zero, from the one on that a null-terminated pointer leads to.
+    Length {
+        pointer: Box<Expr>,
+        site: Site,
     },
     /// A pointer with other bounds, which have to lie within its own where there are some.
     Cast {
@@ -239,10 +247,11 @@ pub struct Initial {
     pub number: i32,
 }
 
-/// A file-level variable before the run: its cells, and whether no pointer leads to it.
+/// A file-level variable or a string before the run: its cells, whether a zero ends it, and whether no pointer leads to it.
 #[derive(Drop)]
 pub struct Object {
     pub cells: Vec<Initial>,
+    pub zero_ended: bool,
     pub is_sealed: bool,
 }
 

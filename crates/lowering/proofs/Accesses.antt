@@ -39,7 +39,7 @@ use Rattle.lowering.proofs.Reaches.{step_of, step_to_is, IsAside, address_moved,
 use Rattle.lowering.proofs.Checks.{Passes, checks_run}
 
 -- what is held stays so, where the value's slot has the same word
-holds_still : (o : Option ℕ) (c after : Scratch) → after.value ≡ c.value → Holds o c → Holds o after
+pub holds_still : (o : Option ℕ) (c after : Scratch) → after.value ≡ c.value → Holds o c → Holds o after
 holds_still None c after same h = tt
 holds_still (Some w) c after same h = same ∙ h
 
@@ -100,7 +100,7 @@ module _ (g : Execution) (l : Layout g) (slot : ℕ) (is : slot ≡ length l.fun
       ∙ address_moved direction a byte size target n number leads low
       ∙ to
 
-  moved_stands : (direction : Direction) (size next : ℕ) (c : Scratch) (stack : List ℕ) (s : meaning.State) (block byte target : ℕ) (n : ℤ) → IsNumber n → c.number ≡ word n → pos byte +ℤ distance direction size n ≡ pos target → InBlock (shapes s.blocks) block target → Stands g l next c (Address s block byte ∷ stack) s → HasAt (code g l).ops next (moved_code slot direction size) → length stack + 2 ≤ (code g l).stack → Stands g l (next + moved_size direction) c (Address s block target ∷ stack) s
+  pub moved_stands : (direction : Direction) (size next : ℕ) (c : Scratch) (stack : List ℕ) (s : meaning.State) (block byte target : ℕ) (n : ℤ) → IsNumber n → c.number ≡ word n → pos byte +ℤ distance direction size n ≡ pos target → InBlock (shapes s.blocks) block target → Stands g l next c (Address s block byte ∷ stack) s → HasAt (code g l).ops next (moved_code slot direction size) → length stack + 2 ≤ (code g l).stack → Stands g l (next + moved_size direction) c (Address s block target ∷ stack) s
   moved_stands directions.Forward size next c stack s block byte target n number aside leads inside st at room =
       let p = Address s block byte in
       let first = stand_slot g l next c (p ∷ stack) s (number_slot slot) c.number (number_there g l slot is c s st.kept) st at.0 (omega arith) in

@@ -16,11 +16,12 @@ use Rattle.ckc_core.specs.States.{Null, At, Cell, Block, Shape, Grows, strides, 
 use Rattle.ckc_core.specs.States as meaning
 use Rattle.ckc_core.specs.Steps.{is_char}
 use Rattle.ckc_core.specs.Bounds.{block_size}
-use Rattle.ckc_core.specs.Pointers.{counter_behind, element_size, element_cells, cells_of_elements, new_block, made_if, allocated}
-use Rattle.code_words.specs.Table.{Goes, Runs, push, allocate_if, is_positive}
+use Rattle.ckc_core.specs.Pointers.{counter_behind, element_size, element_cells, cells_of_elements, made_elements, made_if, allocated}
+use Rattle.code_words.specs.Table.{Goes, Runs, act, push, allocate_if, is_positive}
 use Rattle.code_words.specs.Table as table
 use Rattle.code_words.specs.Runs.{spread}
 use Rattle.code_words.specs.declared.op.Op.TheVariants as ops
+use Rattle.lowering.specs.Code.{allocation_code}
 use Rattle.lowering.specs.Images.{width_if, word_bytes_if, padded}
 use Rattle.lowering.specs.Sized.{IsFresh, IsElement}
 use Rattle.lowering.specs.Correct.{size_of, offset_from, bytes_of, block_bytes}
@@ -28,7 +29,7 @@ use Rattle.lowering.specs.Correct as correct
 use Rattle.ckc_core.proofs.Numbers.{IsNumber, signed-word}
 use Rattle.lowering.proofs.Shapes.{end_from, sum_cons, InBlock, IsKeptBy, grows_on, kept_grows, word_grows}
 use Rattle.lowering.proofs.Memory.{HasRoom, HasRooms, length_block}
-use Rattle.lowering.proofs.Executions.{Execution, variables, tail, listed_from, memory_by, memory, state_by, KeptCell, KeptCells, KeptBlocks, slots_grow, locals_grow, rooms_kept}
+use Rattle.lowering.proofs.Executions.{Execution, image, variables, tail, listed_from, memory_by, memory, state_by, KeptCell, KeptCells, KeptBlocks, slots_grow, locals_grow, rooms_kept}
 use Rattle.lowering.proofs.Reaches.{word_pos}
 use Rattle.lowering.proofs.Steps.{Layout, Scratch, words, code, frame, frame_by, standing, Kept, Here, fetched, one_move, pushes, Evaluates}
 
@@ -179,10 +180,10 @@ zeros_split size left here low =
     ∙ zeros_join (size + (rounded_up size - size + 16)) (left - grown here size)
     ∙ ap (λ k. replicate k 0) whole
 
-module _ (g : Execution) (blocks : List Block) (kept : KeptBlocks g blocks) (n : ℕ) (element : List Initial) (is : IsElement element) (enough : grown (end_from first_offset (shapes blocks)) (n * element_size element) ≤ g.settings.trusted) where
+module _ (g : Execution) (blocks : List Block) (kept : KeptBlocks g blocks) (ended : Bool) (n : ℕ) (element : List Initial) (is : IsElement element) (enough : grown (end_from first_offset (shapes blocks)) (n * element_size element) ≤ g.settings.trusted) where
   -- the block of so many elements
   abbrev pub made : Block
-  made = new_block n element
+  made = record { cells = cells_of_elements n element; zero_ended = ended; is_sealed = false }
 
   abbrev pub after : List Block
   after = blocks ++ made ∷ []
@@ -295,9 +296,15 @@ memory_long g blocks kept =
 above_none : (k : ℕ) → is_positive (pos (suc k)) ≡ true
 above_none k = grind (arith, nat_tests)
 
+-- how many elements more than asked for the instruction makes
+abbrev more_elements : Bool → ℕ
+more_elements true = 1
+more_elements false = 0
+
 -- the bytes that the instruction asks for
-bytes_are : (k : ℕ) (element : List Initial) → IsNumber (pos k) → (word (pos k) + 0) * element_size element ≡ k * element_size element
-bytes_are k element number = ap (λ n. n * element_size element) (omega (arith, word_pos k number))
+bytes_are : (terminated : Bool) (k : ℕ) (element : List Initial) → IsNumber (pos k) → (word (pos k) + more_elements terminated) * element_size element ≡ made_elements terminated k * element_size element
+bytes_are false k element number = ap (λ n. n * element_size element) (omega (arith, word_pos k number))
+bytes_are true k element number = ap (λ n. n * element_size element) (omega (arith, word_pos k number))
 
 -- ---- the instruction
 
@@ -306,15 +313,19 @@ module _ (g : Execution) (l : Layout g) where
   frame_is : (next : ℕ) (c : Scratch) (stack : List ℕ) (s : meaning.State) (after : List Shape) → Grows (shapes s.blocks) after → Kept g l s → frame_by g l after next c stack s.locals ≡ frame g l next c stack s
   frame_is next c stack s after grows kept = ap (λ slots. record { function = l.number; next = next; slots = slots ++ words c; stack = stack }) (slots_grow g (shapes s.blocks) after s.locals grows kept.locals)
 
+  act_is : (terminated : Bool) (size next : ℕ) (c : Scratch) (w : ℕ) (stack : List ℕ) (s : meaning.State) → act (image g) g.settings (code g l) (allocation_code terminated size) (frame g l next c (w ∷ stack) s) (standing g l next c (w ∷ stack) s) ≡ allocate_if (is_positive (signed w)) (code g l) ((w + more_elements terminated) * size) stack (frame g l next c (w ∷ stack) s) (standing g l next c (w ∷ stack) s)
+  act_is true size next c w stack s = refl
+  act_is false size next c w stack s = refl
+
   -- a block is made, and its address is pushed
-  block_runs : (next : ℕ) (stack : List ℕ) (s : meaning.State) (k : ℕ) (element : List Initial) (is : IsElement element) (w : ℕ) → is_positive (signed w) ≡ true → (w + 0) * element_size element ≡ k * element_size element → is_refused g.settings.trusted (end_from first_offset (shapes s.blocks)) (k * element_size element) ≡ false → Here g l next (w ∷ stack) s → slice_get (code g l).ops next ≡ Some (ops.Alloc (element_size element)) → length stack < (code g l).stack → Evaluates g l (next + 1) stack (made_if false k element s)
-  block_runs next stack s k element is w positive bytes given here at room =
-      let size = k * element_size element in
+  block_runs : (next : ℕ) (stack : List ℕ) (s : meaning.State) (terminated : Bool) (k : ℕ) (element : List Initial) (is : IsElement element) (w : ℕ) → is_positive (signed w) ≡ true → (w + more_elements terminated) * element_size element ≡ made_elements terminated k * element_size element → is_refused g.settings.trusted (end_from first_offset (shapes s.blocks)) (made_elements terminated k * element_size element) ≡ false → Here g l next (w ∷ stack) s → slice_get (code g l).ops next ≡ Some (allocation_code terminated (element_size element)) → length stack < (code g l).stack → Evaluates g l (next + 1) stack (made_if false terminated k element s)
+  block_runs next stack s terminated k element is w positive bytes given here at room =
+      let size = made_elements terminated k * element_size element in
       let counter = end_from first_offset (shapes s.blocks) in
       let enough : grown counter size ≤ g.settings.trusted = grind (arith, nat_tests) in
-      let blocks = after g s.blocks here.kept.blocks k element is enough in
+      let blocks = after g s.blocks here.kept.blocks terminated (made_elements terminated k) element is enough in
       let t : meaning.State = record s { blocks = blocks } in
-      let grows = made_grows g s.blocks here.kept.blocks k element is enough in
+      let grows = made_grows g s.blocks here.kept.blocks terminated (made_elements terminated k) element is enough in
       let address = g.settings.base + counter in
       let c = here.scratch in
       let fr = frame g l next c (w ∷ stack) s in
@@ -327,30 +338,31 @@ module _ (g : Execution) (l : Layout g) where
         count = here.kept.count;
         depth = here.kept.depth;
         locals = locals_grow (shapes s.blocks) (shapes blocks) s.locals grows here.kept.locals;
-        blocks = made_kept g s.blocks here.kept.blocks k element is enough;
+        blocks = made_kept g s.blocks here.kept.blocks terminated (made_elements terminated k) element is enough;
         grows = grows_on l.since (shapes s.blocks) (shapes blocks) here.kept.grows grows;
         world = here.kept.world;
       } in (
-        subst (λ z. Here g l (next + 1) (z ∷ stack) t) (sym (made_address g s.blocks here.kept.blocks k element is enough))
+        subst (λ z. Here g l (next + 1) (z ∷ stack) t) (sym (made_address g s.blocks here.kept.blocks terminated (made_elements terminated k) element is enough))
             (record {
               scratch = c;
               holds = here.holds;
               kept = kept;
               reached = one_move g u _ here.reached
-                  (fetched g l next c (w ∷ stack) s (ops.Alloc (element_size element)) at
-                  ∙ ap (λ yes. allocate_if yes (code g l) ((w + 0) * element_size element) stack fr u) positive
+                  (fetched g l next c (w ∷ stack) s (allocation_code terminated (element_size element)) at
+                  ∙ act_is terminated (element_size element) next c w stack s
+                  ∙ ap (λ yes. allocate_if yes (code g l) ((w + more_elements terminated) * element_size element) stack fr u) positive
                   ∙ ap (λ b. allocate_if true (code g l) b stack fr u) bytes
                   ∙ made_by
                   ∙ ap (λ yes. table.push_if yes address stack fr (record u { memory = record m { counter = grown counter size }; blocks = listed_from first_offset (shapes s.blocks) ++ (record { offset = counter; bytes = size }) ∷ [] })) test
                   ∙ ap (λ f. Goes (record (state_by g (shapes s.blocks) (Runs f) l.callers s.blocks s.world) { memory = record m { counter = grown counter size }; blocks = listed_from first_offset (shapes s.blocks) ++ (record { offset = counter; bytes = size }) ∷ [] })) (sym (frame_is (next + 1) c (address ∷ stack) s (shapes blocks) grows here.kept))
-                  ∙ ap Goes (sym (made_state g s.blocks here.kept.blocks k element is enough (Runs (frame_by g l (shapes blocks) (next + 1) c (address ∷ stack) s.locals)) l.callers s.world)));
+                  ∙ ap Goes (sym (made_state g s.blocks here.kept.blocks terminated (made_elements terminated k) element is enough (Runs (frame_by g l (shapes blocks) (next + 1) c (address ∷ stack) s.locals)) l.callers s.world)));
             }),
-        made_there g s.blocks here.kept.blocks k element is enough,
+        made_there g s.blocks here.kept.blocks terminated (made_elements terminated k) element is enough,
       )
 
   -- nothing is made, and null is pushed
-  refused_runs : (next : ℕ) (stack : List ℕ) (s : meaning.State) (size bytes w : ℕ) → (w + 0) * size ≡ bytes → is_refused g.settings.trusted (end_from first_offset (shapes s.blocks)) bytes ≡ true → Here g l next (w ∷ stack) s → slice_get (code g l).ops next ≡ Some (ops.Alloc size) → length stack < (code g l).stack → Evaluates g l (next + 1) stack (Gives Null s)
-  refused_runs next stack s size bytes w same refused here at room = (pushes g l next (w ∷ stack) s (ops.Alloc size) 0 stack here at room (λ c. by c (is_positive (signed w)) refl), tt)
+  refused_runs : (next : ℕ) (stack : List ℕ) (s : meaning.State) (terminated : Bool) (size bytes w : ℕ) → (w + more_elements terminated) * size ≡ bytes → is_refused g.settings.trusted (end_from first_offset (shapes s.blocks)) bytes ≡ true → Here g l next (w ∷ stack) s → slice_get (code g l).ops next ≡ Some (allocation_code terminated size) → length stack < (code g l).stack → Evaluates g l (next + 1) stack (Gives Null s)
+  refused_runs next stack s terminated size bytes w same refused here at room = (pushes g l next (w ∷ stack) s (allocation_code terminated size) 0 stack here at room (λ c. act_is terminated size next c w stack s ∙ by c (is_positive (signed w)) refl), tt)
     where
       given : is_refused (length (memory g s.blocks).bytes) (end_from first_offset (shapes s.blocks)) bytes ≡ true
       given = ap (λ n. is_refused n (end_from first_offset (shapes s.blocks)) bytes) (memory_long g s.blocks here.kept.blocks) ∙ refused
@@ -358,30 +370,30 @@ module _ (g : Execution) (l : Layout g) where
       none : (c : Scratch) → allocate_if true (code g l) bytes stack (frame g l next c (w ∷ stack) s) (standing g l next c (w ∷ stack) s) ≡ push (code g l) 0 stack (frame g l next c (w ∷ stack) s) (standing g l next c (w ∷ stack) s)
       none c = rw given refl
 
-      by : (c : Scratch) (positive : Bool) → is_positive (signed w) ≡ positive → allocate_if (is_positive (signed w)) (code g l) ((w + 0) * size) stack (frame g l next c (w ∷ stack) s) (standing g l next c (w ∷ stack) s) ≡ push (code g l) 0 stack (frame g l next c (w ∷ stack) s) (standing g l next c (w ∷ stack) s)
+      by : (c : Scratch) (positive : Bool) → is_positive (signed w) ≡ positive → allocate_if (is_positive (signed w)) (code g l) ((w + more_elements terminated) * size) stack (frame g l next c (w ∷ stack) s) (standing g l next c (w ∷ stack) s) ≡ push (code g l) 0 stack (frame g l next c (w ∷ stack) s) (standing g l next c (w ∷ stack) s)
       by c true e =
-          ap (λ yes. allocate_if yes (code g l) ((w + 0) * size) stack (frame g l next c (w ∷ stack) s) (standing g l next c (w ∷ stack) s)) e
+          ap (λ yes. allocate_if yes (code g l) ((w + more_elements terminated) * size) stack (frame g l next c (w ∷ stack) s) (standing g l next c (w ∷ stack) s)) e
           ∙ ap (λ b. allocate_if true (code g l) b stack (frame g l next c (w ∷ stack) s) (standing g l next c (w ∷ stack) s)) same
           ∙ none c
-      by c false e = ap (λ yes. allocate_if yes (code g l) ((w + 0) * size) stack (frame g l next c (w ∷ stack) s) (standing g l next c (w ∷ stack) s)) e
+      by c false e = ap (λ yes. allocate_if yes (code g l) ((w + more_elements terminated) * size) stack (frame g l next c (w ∷ stack) s) (standing g l next c (w ∷ stack) s)) e
 
-  count_runs : (next : ℕ) (stack : List ℕ) (s : meaning.State) (k : ℕ) (element : List Initial) (refused : Bool) → IsElement element → IsNumber (pos k) → is_refused g.settings.trusted (counter_behind first_offset s.blocks) (k * element_size element) ≡ refused → Here g l next (word (pos k) ∷ stack) s → slice_get (code g l).ops next ≡ Some (ops.Alloc (element_size element)) → length stack < (code g l).stack → Evaluates g l (next + 1) stack (made_if refused k element s)
-  count_runs next stack s k element true is number refused here at room =
-      refused_runs next stack s (element_size element) (k * element_size element) (word (pos k)) (bytes_are k element number) (ap (λ c. is_refused g.settings.trusted c (k * element_size element)) (sym (counter_is first_offset s.blocks)) ∙ refused) here at room
-  count_runs next stack s zero element false is number refused here at room =
-      let none : 0 ≡ 0 * element_size element = omega arith in
-      let given : is_refused g.settings.trusted (counter_behind first_offset s.blocks) 0 ≡ false = ap (is_refused g.settings.trusted (counter_behind first_offset s.blocks)) none ∙ refused in
-      absurd (cc)
-  count_runs next stack s (suc k) element false is number refused here at room =
+  -- no element is asked for
+  none_runs : (next : ℕ) (stack : List ℕ) (s : meaning.State) (terminated : Bool) (size : ℕ) (z : ℤ) → IsNumber z → is_positive z ≡ false → Here g l next (word z ∷ stack) s → slice_get (code g l).ops next ≡ Some (allocation_code terminated size) → length stack < (code g l).stack → Evaluates g l (next + 1) stack (Gives Null s)
+  none_runs next stack s terminated size z number none here at room =
+      let w = word z in
+      let no : is_positive (signed w) ≡ false = ap is_positive (signed-word z number) ∙ none in
+      (pushes g l next (w ∷ stack) s (allocation_code terminated size) 0 stack here at room (λ c. act_is terminated size next c w stack s ∙ ap (λ yes. allocate_if yes (code g l) ((w + more_elements terminated) * size) stack (frame g l next c (w ∷ stack) s) (standing g l next c (w ∷ stack) s)) no), tt)
+
+  count_runs : (next : ℕ) (stack : List ℕ) (s : meaning.State) (terminated : Bool) (k : ℕ) (element : List Initial) (refused : Bool) → IsElement element → IsNumber (pos (suc k)) → is_refused g.settings.trusted (counter_behind first_offset s.blocks) (made_elements terminated (suc k) * element_size element) ≡ refused → Here g l next (word (pos (suc k)) ∷ stack) s → slice_get (code g l).ops next ≡ Some (allocation_code terminated (element_size element)) → length stack < (code g l).stack → Evaluates g l (next + 1) stack (made_if refused terminated (suc k) element s)
+  count_runs next stack s terminated k element true is number refused here at room =
+      refused_runs next stack s terminated (element_size element) (made_elements terminated (suc k) * element_size element) (word (pos (suc k))) (bytes_are terminated (suc k) element number) (ap (λ c. is_refused g.settings.trusted c (made_elements terminated (suc k) * element_size element)) (sym (counter_is first_offset s.blocks)) ∙ refused) here at room
+  count_runs next stack s terminated k element false is number refused here at room =
       let some : is_positive (signed (word (pos (suc k)))) ≡ true = ap is_positive (signed-word (pos (suc k)) number) ∙ above_none k in
-      block_runs next stack s (suc k) element is (word (pos (suc k))) some (bytes_are (suc k) element number) (ap (λ c. is_refused g.settings.trusted c (suc k * element_size element)) (sym (counter_is first_offset s.blocks)) ∙ refused) here at room
+      block_runs next stack s terminated (suc k) element is (word (pos (suc k))) some (bytes_are terminated (suc k) element number) (ap (λ c. is_refused g.settings.trusted c (made_elements terminated (suc k) * element_size element)) (sym (counter_is first_offset s.blocks)) ∙ refused) here at room
 
   -- a new block of so many elements, whose number lies on the stack
-  pub allocation_runs : (next : ℕ) (stack : List ℕ) (s : meaning.State) (n : ℤ) (element : List Initial) → IsElement element → IsNumber n → Here g l next (word n ∷ stack) s → slice_get (code g l).ops next ≡ Some (ops.Alloc (element_size element)) → length stack < (code g l).stack → Evaluates g l (next + 1) stack (allocated g.settings.trusted element n s)
-  allocation_runs next stack s (pos k) element is number here at room =
-      count_runs next stack s k element (is_refused g.settings.trusted (counter_behind first_offset s.blocks) (k * element_size element)) is number refl here at room
-  allocation_runs next stack s (negsuc k) element is number here at room =
-      let size = element_size element in
-      let w = word (negsuc k) in
-      let none : is_positive (signed w) ≡ false = ap is_positive (signed-word (negsuc k) number) in
-      (pushes g l next (w ∷ stack) s (ops.Alloc size) 0 stack here at room (λ c. ap (λ yes. allocate_if yes (code g l) ((w + 0) * size) stack (frame g l next c (w ∷ stack) s) (standing g l next c (w ∷ stack) s)) none), tt)
+  pub allocation_runs : (next : ℕ) (stack : List ℕ) (s : meaning.State) (terminated : Bool) (n : ℤ) (element : List Initial) → IsElement element → IsNumber n → Here g l next (word n ∷ stack) s → slice_get (code g l).ops next ≡ Some (allocation_code terminated (element_size element)) → length stack < (code g l).stack → Evaluates g l (next + 1) stack (allocated g.settings.trusted terminated element n s)
+  allocation_runs next stack s terminated (pos zero) element is number here at room = none_runs next stack s terminated (element_size element) (pos 0) number refl here at room
+  allocation_runs next stack s terminated (pos (suc k)) element is number here at room =
+      count_runs next stack s terminated k element (is_refused g.settings.trusted (counter_behind first_offset s.blocks) (made_elements terminated (suc k) * element_size element)) is number refl here at room
+  allocation_runs next stack s terminated (negsuc k) element is number here at room = none_runs next stack s terminated (element_size element) (negsuc k) number refl here at room

@@ -82,6 +82,11 @@ module _ (g : Execution) (l : Layout g) where
     pub number_set : (next : ℕ) (c : Scratch) (stack : List ℕ) (s : meaning.State) (w : ℕ) → Stands next c (w ∷ stack) s → slice_get (code g l).ops next ≡ Some (ops.Set (number_slot slot)) → Stands (next + 1) (record c { number = w }) stack s
     number_set next c stack s w st at = stand_set next c stack s (number_slot slot) 2 w (record c { number = w }) (slot_at s 2 st.kept) (omega arith) refl st at
 
+    pub value_there : (c : Scratch) (s : meaning.State) → Kept g l s → slice_get (slots c s) slot ≡ Some c.value
+    value_there c s kept =
+        let first : slot ≡ length s.locals + 0 = omega (arith, is, kept.count) in
+        ap (slice_get (slots c s)) first ∙ behind_there (λ (x : meaning.Local). word_by g (shapes s.blocks) x.value) s.locals (words c) 0
+
     pub pointer_there : (c : Scratch) (s : meaning.State) → Kept g l s → slice_get (slots c s) (pointer_slot slot) ≡ Some c.pointer
     pointer_there c s kept = ap (slice_get (slots c s)) (slot_at s 1 kept) ∙ behind_there (λ (x : meaning.Local). word_by g (shapes s.blocks) x.value) s.locals (words c) 1
 

@@ -60,7 +60,7 @@ module _ (g : Execution) (l : Layout g) where
       last_move g _ _ (Failed failed site.place) s st.reached (fetched g l next c stack s op at ∙ is) (same_end g (Runs (frame g l next c stack s)) l.callers s st.kept.blocks)
 
   -- the instruction of a check, whose test is that of the meaning
-  tested : (next : ℕ) (stack pile : List ℕ) (v : Value) (old c : Scratch) (s : meaning.State) (op : Op) (test : Bool) (failed : Code) (site : Site) → c.value ≡ old.value → c.number ≡ old.number → Stands g l next c pile s → slice_get (code g l).ops next ≡ Some op → act (image g) g.settings (code g l) op (frame g l next c pile s) (standing g l next c pile s) ≡ table.check test failed site.place (word_of g s v ∷ stack) (frame g l next c pile s) (standing g l next c pile s) → Leads (Passes (next + 1) stack v old s) (Finishes g) (checked_if test failed site (Gives tt s) s)
+  pub tested : (next : ℕ) (stack pile : List ℕ) (v : Value) (old c : Scratch) (s : meaning.State) (op : Op) (test : Bool) (failed : Code) (site : Site) → c.value ≡ old.value → c.number ≡ old.number → Stands g l next c pile s → slice_get (code g l).ops next ≡ Some op → act (image g) g.settings (code g l) op (frame g l next c pile s) (standing g l next c pile s) ≡ table.check test failed site.place (word_of g s v ∷ stack) (frame g l next c pile s) (standing g l next c pile s) → Leads (Passes (next + 1) stack v old s) (Finishes g) (checked_if test failed site (Gives tt s) s)
   tested next stack pile v old c s op true failed site value number st at is =
       record { after = c; stands = stand_on g l next c pile s op (next + 1) c (word_of g s v ∷ stack) st at is; value = value; number = number; same = refl }
   tested next stack pile v old c s op false failed site value number st at is = stand_ends next c pile s op false failed site (word_of g s v ∷ stack) st at is
@@ -91,7 +91,7 @@ module _ (g : Execution) (l : Layout g) where
       by Null is = absurd (let h' = rw (there, is) at h in cc)
       by (At block byte) is = absurd (let h' = rw (there, is) at h in cc)
 
-  variable_stands : (next : ℕ) (c : Scratch) (stack : List ℕ) (s : meaning.State) (var : Option ℕ) (plus z : ℤ) → term_value (record { var = var; plus = plus }) s.locals ≡ Some z → Stands g l next c stack s → slice_get (code g l).ops next ≡ Some (variable_code var) → length stack < (code g l).stack → Variable (next + 1) c stack s plus z
+  pub variable_stands : (next : ℕ) (c : Scratch) (stack : List ℕ) (s : meaning.State) (var : Option ℕ) (plus z : ℤ) → term_value (record { var = var; plus = plus }) s.locals ≡ Some z → Stands g l next c stack s → slice_get (code g l).ops next ≡ Some (variable_code var) → length stack < (code g l).stack → Variable (next + 1) c stack s plus z
   variable_stands next c stack s None plus z h st at room =
       let same : pos 0 +ℤ plus ≡ z = cc in
       record { count = 0; stands = stand_push g l next c stack s (ops.Const (pos 0)) 0 stack st at room refl; is = same }
@@ -116,7 +116,7 @@ module _ (g : Execution) (l : Layout g) where
         by Null has = absurd (let h' = rw (there, has) at h in cc)
         by (At other byte') has = by_block other byte' (other == block) has refl
 
-    base_stands : (next : ℕ) (c : Scratch) (stack : List ℕ) (s : meaning.State) (o : Option ℕ) (block byte base : ℕ) → c.pointer ≡ word_of g s (At block byte) → base_byte o s.locals block byte ≡ Some base → Stands g l next c stack s → slice_get (code g l).ops next ≡ Some (base_code slot o) → length stack < (code g l).stack → Stands g l (next + 1) c (word_of g s (At block base) ∷ stack) s
+    pub base_stands : (next : ℕ) (c : Scratch) (stack : List ℕ) (s : meaning.State) (o : Option ℕ) (block byte base : ℕ) → c.pointer ≡ word_of g s (At block byte) → base_byte o s.locals block byte ≡ Some base → Stands g l next c stack s → slice_get (code g l).ops next ≡ Some (base_code slot o) → length stack < (code g l).stack → Stands g l (next + 1) c (word_of g s (At block base) ∷ stack) s
     base_stands next c stack s None block byte base pointer h st at room =
         let same : byte ≡ base = cc in
         stand_slot g l next c stack s (pointer_slot slot) (word_of g s (At block base)) (pointer_there g l slot is c s st.kept ∙ ap Some (pointer ∙ ap (λ b. word_of g s (At block b)) same)) st at room

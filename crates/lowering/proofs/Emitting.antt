@@ -1,11 +1,12 @@
 -- How the code of a part is put together from what is emitted for its parts, one behind another.
-use Rattle.std.proofs.Common.{◌≡◌, ℕ, zero, suc, ◌+◌, ◌^◌, ◌<◌, ◌≤◌, Bool, List, [], ◌∷◌, ◌++◌, length, slice_get, get_or, drop, pos, Some, Result, OnOk, refl, sym, ap, ◌∙◌, subst, append_assoc, length-append, arith}
+use Rattle.std.proofs.Common.{◌≡◌, ℕ, zero, suc, ◌+◌, ◌^◌, ◌<◌, ◌≤◌, Bool, List, [], ◌∷◌, ◌++◌, length, slice_get, get_or, drop, pos, Option, None, Some, Result, OnOk, refl, sym, ap, ◌∙◌, subst, append_assoc, length-append, arith}
 use Rattle.std.proofs.lemmas.Result.{on_ok_weaker}
 use Rattle.ckc_text.specs.declared.fault.NoMemory.{NoMemory}
 use Rattle.pointer_modes.specs.Types.{CType}
 use Rattle.check_insertion.specs.declared.erased.Expr.{Expr}
 use Rattle.check_insertion.specs.declared.erased.Stmt.{Stmt}
 use Rattle.check_insertion.specs.declared.erased.Check.{Check}
+use Rattle.check_insertion.specs.declared.erased.Reading.{Reading}
 use Rattle.act_words.specs.declared.operator.Operator.{Operator}
 use Rattle.ckc_core.specs.declared.program.Site.{Site}
 use Rattle.check_insertion.specs.Erased as erased
@@ -14,9 +15,9 @@ use Rattle.check_insertion.specs.Erased.{expression, arguments_of, statement, st
 use Rattle.code_words.specs.declared.op.Op.{Op}
 use Rattle.code_words.specs.declared.op.Op.TheVariants as ops
 use Rattle.lowering.specs.Code.{Places, operator_code, load_code, store_code, byte_code, expression_size, arguments_size, place_size, before_value_size, index_code, statement_size, statements_size, expression_code, arguments_code, place_code, before_value, behind_value, statement_code, statements_code}
-use Rattle.lowering.specs.Code.{loop_places}
+use Rattle.lowering.specs.Code.{ended_code, loop_places, plain_update, through_code, through_size, twice_code, update_code, update_size}
 use Rattle.lowering.specs.Sized.{SizedExpression, SizedArguments, SizedIndex, SizedNumber, SizedStatement, SizedStatements}
-use Rattle.lowering.proofs.Sizes.{length_expression, length_arguments, length_place, length_before, length_statement, length_statements}
+use Rattle.lowering.proofs.Sizes.{length_expression, length_arguments, length_place, length_through, length_before, length_statement, length_statements}
 use Rattle.lowering.proofs.Slices.{arguments_drop, statements_drop}
 
 -- a part, and what follows it
@@ -134,22 +135,64 @@ arguments_emitted slot args i x now next whole low is so_far e =
 
 -- ---- statements
 
-pub store_emitted : (type : CType) (cell : erased.Place) (value : erased.Expression) (scratch : ℕ) (old one two new : List Op) → one ≡ old ++ before_value scratch (length old) cell → two ≡ one ++ expression_code scratch (length one) value → new ≡ two ++ behind_value scratch type cell → new ≡ old ++ (before_value scratch (length old) cell ++ (expression_code scratch (length old + before_value_size cell) value ++ behind_value scratch type cell))
-store_emitted type cell value scratch old one two new = then_expression scratch value (before_value_size cell) old one two new (before_value scratch (length old) cell) (behind_value scratch type cell) (length_before scratch (length old) cell)
+pub store_emitted : (type : CType) (cell : erased.Place) (value : erased.Expression) (end : Option Reading) (scratch : ℕ) (old one two new : List Op) → one ≡ old ++ before_value scratch (length old) cell → two ≡ one ++ expression_code scratch (length one) value → new ≡ two ++ behind_value scratch type cell end → new ≡ old ++ (before_value scratch (length old) cell ++ (expression_code scratch (length old + before_value_size cell) value ++ behind_value scratch type cell end))
+store_emitted type cell value end scratch old one two new = then_expression scratch value (before_value_size cell) old one two new (before_value scratch (length old) cell) (behind_value scratch type cell end) (length_before scratch (length old) cell)
 
-pub update_emitted : (p : Places) (type : CType) (cell : erased.Place) (value : erased.Expression) (operator : Operator) (site : Site) (op load store : Op) (char : Bool) (old one loaded two new : List Op) → op ≡ operator_code operator site → load ≡ load_code type → char ≡ is_char type → store ≡ store_code type → one ≡ old ++ place_code p.scratch (length old) cell → loaded ≡ one ++ ops.Duplicate ∷ load ∷ [] → two ≡ loaded ++ expression_code p.scratch (length loaded) value → new ≡ two ++ op ∷ (byte_code char ++ store ∷ []) → new ≡ old ++ statement_code p (length old) (erased.Update type cell operator value site)
-update_emitted p type cell value operator site op load store char old one loaded two new made loads chars stores first second third fourth =
+pub update_emitted : (slot : ℕ) (type : CType) (cell : erased.Place) (value : erased.Expression) (operator : Operator) (site : Site) (op load store : Op) (char : Bool) (old one loaded two new : List Op) → op ≡ operator_code operator site → load ≡ load_code type → char ≡ is_char type → store ≡ store_code type → one ≡ old ++ place_code slot (length old) cell → loaded ≡ one ++ ops.Duplicate ∷ load ∷ [] → two ≡ loaded ++ expression_code slot (length loaded) value → new ≡ two ++ op ∷ (byte_code char ++ store ∷ []) → new ≡ old ++ plain_update slot (length old) type cell operator value site
+update_emitted slot type cell value operator site op load store char old one loaded two new made loads chars stores first second third fourth =
     let m = length old + place_size cell in
     let last = λ (o : Op) (b : Bool) (s : Op). o ∷ (byte_code b ++ s ∷ []) in
     let behind = last (operator_code operator site) (is_char type) (store_code type) in
-    let at_one : length one ≡ m = place_after old one (place_code p.scratch (length old) cell) (place_size cell) (length_place p.scratch (length old) cell) first in
+    let at_one : length one ≡ m = place_after old one (place_code slot (length old) cell) (place_size cell) (length_place slot (length old) cell) first in
     let at_loaded : length loaded ≡ m + 2 = omega (arith, ap length second, length-append one (ops.Duplicate ∷ load ∷ [])) in
-    let inner : two ≡ loaded ++ expression_code p.scratch (m + 2) value = moved_to (λ k. expression_code p.scratch k value) loaded two (length loaded) (m + 2) at_loaded third in
+    let inner : two ≡ loaded ++ expression_code slot (m + 2) value = moved_to (λ k. expression_code slot k value) loaded two (length loaded) (m + 2) at_loaded third in
     let loaded_by : loaded ≡ one ++ ops.Duplicate ∷ load_code type ∷ [] = second ∙ ap (λ o. one ++ ops.Duplicate ∷ o ∷ []) loads in
     let stored_by : new ≡ two ++ behind = fourth ∙ ap (λ o. two ++ last o char store) made ∙ ap (λ b. two ++ last (operator_code operator site) b store) chars ∙ ap (λ o. two ++ last (operator_code operator site) (is_char type) o) stores in
-    emitted_then old one new (place_code p.scratch (length old) cell) (ops.Duplicate ∷ load_code type ∷ (expression_code p.scratch (m + 2) value ++ behind)) first
-    (emitted_then one loaded new (ops.Duplicate ∷ load_code type ∷ []) (expression_code p.scratch (m + 2) value ++ behind) loaded_by
-    (emitted_then loaded two new (expression_code p.scratch (m + 2) value) behind inner stored_by))
+    emitted_then old one new (place_code slot (length old) cell) (ops.Duplicate ∷ load_code type ∷ (expression_code slot (m + 2) value ++ behind)) first
+    (emitted_then one loaded new (ops.Duplicate ∷ load_code type ∷ []) (expression_code slot (m + 2) value ++ behind) loaded_by
+    (emitted_then loaded two new (expression_code slot (m + 2) value) behind inner stored_by))
+
+-- where the value begins
+pub old_value_ends : (slot : ℕ) (type : CType) (pointer number : erased.Expression) (size offset : ℕ) (checks : List Check) (old one loaded : List Op) → one ≡ old ++ before_value slot (length old) (erased.Through pointer (erased.Element number size) offset checks)
+    → loaded ≡ one ++ (twice_code slot ++ (through_code slot (erased.Element number size) offset checks ++ load_code type ∷ [])) → length loaded ≡ length old + (expression_size pointer + expression_size number) + 6 + through_size (erased.Element number size) offset checks + 1
+old_value_ends slot type pointer number size offset checks old one loaded first second =
+    let index = erased.Element number size in
+    let cell = erased.Through pointer index offset checks in
+    let before = expression_size pointer + expression_size number in
+    let thr = through_code slot index offset checks in
+    let ts = through_size index offset checks in
+    let load = load_code type ∷ [] in
+    let at_one : length one ≡ length old + before = place_after old one (before_value slot (length old) cell) before (length_before slot (length old) cell) first in
+    let long : length (twice_code slot ++ (thr ++ load)) ≡ 6 + (ts + 1) = omega (arith, length-append (twice_code slot) (thr ++ load), length-append thr load, length_through slot index offset checks) in
+    omega (arith, ap length second, length-append one (twice_code slot ++ (thr ++ load)), long, at_one)
+
+-- the old value of an element, with its pointer and its number below it, then the new one, and where that goes
+pub ended_update_emitted : (slot : ℕ) (type : CType) (pointer number : erased.Expression) (size offset : ℕ) (checks : List Check) (value : erased.Expression) (operator : Operator) (site : Site) (r : Reading) (op : Op) (char : Bool) (old one loaded two kept new : List Op) → op ≡ operator_code operator site → char ≡ is_char type → one ≡ old ++ before_value slot (length old) (erased.Through pointer (erased.Element number size) offset checks)
+    → loaded ≡ one ++ (twice_code slot ++ (through_code slot (erased.Element number size) offset checks ++ load_code type ∷ [])) → two ≡ loaded ++ expression_code slot (length loaded) value → kept ≡ two ++ op ∷ (byte_code char ++ ops.Set slot ∷ []) → new ≡ kept ++ ended_code slot type size offset [] r
+    → new ≡ old ++ update_code slot (length old) type (erased.Through pointer (erased.Element number size) offset checks) operator value site (Some r)
+ended_update_emitted slot type pointer number size offset checks value operator site r op char old one loaded two kept new made chars first second third fourth fifth =
+    let index = erased.Element number size in
+    let cell = erased.Through pointer index offset checks in
+    let before = expression_size pointer + expression_size number in
+    let thr = through_code slot index offset checks in
+    let ts = through_size index offset checks in
+    let load = load_code type ∷ [] in
+    let head = twice_code slot ++ (thr ++ load) in
+    let m = length old + before + 6 + ts + 1 in
+    let e = expression_code slot m value in
+    let ended = ended_code slot type size offset [] r in
+    let result = λ (o : Op) (b : Bool). o ∷ (byte_code b ++ ops.Set slot ∷ []) in
+    let at_loaded : length loaded ≡ m = old_value_ends slot type pointer number size offset checks old one loaded first second in
+    let inner : two ≡ loaded ++ e = moved_to (λ k. expression_code slot k value) loaded two (length loaded) m at_loaded third in
+    let kept_is : kept ≡ two ++ result (operator_code operator site) (is_char type) = fourth ∙ ap (λ o. two ++ result o char) made ∙ ap (λ b. two ++ result (operator_code operator site) b) chars in
+    let whole = emitted_then old one new (before_value slot (length old) cell) (head ++ (e ++ (result (operator_code operator site) (is_char type) ++ ended))) first
+    (emitted_then one loaded new head (e ++ (result (operator_code operator site) (is_char type) ++ ended)) second
+    (emitted_then loaded two new e (result (operator_code operator site) (is_char type) ++ ended) inner
+    (emitted_then two kept new (result (operator_code operator site) (is_char type)) ended kept_is fifth))) in
+    let tail = e ++ (operator_code operator site ∷ (byte_code (is_char type) ++ ops.Set slot ∷ ended)) in
+    whole
+    ∙ ap (λ l. old ++ (before_value slot (length old) cell ++ (head ++ (e ++ (operator_code operator site ∷ l))))) (append_assoc (byte_code (is_char type)) (ops.Set slot ∷ []) ended)
+    ∙ ap (λ l. old ++ (before_value slot (length old) cell ++ (twice_code slot ++ l))) (append_assoc thr load tail)
 
 pub local_update_emitted : (p : Places) (char : Bool) (local : ℕ) (value : erased.Expression) (operator : Operator) (site : Site) (op : Op) (old one two new : List Op) → op ≡ operator_code operator site → one ≡ old ++ ops.Local local ∷ [] → two ≡ one ++ expression_code p.scratch (length one) value → new ≡ two ++ op ∷ (byte_code char ++ ops.Set local ∷ []) → new ≡ old ++ statement_code p (length old) (erased.UpdateLocal char local operator value site)
 local_update_emitted p char local value operator site op old one two new made first second third =
@@ -229,3 +272,20 @@ statements_emitted p xs i x now next whole low is so_far e =
     emitted_then now next (next ++ statements_code p (length next) rest) code (statements_code p (length next) rest) e refl
     ∙ ap (λ k. now ++ (code ++ statements_code p k rest)) at_next
     ∙ sym (ap (λ l. now ++ statements_code p (length now) l) (statements_drop xs i x low is)) ∙ so_far
+
+-- an update by the shape of its place
+pub update_by_shape : (slot : ℕ) (type : CType) (cell : erased.Place) (pointer : erased.Expression) (index : erased.Index) (number : erased.Expression) (size offset : ℕ) (checks : List Check) (value : erased.Expression) (operator : Operator) (site : Site) (end : Option Reading) (r : Reading)
+    → cell ≡ erased.Through pointer index offset checks → index ≡ erased.Element number size → end ≡ Some r → (op : Op) (char : Bool) (old one loaded two kept new : List Op) → op ≡ operator_code operator site → char ≡ is_char type → one ≡ old ++ before_value slot (length old) cell
+    → loaded ≡ one ++ (twice_code slot ++ (through_code slot index offset checks ++ load_code type ∷ [])) → two ≡ loaded ++ expression_code slot (length loaded) value → kept ≡ two ++ op ∷ (byte_code char ++ ops.Set slot ∷ []) → new ≡ kept ++ ended_code slot type size offset [] r
+    → new ≡ old ++ update_code slot (length old) type cell operator value site end
+update_by_shape slot type cell pointer index number size offset checks value operator site end r made chosen ended =
+    rw (made, chosen, ended) (ended_update_emitted slot type pointer number size offset checks value operator site r)
+
+pub room_by_shape : (slot : ℕ) (type : CType) (cell : erased.Place) (pointer : erased.Expression) (index : erased.Index) (number : erased.Expression) (size offset : ℕ) (checks : List Check) (end : Option Reading) (r : Reading)
+    → cell ≡ erased.Through pointer index offset checks → index ≡ erased.Element number size → end ≡ Some r → (value byte : ℕ) (old one loaded : List Op) → one ≡ old ++ before_value slot (length old) cell
+    → loaded ≡ one ++ (twice_code slot ++ (through_code slot index offset checks ++ load_code type ∷ [])) → length old + update_size cell end value byte ≤ 2 ^ 31 → length loaded + value ≤ 2 ^ 31
+room_by_shape slot type cell pointer index number size offset checks end r made chosen ended value byte = rw (made, chosen, ended) within
+  where
+    within : (old one loaded : List Op) → one ≡ old ++ before_value slot (length old) (erased.Through pointer (erased.Element number size) offset checks) → loaded ≡ one ++ (twice_code slot ++ (through_code slot (erased.Element number size) offset checks ++ load_code type ∷ []))
+        → length old + update_size (erased.Through pointer (erased.Element number size) offset checks) (Some r) value byte ≤ 2 ^ 31 → length loaded + value ≤ 2 ^ 31
+    within old one loaded first second room = omega (arith, room, old_value_ends slot type pointer number size offset checks old one loaded first second)

@@ -16,8 +16,11 @@ pub mod Allocations
 pub mod Conditions
 pub mod Calls
 pub mod Tainted
+pub mod TextLengths
 pub mod Values
 pub mod Stores
+pub mod Ended
+pub mod Targets
 pub mod Statements
 pub mod Programs
 pub mod Paces

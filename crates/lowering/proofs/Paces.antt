@@ -17,6 +17,7 @@ use Rattle.ckc_core.specs.declared.program.Direction.{Direction}
 use Rattle.ckc_core.specs.declared.program.Direction.TheVariants as directions
 use Rattle.check_insertion.specs.declared.erased.Check.{Check}
 use Rattle.check_insertion.specs.declared.erased.Check.TheVariants as checks
+use Rattle.check_insertion.specs.declared.erased.Reading.{Reading}
 use Rattle.check_insertion.specs.Erased as erased
 use Rattle.bounds_exprs.specs.declared.term.Bounds.{Bounds}
 use Rattle.ckc_core.specs.Steps.{is_char}
@@ -25,7 +26,7 @@ use Rattle.code_words.specs.declared.op.Op.{Op}
 use Rattle.code_words.specs.declared.op.Op.TheVariants as ops
 use Rattle.code_words.specs.Paced.{is_call, target_of, keeps_pace, all_keep_pace, is_paced_function}
 use Rattle.code_words.specs.Formats.{element_size, is_sized, is_sized_function}
-use Rattle.lowering.specs.Code.{Reach, Still, Onward, Back, Places, reach_to, counted_size, end_constant, pointer_slot, number_slot, operator_code, load_code, load_if, store_code, store_if, offset_code, offset_size, address_code, base_code, variable_code, bounds_code, number_code, within_code, check_code, checks_code, checks_size, moved_code, through_code, through_size, sum_code, order_op, order_code, index_code, index_size, byte_code, byte_size, expression_size, arguments_size, place_size, before_value_size, statement_size, statements_size, expression_code, arguments_code, place_code, before_value, behind_value, statement_code, statements_code, ending_code, body_places, function_ops, callee_code}
+use Rattle.lowering.specs.Code.{Reach, Still, Onward, Back, Places, reach_to, counted_size, end_constant, pointer_slot, number_slot, operator_code, load_code, load_if, store_code, store_if, offset_code, offset_size, address_code, base_code, variable_code, bounds_code, number_code, within_code, check_code, checks_code, checks_size, moved_code, through_code, through_size, sum_code, order_op, order_code, index_code, index_size, byte_code, byte_size, expression_size, arguments_size, place_size, before_value_size, statement_size, statements_size, expression_code, arguments_code, place_code, before_value, behind_value, statement_code, statements_code, ending_code, body_places, function_ops, callee_code, allocation_code, term_code, ended_code, twice_code, plain_update, update_code}
 use Rattle.lowering.specs.Images.{functions_from}
 use Rattle.lowering.specs.Sized.{SizedExpression, SizedArguments, SizedPlace, SizedIndex, SizedStatement, SizedStatements}
 use Rattle.lowering.specs.Correct.{IsFunction}
@@ -59,6 +60,10 @@ calm_order comparisons.Less = record { no_jump = refl; no_call = refl }
 calm_order comparisons.LessEqual = record { no_jump = refl; no_call = refl }
 calm_order comparisons.Greater = record { no_jump = refl; no_call = refl }
 calm_order comparisons.GreaterEqual = record { no_jump = refl; no_call = refl }
+
+allocation_free : (terminated : Bool) (size : ℕ) → is_call (allocation_code terminated size) ≡ false
+allocation_free true size = refl
+allocation_free false size = refl
 
 calm_load : (char : Bool) → IsCalm (load_if char)
 calm_load true = record { no_jump = refl; no_call = refl }
@@ -239,6 +244,32 @@ module _ (all : List Op) where
   through_keeps : (slot at : ℕ) (index : erased.Index) (offset : ℕ) (cs : List Check) → SizedIndex slot index cs → AllKeep at (through_code slot index offset cs)
   through_keeps slot at index offset cs sized = steady_keeps at (through_code slot index offset cs) (through_steady slot index offset cs sized)
 
+  allocation_keeps : (at : ℕ) (terminated : Bool) (size : ℕ) → 1 ≤ size → keeps at (allocation_code terminated size) ≡ true
+  allocation_keeps at true size some = grind (arith, nat_tests, some)
+  allocation_keeps at false size some = grind (arith, nat_tests, some)
+
+  -- the value goes to a cell
+  stored_steady : (slot : ℕ) (type : CType) → AreSteady (ops.Local slot ∷ store_code type ∷ [])
+  stored_steady slot type = ((λ at. refl), ((λ at. calm_keeps at (store_code type) (calm_store (is_char type))), tt))
+
+  term_steady : (slot size : ℕ) (r : Reading) → 1 ≤ size → AreSteady (term_code slot size r)
+  term_steady slot size r some =
+      let sized : nat_le 1 size ≡ true = grind (arith, nat_tests, some) in
+      ((λ at. refl), ((λ at. refl), ((λ at. refl), ((λ at. refl), (base_steady slot r.bounds.base, (variable_steady r.bounds.hi.var, ((λ at. refl), ((λ at. sized), tt))))))))
+
+  ended_steady : (slot : ℕ) (type : CType) (size offset : ℕ) (cs : List Check) (r : Reading) → 1 ≤ size → AreSteady (ended_code slot type size offset cs r)
+  ended_steady slot type size offset cs r some =
+      let last = ops.Local slot ∷ store_code type ∷ [] in
+      let moved = moved_code slot directions.Forward size in (
+        (λ at. refl),
+        steady_both (checks_code slot (Onward size) cs) (term_code slot size r ++ (moved ++ (offset_code offset ++ last))) (checks_steady slot (Onward size) cs some)
+            (steady_both (term_code slot size r) (moved ++ (offset_code offset ++ last)) (term_steady slot size r some)
+            (steady_both moved (offset_code offset ++ last) (moved_steady slot directions.Forward size some) (steady_both (offset_code offset) last (offset_steady offset) (stored_steady slot type)))),
+      )
+
+  twice_steady : (slot : ℕ) → AreSteady (twice_code slot)
+  twice_steady slot = ((λ at. refl), ((λ at. refl), ((λ at. refl), ((λ at. refl), ((λ at. refl), ((λ at. refl), tt))))))
+
   reach_sized : (direction : Direction) (size : ℕ) → 1 ≤ size → 1 ≤ counted_size (reach_to direction size)
   reach_sized directions.Forward size some = some
   reach_sized directions.Backward size some = some
@@ -298,7 +329,8 @@ module _ (all : List Op) where
         starts_expression slot at pointer (has_front all at (expression_code slot at pointer) (expression_code slot (at + expression_size pointer) number ++ sum_code slot direction size cs) has)
     starts_expression slot at (erased.Order comparison left left_checks right right_checks) has =
         starts_expression slot at left (has_front all at (expression_code slot at left) (expression_code slot (at + expression_size left) right ++ order_code slot comparison left_checks right_checks) has)
-    starts_expression slot at (erased.Allocate count element) has = starts_expression slot at count (has_front all at (expression_code slot at count) (ops.Alloc (element_bytes element) ∷ []) has)
+    starts_expression slot at (erased.Allocate count element terminated) has = starts_expression slot at count (has_front all at (expression_code slot at count) (allocation_code terminated (element_bytes element) ∷ []) has)
+    starts_expression slot at (erased.Length pointer size cs) has = starts_expression slot at pointer (has_front all at (expression_code slot at pointer) (checks_code slot (Still size) cs ++ ops.TextLength ∷ []) has)
     starts_expression slot at (erased.Cast pointer size cs) has = starts_expression slot at pointer (has_front all at (expression_code slot at pointer) (checks_code slot (Still size) cs) has)
 
     starts_arguments : (slot at : ℕ) (arguments : erased.Arguments) → HasAt all at (arguments_code slot at arguments) → IsTarget (at + arguments_size arguments) → IsTarget at
@@ -342,15 +374,28 @@ module _ (all : List Op) where
   starts_before_value slot at (erased.Through pointer index offset cs) has =
       starts_expression slot at pointer (has_front all at (expression_code slot at pointer) (index_code slot (at + expression_size pointer) index) has)
 
+  starts_plain : (slot at : ℕ) (type : CType) (cell : erased.Place) (operator : Operator) (value : erased.Expression) (site : Site) → HasAt all at (plain_update slot at type cell operator value site) → IsTarget at
+  starts_plain slot at type cell operator value site has =
+      starts_place slot at cell (has_front all at (place_code slot at cell) (ops.Duplicate ∷ load_code type ∷ (expression_code slot (at + place_size cell + 2) value ++ operator_code operator site ∷ (byte_code (is_char type) ++ store_code type ∷ []))) has)
+
+  starts_update : (slot at : ℕ) (type : CType) (cell : erased.Place) (operator : Operator) (value : erased.Expression) (site : Site) (kept : Option Reading) → HasAt all at (update_code slot at type cell operator value site kept) → IsTarget at
+  starts_update slot at type cell operator value site None has = starts_plain slot at type cell operator value site has
+  starts_update slot at type (erased.Direct object offset) operator value site (Some r) has = starts_plain slot at type (erased.Direct object offset) operator value site has
+  starts_update slot at type (erased.Through pointer erased.First offset cs) operator value site (Some r) has = starts_plain slot at type (erased.Through pointer erased.First offset cs) operator value site has
+  starts_update slot at type (erased.Through pointer (erased.Element number size) offset cs) operator value site (Some r) has =
+      let index = erased.Element number size in
+      let cell = erased.Through pointer index offset cs in
+      let value_at = at + (expression_size pointer + expression_size number) + 6 + through_size index offset cs + 1 in
+      starts_before_value slot at cell (has_front all at (before_value slot at cell) (twice_code slot ++ (through_code slot index offset cs ++ load_code type ∷ (expression_code slot value_at value ++ operator_code operator site ∷ (byte_code (is_char type) ++ ops.Set slot ∷ ended_code slot type size offset [] r)))) has)
+
   mutual
     starts_statement : (p : Places) (at : ℕ) (x : erased.Statement) → HasAt all at (statement_code p at x) → IsTarget (at + statement_size x) → IsTarget at
     starts_statement p at erased.Nothing has end = target_same (at + 0) at (omega arith) end
     starts_statement p at (erased.SetLocal local value) has end = starts_expression p.scratch at value (has_front all at (expression_code p.scratch at value) (ops.Set local ∷ []) has)
-    starts_statement p at (erased.Store type cell value) has end =
-        starts_before_value p.scratch at cell (has_front all at (before_value p.scratch at cell) (expression_code p.scratch (at + before_value_size cell) value ++ behind_value p.scratch type cell) has)
+    starts_statement p at (erased.Store type cell value kept) has end =
+        starts_before_value p.scratch at cell (has_front all at (before_value p.scratch at cell) (expression_code p.scratch (at + before_value_size cell) value ++ behind_value p.scratch type cell kept) has)
     starts_statement p at (erased.UpdateLocal char local operator value site) has end = target_there at (ops.Local local) refl has.0
-    starts_statement p at (erased.Update type cell operator value site) has end =
-        starts_place p.scratch at cell (has_front all at (place_code p.scratch at cell) (ops.Duplicate ∷ load_code type ∷ (expression_code p.scratch (at + place_size cell + 2) value ++ operator_code operator site ∷ (byte_code (is_char type) ++ store_code type ∷ []))) has)
+    starts_statement p at (erased.Update type cell operator value site kept) has end = starts_update p.scratch at type cell operator value site kept has
     starts_statement p at (erased.Evaluate value) has end = starts_expression p.scratch at value (has_front all at (expression_code p.scratch at value) (ops.Discard ∷ []) has)
     starts_statement p at (erased.CallAlone callee arguments) has end =
         let there = has_back all at (arguments_code p.scratch at arguments) (ops.Tick ∷ callee_code callee ∷ []) (arguments_size arguments) (length_arguments p.scratch at arguments) has in
@@ -478,15 +523,23 @@ module _ (all : List Op) where
         let back = has_back all at (expression_code slot at left) (expression_code slot m right ++ last) (expression_size left) (length_expression slot at left) has in
         let behind = has_back all m (expression_code slot m right) last (expression_size right) (length_expression slot m right) back in
         steady_with slot at left right last (order_steady slot comparison left_checks right_checks) sized.0 sized.1 has (target_there (m + expression_size right) (ops.Set (number_slot slot)) refl behind.0) (paced_expression slot at left) (paced_expression slot m right)
-    paced_expression slot at (erased.Allocate count element) sized has end =
+    paced_expression slot at (erased.Allocate count element terminated) sized has end =
         let m = at + expression_size count in
-        let op = ops.Alloc (element_bytes element) in
+        let op = allocation_code terminated (element_bytes element) in
         let back = has_back all at (expression_code slot at count) (op ∷ []) (expression_size count) (length_expression slot at count) has in
-        let some = sized.1.some in
-        let counted : nat_le 1 (element_bytes element) ≡ true = grind (arith, nat_tests) in
         joined at (expression_size count) (expression_code slot at count) (op ∷ []) (length_expression slot at count)
-        (paced_expression slot at count sized.0 (has_front all at (expression_code slot at count) (op ∷ []) has) (target_there m op refl back.0))
-        (counted, tt)
+        (paced_expression slot at count sized.0 (has_front all at (expression_code slot at count) (op ∷ []) has) (target_there m op (allocation_free terminated (element_bytes element)) back.0))
+        (allocation_keeps m terminated (element_bytes element) sized.1.some, tt)
+    paced_expression slot at (erased.Length pointer size cs) sized has end =
+        let m = at + expression_size pointer in
+        let n = m + checks_size (Still size) cs in
+        let last = checks_code slot (Still size) cs ++ ops.TextLength ∷ [] in
+        let back = has_back all at (expression_code slot at pointer) last (expression_size pointer) (length_expression slot at pointer) has in
+        let behind = has_back all m (checks_code slot (Still size) cs) (ops.TextLength ∷ []) (checks_size (Still size) cs) (length_checks slot (Still size) cs) back in
+        joined at (expression_size pointer) (expression_code slot at pointer) last (length_expression slot at pointer)
+        (paced_expression slot at pointer sized.0 (has_front all at (expression_code slot at pointer) last has)
+        (starts_checks slot m (Still size) cs (has_front all m (checks_code slot (Still size) cs) (ops.TextLength ∷ []) back) (target_there n ops.TextLength refl behind.0)))
+        (steady_keeps m last (steady_both (checks_code slot (Still size) cs) (ops.TextLength ∷ []) (checks_steady slot (Still size) cs sized.1) ((λ at. refl), tt)))
     paced_expression slot at (erased.Cast pointer size cs) sized has end =
         let m = at + expression_size pointer in
         let last = checks_code slot (Still size) cs in
@@ -541,39 +594,53 @@ module _ (all : List Op) where
   lead_from : (p : Places) (m n : ℕ) → n ≤ m → LeadOn p m → LeadOn p n
   lead_from p m n le l = record { break_behind = omega (arith, l.break_behind); break_free = l.break_free; continue_behind = omega (arith, l.continue_behind); continue_free = l.continue_free }
 
-  paced_store : (slot at : ℕ) (type : CType) (cell : erased.Place) (value : erased.Expression) → SizedPlace slot cell → SizedExpression slot value → HasAt all at (before_value slot at cell ++ (expression_code slot (at + before_value_size cell) value ++ behind_value slot type cell)) → AllKeep at (before_value slot at cell ++ (expression_code slot (at + before_value_size cell) value ++ behind_value slot type cell))
-  paced_store slot at type (erased.Direct object offset) value sized sized' has =
+  -- a pointer and the number of an element, and what follows them
+  paced_before : (slot at : ℕ) (pointer : erased.Expression) (index : erased.Index) (offset : ℕ) (cs : List Check) → SizedPlace slot (erased.Through pointer index offset cs) → HasAt all at (expression_code slot at pointer ++ index_code slot (at + expression_size pointer) index) → IsTarget (at + (expression_size pointer + index_size index)) → AllKeep at (expression_code slot at pointer ++ index_code slot (at + expression_size pointer) index)
+  paced_before slot at pointer index offset cs sized has starts =
+      let j = at + expression_size pointer in
+      let first = expression_code slot at pointer in
+      let second = index_code slot j index in
+      let at_index = has_back all at first second (expression_size pointer) (length_expression slot at pointer) has in
+      let out = target_same (at + (expression_size pointer + index_size index)) (j + index_size index) (omega arith) starts in
+      let index_has = subst (λ l. HasAt all j l) (sym (append-nil second)) at_index in
+      joined at (expression_size pointer) first second (length_expression slot at pointer)
+      (paced_expression slot at pointer sized.0 (has_front all at first second has) (starts_index slot j index [] index_has out))
+      (paced_index slot j index cs sized.1 at_index out)
+
+  -- the value of a store through a pointer, and what follows it
+  paced_through : (slot at : ℕ) (pointer : erased.Expression) (index : erased.Index) (offset : ℕ) (cs : List Check) (value : erased.Expression) (last : List Op) → AreSteady last → SizedPlace slot (erased.Through pointer index offset cs) → SizedExpression slot value → HasAt all at (before_value slot at (erased.Through pointer index offset cs) ++ (expression_code slot (at + before_value_size (erased.Through pointer index offset cs)) value ++ ops.Set slot ∷ last)) → AllKeep at (before_value slot at (erased.Through pointer index offset cs) ++ (expression_code slot (at + before_value_size (erased.Through pointer index offset cs)) value ++ ops.Set slot ∷ last))
+  paced_through slot at pointer index offset cs value last steady sized sized' has =
+      let cell = erased.Through pointer index offset cs in
+      let before = before_value slot at cell in
+      let m = at + before_value_size cell in
+      let n = m + expression_size value in
+      let kept = ops.Set slot ∷ last in
+      let rest = expression_code slot m value ++ kept in
+      let back = has_back all at before rest (before_value_size cell) (length_before slot at cell) has in
+      let behind = has_back all m (expression_code slot m value) kept (expression_size value) (length_expression slot m value) back in
+      let front = has_front all m (expression_code slot m value) kept back in
+      joined at (before_value_size cell) before rest (length_before slot at cell)
+      (paced_before slot at pointer index offset cs sized (has_front all at before rest has) (starts_expression slot m value front))
+      (joined m (expression_size value) (expression_code slot m value) kept (length_expression slot m value)
+      (paced_expression slot m value sized' front (target_there n (ops.Set slot) refl behind.0))
+      (refl, steady_keeps (n + 1) last steady))
+
+  plainly_steady : (slot : ℕ) (type : CType) (index : erased.Index) (offset : ℕ) (cs : List Check) → SizedIndex slot index cs → AreSteady (through_code slot index offset cs ++ ops.Local slot ∷ store_code type ∷ [])
+  plainly_steady slot type index offset cs sized = steady_both (through_code slot index offset cs) (ops.Local slot ∷ store_code type ∷ []) (through_steady slot index offset cs sized) (stored_steady slot type)
+
+  paced_store : (slot at : ℕ) (type : CType) (cell : erased.Place) (value : erased.Expression) (end : Option Reading) → SizedPlace slot cell → SizedExpression slot value → HasAt all at (before_value slot at cell ++ (expression_code slot (at + before_value_size cell) value ++ behind_value slot type cell end)) → AllKeep at (before_value slot at cell ++ (expression_code slot (at + before_value_size cell) value ++ behind_value slot type cell end))
+  paced_store slot at type (erased.Direct object offset) value end sized sized' has =
       let m = at + (1 + offset_size offset) in
       let rest = expression_code slot m value ++ store_code type ∷ [] in
       let back = has_back all at (address_code object offset) rest (1 + offset_size offset) (omega (arith, length_offset offset)) has in
       joined at (1 + offset_size offset) (address_code object offset) rest (omega (arith, length_offset offset)) (refl, offset_keeps (at + 1) offset)
       (paced_one slot m value (store_code type) (calm_store (is_char type)) sized' back)
-  paced_store slot at type (erased.Through pointer index offset cs) value sized sized' has =
-      let cell = erased.Through pointer index offset cs in
-      let j = at + expression_size pointer in
-      let first = expression_code slot at pointer in
-      let second = index_code slot j index in
-      let m = at + before_value_size cell in
-      let n = m + expression_size value in
-      let last = ops.Local slot ∷ store_code type ∷ [] in
-      let size = through_size index offset cs in
-      let check = ops.Set slot ∷ (through_code slot index offset cs ++ last) in
-      let rest = expression_code slot m value ++ check in
-      let back = has_back all at (first ++ second) rest (before_value_size cell) (length_before slot at cell) has in
-      let behind = has_back all m (expression_code slot m value) check (expression_size value) (length_expression slot m value) back in
-      let store = calm_keeps (n + 1 + size + 1) (store_code type) (calm_store (is_char type)) in
-      let front = has_front all at (first ++ second) rest has in
-      let at_index = has_back all at first second (expression_size pointer) (length_expression slot at pointer) front in
-      let starts_value = starts_expression slot m value (has_front all m (expression_code slot m value) check back) in
-      let out = target_same m (j + index_size index) (omega arith) starts_value in
-      let index_has = subst (λ l. HasAt all j l) (sym (append-nil second)) at_index in
-      joined at (before_value_size cell) (first ++ second) rest (length_before slot at cell)
-      (joined at (expression_size pointer) first second (length_expression slot at pointer)
-      (paced_expression slot at pointer sized.0 (has_front all at first second front) (starts_index slot j index [] index_has out))
-      (paced_index slot j index cs sized.1 at_index out))
-      (joined m (expression_size value) (expression_code slot m value) check (length_expression slot m value)
-      (paced_expression slot m value sized' (has_front all m (expression_code slot m value) check back) (target_there n (ops.Set slot) refl behind.0))
-      (refl, joined (n + 1) size (through_code slot index offset cs) last (length_through slot index offset cs) (through_keeps slot (n + 1) index offset cs sized.1) (refl, (store, tt))))
+  paced_store slot at type (erased.Through pointer index offset cs) value None sized sized' has =
+      paced_through slot at pointer index offset cs value (through_code slot index offset cs ++ ops.Local slot ∷ store_code type ∷ []) (plainly_steady slot type index offset cs sized.1) sized sized' has
+  paced_store slot at type (erased.Through pointer erased.First offset cs) value (Some r) sized sized' has =
+      paced_through slot at pointer erased.First offset cs value (through_code slot erased.First offset cs ++ ops.Local slot ∷ store_code type ∷ []) (plainly_steady slot type erased.First offset cs sized.1) sized sized' has
+  paced_store slot at type (erased.Through pointer (erased.Element number size) offset cs) value (Some r) sized sized' has =
+      paced_through slot at pointer (erased.Element number size) offset cs value (ended_code slot type size offset cs r) (ended_steady slot type size offset cs r sized.1.1) sized sized' has
 
   -- an operator, and where its result goes
   paced_result : (at : ℕ) (operator : Operator) (site : Site) (char : Bool) (keep : Op) → IsCalm keep → AllKeep at (operator_code operator site ∷ (byte_code char ++ keep ∷ []))
@@ -590,25 +657,61 @@ module _ (all : List Op) where
       (paced_expression slot at value sized (has_front all at (expression_code slot at value) last has) (target_there (at + expression_size value) (operator_code operator site) (calm_operator operator site).no_call back.0))
       (paced_result (at + expression_size value) operator site char keep calm)
 
-  paced_update : (at : ℕ) (type : CType) (cell : erased.Place) (value : erased.Expression) (operator : Operator) (site : Site) → (p : Places) → SizedPlace p.scratch cell → SizedExpression p.scratch value → HasAt all at (statement_code p at (erased.Update type cell operator value site)) → AllKeep at (statement_code p at (erased.Update type cell operator value site))
-  paced_update at type cell value operator site p sized sized' has =
+  paced_plain : (slot at : ℕ) (type : CType) (cell : erased.Place) (operator : Operator) (value : erased.Expression) (site : Site) → SizedPlace slot cell → SizedExpression slot value → HasAt all at (plain_update slot at type cell operator value site) → AllKeep at (plain_update slot at type cell operator value site)
+  paced_plain slot at type cell operator value site sized sized' has =
       let m = at + place_size cell in
-      let operand = expression_code p.scratch (m + 2) value ++ operator_code operator site ∷ (byte_code (is_char type) ++ store_code type ∷ []) in
+      let operand = expression_code slot (m + 2) value ++ operator_code operator site ∷ (byte_code (is_char type) ++ store_code type ∷ []) in
       let rest = ops.Duplicate ∷ load_code type ∷ operand in
-      let back = has_back all at (place_code p.scratch at cell) rest (place_size cell) (length_place p.scratch at cell) has in
+      let back = has_back all at (place_code slot at cell) rest (place_size cell) (length_place slot at cell) has in
       let two : m + 1 + 1 ≡ m + 2 = omega arith in
-      let keeps = paced_operand p.scratch (m + 2) value operator site (is_char type) (store_code type) (calm_store (is_char type)) sized' (subst (λ k. HasAt all k operand) two back.1.1) in
-      joined at (place_size cell) (place_code p.scratch at cell) rest (length_place p.scratch at cell)
-      (paced_place p.scratch at cell sized (has_front all at (place_code p.scratch at cell) rest has) (target_there m ops.Duplicate refl back.0))
+      let keeps = paced_operand slot (m + 2) value operator site (is_char type) (store_code type) (calm_store (is_char type)) sized' (subst (λ k. HasAt all k operand) two back.1.1) in
+      joined at (place_size cell) (place_code slot at cell) rest (length_place slot at cell)
+      (paced_place slot at cell sized (has_front all at (place_code slot at cell) rest has) (target_there m ops.Duplicate refl back.0))
       (refl, (calm_keeps (m + 1) (load_code type) (calm_load (is_char type)), subst (λ k. AllKeep k operand) (sym two) keeps))
+
+  paced_update : (slot at : ℕ) (type : CType) (cell : erased.Place) (operator : Operator) (value : erased.Expression) (site : Site) (end : Option Reading) → SizedPlace slot cell → SizedExpression slot value → HasAt all at (update_code slot at type cell operator value site end) → AllKeep at (update_code slot at type cell operator value site end)
+  paced_update slot at type cell operator value site None sized sized' has = paced_plain slot at type cell operator value site sized sized' has
+  paced_update slot at type (erased.Direct object offset) operator value site (Some r) sized sized' has = paced_plain slot at type (erased.Direct object offset) operator value site sized sized' has
+  paced_update slot at type (erased.Through pointer erased.First offset cs) operator value site (Some r) sized sized' has = paced_plain slot at type (erased.Through pointer erased.First offset cs) operator value site sized sized' has
+  paced_update slot at type (erased.Through pointer (erased.Element number size) offset cs) operator value site (Some r) sized sized' has =
+      let index = erased.Element number size in
+      let cell = erased.Through pointer index offset cs in
+      let char = is_char type in
+      let ts = through_size index offset cs in
+      let before = expression_size pointer + expression_size number in
+      let m = at + before in
+      let k = m + 6 in
+      let kv = k + ts + 1 in
+      let n = kv + expression_size value in
+      let thr = through_code slot index offset cs in
+      let kept = ops.Set slot ∷ ended_code slot type size offset [] r in
+      let last = operator_code operator site ∷ (byte_code char ++ kept) in
+      let loaded = load_code type ∷ (expression_code slot kv value ++ last) in
+      let rest = twice_code slot ++ (thr ++ loaded) in
+      let second = has_back all at (before_value slot at cell) rest before (length_before slot at cell) has in
+      let third = has_back all m (twice_code slot) (thr ++ loaded) 6 refl second in
+      let fourth = has_back all k thr loaded ts (length_through slot index offset cs) third in
+      let fifth = has_back all kv (expression_code slot kv value) last (expression_size value) (length_expression slot kv value) fourth.1 in
+      joined at before (before_value slot at cell) rest (length_before slot at cell)
+      (paced_before slot at pointer index offset cs sized (has_front all at (before_value slot at cell) rest has) (target_there m (ops.Set (number_slot slot)) refl second.0))
+      (joined m 6 (twice_code slot) (thr ++ loaded) refl (steady_keeps m (twice_code slot) (twice_steady slot))
+      (joined k ts thr loaded (length_through slot index offset cs) (through_keeps slot k index offset cs sized.1) (
+        calm_keeps (k + ts) (load_code type) (calm_load char),
+        joined kv (expression_size value) (expression_code slot kv value) last (length_expression slot kv value)
+            (paced_expression slot kv value sized' (has_front all kv (expression_code slot kv value) last fourth.1) (target_there n (operator_code operator site) (calm_operator operator site).no_call fifth.0)) (
+              calm_keeps n (operator_code operator site) (calm_operator operator site),
+              joined (n + 1) (byte_size char) (byte_code char) kept (length_byte char) (byte_keeps (n + 1) char)
+                  (refl, steady_keeps (n + 1 + byte_size char + 1) (ended_code slot type size offset [] r) (ended_steady slot type size offset [] r sized.1.1)),
+            ),
+      )))
 
   mutual
     paced_statement : (p : Places) (at : ℕ) (x : erased.Statement) → SizedStatement p.scratch x → HasAt all at (statement_code p at x) → IsTarget (at + statement_size x) → LeadOn p (at + statement_size x) → AllKeep at (statement_code p at x)
     paced_statement p at erased.Nothing sized has end leads = tt
     paced_statement p at (erased.SetLocal local value) sized has end leads = paced_one p.scratch at value (ops.Set local) (record { no_jump = refl; no_call = refl }) sized has
-    paced_statement p at (erased.Store type cell value) sized has end leads = paced_store p.scratch at type cell value sized.0 sized.1 has
+    paced_statement p at (erased.Store type cell value kept) sized has end leads = paced_store p.scratch at type cell value kept sized.0 sized.1 has
     paced_statement p at (erased.UpdateLocal char local operator value site) sized has end leads = (refl, paced_operand p.scratch (at + 1) value operator site char (ops.Set local) (record { no_jump = refl; no_call = refl }) sized has.1)
-    paced_statement p at (erased.Update type cell operator value site) sized has end leads = paced_update at type cell value operator site p sized.0 sized.1 has
+    paced_statement p at (erased.Update type cell operator value site kept) sized has end leads = paced_update p.scratch at type cell operator value site kept sized.0 sized.1 has
     paced_statement p at (erased.Evaluate value) sized has end leads = paced_one p.scratch at value ops.Discard (record { no_jump = refl; no_call = refl }) sized has
     paced_statement p at (erased.CallAlone callee arguments) sized has end leads =
         called at (arguments_size arguments) (arguments_code p.scratch at arguments) (callee_code callee) (length_arguments p.scratch at arguments) (callee_no_jump callee) has (paced_arguments p.scratch at arguments sized (has_front all at (arguments_code p.scratch at arguments) (ops.Tick ∷ callee_code callee ∷ []) has))

@@ -1,5 +1,5 @@
 -- How many instructions the code of a part has, and that each expression needs a word of the stack.
-use Rattle.std.proofs.Common.{◌≡◌, ℕ, zero, suc, ◌+◌, ◌≤◌, Bool, true, false, pos, List, [], ◌∷◌, ◌++◌, length, refl, ap, ◌∙◌, arith, length-append}
+use Rattle.std.proofs.Common.{◌≡◌, ℕ, zero, suc, ◌+◌, ◌≤◌, Bool, true, false, pos, List, [], ◌∷◌, ◌++◌, length, Option, Some, None, refl, ap, ◌∙◌, arith, length-append}
 use Rattle.pointer_modes.specs.Types.{CType}
 use Rattle.act_words.specs.declared.operator.Comparison.{Comparison}
 use Rattle.act_words.specs.declared.operator.Comparison.TheVariants as comparisons
@@ -9,11 +9,14 @@ use Rattle.ckc_core.specs.declared.program.Direction.TheVariants as directions
 use Rattle.ckc_core.specs.Pointers.{element_size}
 use Rattle.check_insertion.specs.declared.erased.Check.{Check}
 use Rattle.check_insertion.specs.declared.erased.Check.TheVariants as checks
+use Rattle.check_insertion.specs.declared.erased.Reading.{Reading}
+use Rattle.act_words.specs.declared.operator.Operator.{Operator}
+use Rattle.ckc_core.specs.declared.program.Site.{Site}
 use Rattle.check_insertion.specs.Erased as erased
 use Rattle.ckc_core.specs.Steps.{is_char}
 use Rattle.code_words.specs.declared.op.Op.{Op}
 use Rattle.code_words.specs.declared.op.Op.TheVariants as ops
-use Rattle.lowering.specs.Code.{Reach, Still, Onward, Back, Places, operator_code, load_code, store_code, offset_code, offset_size, check_code, checks_code, through_code, through_size, byte_code, byte_size, expression_size, arguments_size, place_size, before_value_size, behind_value_size, statement_size, statements_size, expression_code, arguments_code, place_code, before_value, behind_value, statement_code, statements_code, callee_code, reach_to, counted_size, number_slot, number_code, number_size, end_constant, bounds_code, within_code, check_size, checks_size, moved_code, moved_size, sum_code, sum_size, order_op, order_code, order_size, index_code, index_size}
+use Rattle.lowering.specs.Code.{Reach, Still, Onward, Back, Places, operator_code, load_code, store_code, offset_code, offset_size, check_code, checks_code, through_code, through_size, byte_code, byte_size, expression_size, arguments_size, place_size, before_value_size, behind_value_size, statement_size, statements_size, expression_code, arguments_code, place_code, before_value, behind_value, statement_code, statements_code, callee_code, reach_to, counted_size, number_slot, number_code, number_size, end_constant, bounds_code, within_code, check_size, checks_size, moved_code, moved_size, sum_code, sum_size, order_op, order_code, order_size, index_code, index_size, allocation_code, term_code, ended_code, ended_size, twice_code, plain_update, update_code, update_size, behind_through, behind_through_size}
 use Rattle.check_insertion.specs.Stacks.{offset_stack, expression_stack, place_stack}
 
 pub length_offset : (n : ℕ) → length (offset_code n) ≡ offset_size n
@@ -61,6 +64,14 @@ length_through slot (erased.Element number size) offset checks =
       length_then (checks_code slot (Onward size) checks) (moved_code slot directions.Forward size ++ offset_code offset) (checks_size (Onward size) checks) (2 + offset_size offset) (length_checks slot (Onward size) checks)
           (length_then (moved_code slot directions.Forward size) (offset_code offset) 2 (offset_size offset) refl (length_offset offset)),
     )
+
+pub length_ended : (slot : ℕ) (type : CType) (size offset : ℕ) (checks : List Check) (r : Reading) → length (ended_code slot type size offset checks r) ≡ ended_size size offset checks
+length_ended slot type size offset checks r =
+    let last = ops.Local slot ∷ store_code type ∷ [] in
+    let far = length_then (offset_code offset) last (offset_size offset) 2 (length_offset offset) refl in
+    let moved = length_then (moved_code slot directions.Forward size) (offset_code offset ++ last) 2 (offset_size offset + 2) refl far in
+    let ends = length_then (term_code slot size r) (moved_code slot directions.Forward size ++ (offset_code offset ++ last)) 8 (2 + (offset_size offset + 2)) refl moved in
+    omega (arith, length_then (checks_code slot (Onward size) checks) (term_code slot size r ++ (moved_code slot directions.Forward size ++ (offset_code offset ++ last))) (checks_size (Onward size) checks) (8 + (2 + (offset_size offset + 2))) (length_checks slot (Onward size) checks) ends)
 
 pub length_sum : (slot : ℕ) (direction : Direction) (size : ℕ) (checks : List Check) → length (sum_code slot direction size checks) ≡ sum_size direction size checks
 length_sum slot direction size checks =
@@ -112,7 +123,10 @@ mutual
   length_expression slot at (erased.Order comparison left left_checks right right_checks) =
       length_then (expression_code slot at left) (expression_code slot (at + expression_size left) right ++ order_code slot comparison left_checks right_checks) (expression_size left) (expression_size right + order_size left_checks right_checks) (length_expression slot at left)
       (length_then (expression_code slot (at + expression_size left) right) (order_code slot comparison left_checks right_checks) (expression_size right) (order_size left_checks right_checks) (length_expression slot (at + expression_size left) right) (length_order slot comparison left_checks right_checks))
-  length_expression slot at (erased.Allocate count element) = length_then (expression_code slot at count) (ops.Alloc (element_size element) ∷ []) (expression_size count) 1 (length_expression slot at count) refl
+  length_expression slot at (erased.Allocate count element terminated) = length_then (expression_code slot at count) (allocation_code terminated (element_size element) ∷ []) (expression_size count) 1 (length_expression slot at count) refl
+  length_expression slot at (erased.Length pointer size checks) =
+      length_then (expression_code slot at pointer) (checks_code slot (Still size) checks ++ ops.TextLength ∷ []) (expression_size pointer) (checks_size (Still size) checks + 1) (length_expression slot at pointer)
+      (length_then (checks_code slot (Still size) checks) (ops.TextLength ∷ []) (checks_size (Still size) checks) 1 (length_checks slot (Still size) checks) refl)
   length_expression slot at (erased.Cast pointer size checks) =
       length_then (expression_code slot at pointer) (checks_code slot (Still size) checks) (expression_size pointer) (checks_size (Still size) checks) (length_expression slot at pointer) (length_checks slot (Still size) checks)
 
@@ -136,28 +150,56 @@ length_before slot at (erased.Direct object offset) = omega (arith, length_offse
 length_before slot at (erased.Through pointer index offset checks) =
     length_then (expression_code slot at pointer) (index_code slot (at + expression_size pointer) index) (expression_size pointer) (index_size index) (length_expression slot at pointer) (length_index slot (at + expression_size pointer) index)
 
-pub length_behind : (slot : ℕ) (type : CType) (p : erased.Place) → length (behind_value slot type p) ≡ behind_value_size p
-length_behind slot type (erased.Direct object offset) = refl
-length_behind slot type (erased.Through pointer index offset checks) =
+length_through_behind : (slot : ℕ) (type : CType) (index : erased.Index) (offset : ℕ) (checks : List Check) (end : Option Reading) → length (behind_through slot type index offset checks end) ≡ behind_through_size index offset checks end
+length_through_behind slot type index offset checks None =
     omega (arith, length-append (through_code slot index offset checks) (ops.Local slot ∷ store_code type ∷ []), length_through slot index offset checks)
+length_through_behind slot type erased.First offset checks (Some r) =
+    omega (arith, length-append (through_code slot erased.First offset checks) (ops.Local slot ∷ store_code type ∷ []), length_through slot erased.First offset checks)
+length_through_behind slot type (erased.Element number size) offset checks (Some r) = omega (arith, length_ended slot type size offset checks r)
+
+pub length_behind : (slot : ℕ) (type : CType) (p : erased.Place) (end : Option Reading) → length (behind_value slot type p end) ≡ behind_value_size p end
+length_behind slot type (erased.Direct object offset) end = refl
+length_behind slot type (erased.Through pointer index offset checks) end = length_through_behind slot type index offset checks end
+
+length_plain : (slot at : ℕ) (type : CType) (cell : erased.Place) (operator : Operator) (value : erased.Expression) (site : Site) → length (plain_update slot at type cell operator value site) ≡ place_size cell + (2 + (expression_size value + (1 + (byte_size (is_char type) + 1))))
+length_plain slot at type cell operator value site =
+    let m = at + place_size cell + 2 in
+    let last = operator_code operator site ∷ (byte_code (is_char type) ++ store_code type ∷ []) in
+    let back = length_then (expression_code slot m value) last (expression_size value) (1 + (byte_size (is_char type) + 1)) (length_expression slot m value) (omega (arith, length_then (byte_code (is_char type)) (store_code type ∷ []) (byte_size (is_char type)) 1 (length_byte (is_char type)) refl)) in
+    length_then (place_code slot at cell) (ops.Duplicate ∷ load_code type ∷ (expression_code slot m value ++ last)) (place_size cell) (2 + (expression_size value + (1 + (byte_size (is_char type) + 1)))) (length_place slot at cell) (omega (arith, back))
+
+pub length_update : (slot at : ℕ) (type : CType) (cell : erased.Place) (operator : Operator) (value : erased.Expression) (site : Site) (end : Option Reading) → length (update_code slot at type cell operator value site end) ≡ update_size cell end (expression_size value) (byte_size (is_char type))
+length_update slot at type cell operator value site None = length_plain slot at type cell operator value site
+length_update slot at type (erased.Direct object offset) operator value site (Some r) = length_plain slot at type (erased.Direct object offset) operator value site
+length_update slot at type (erased.Through pointer erased.First offset checks) operator value site (Some r) = length_plain slot at type (erased.Through pointer erased.First offset checks) operator value site
+length_update slot at type (erased.Through pointer (erased.Element number size) offset checks) operator value site (Some r) =
+    let index = erased.Element number size in
+    let cell = erased.Through pointer index offset checks in
+    let byte = byte_size (is_char type) in
+    let m = at + (expression_size pointer + expression_size number) + 6 + through_size index offset checks + 1 in
+    let kept = ops.Set slot ∷ ended_code slot type size offset [] r in
+    let last = operator_code operator site ∷ (byte_code (is_char type) ++ kept) in
+    let loaded = load_code type ∷ (expression_code slot m value ++ last) in
+    let ended : length kept ≡ 1 + ended_size size offset [] = omega (arith, length_ended slot type size offset [] r) in
+    let results = length_then (byte_code (is_char type)) kept byte (1 + ended_size size offset []) (length_byte (is_char type)) ended in
+    let values = length_then (expression_code slot m value) last (expression_size value) (1 + (byte + (1 + ended_size size offset []))) (length_expression slot m value) (omega (arith, results)) in
+    let far = length_then (through_code slot index offset checks) loaded (through_size index offset checks) (1 + (expression_size value + (1 + (byte + (1 + ended_size size offset []))))) (length_through slot index offset checks) (omega (arith, values)) in
+    let twice = length_then (twice_code slot) (through_code slot index offset checks ++ loaded) 6 (through_size index offset checks + (1 + (expression_size value + (1 + (byte + (1 + ended_size size offset [])))))) refl far in
+    length_then (before_value slot at cell) (twice_code slot ++ (through_code slot index offset checks ++ loaded)) (expression_size pointer + expression_size number) (6 + (through_size index offset checks + (1 + (expression_size value + (1 + (byte + (1 + ended_size size offset []))))))) (length_before slot at cell) twice
 
 mutual
   pub length_statement : (p : Places) (at : ℕ) (x : erased.Statement) → length (statement_code p at x) ≡ statement_size x
   length_statement p at erased.Nothing = refl
   length_statement p at (erased.SetLocal local value) = length_then (expression_code p.scratch at value) (ops.Set local ∷ []) (expression_size value) 1 (length_expression p.scratch at value) refl
-  length_statement p at (erased.Store type cell value) =
+  length_statement p at (erased.Store type cell value end) =
       let m = at + before_value_size cell in
-      length_then (before_value p.scratch at cell) (expression_code p.scratch m value ++ behind_value p.scratch type cell) (before_value_size cell) (expression_size value + behind_value_size cell) (length_before p.scratch at cell)
-      (length_then (expression_code p.scratch m value) (behind_value p.scratch type cell) (expression_size value) (behind_value_size cell) (length_expression p.scratch m value) (length_behind p.scratch type cell))
+      length_then (before_value p.scratch at cell) (expression_code p.scratch m value ++ behind_value p.scratch type cell end) (before_value_size cell) (expression_size value + behind_value_size cell end) (length_before p.scratch at cell)
+      (length_then (expression_code p.scratch m value) (behind_value p.scratch type cell end) (expression_size value) (behind_value_size cell end) (length_expression p.scratch m value) (length_behind p.scratch type cell end))
   length_statement p at (erased.UpdateLocal char local operator value site) =
       let last = operator_code operator site ∷ (byte_code char ++ ops.Set local ∷ []) in
       ap suc (length_then (expression_code p.scratch (at + 1) value) last (expression_size value) (1 + (byte_size char + 1)) (length_expression p.scratch (at + 1) value) (omega (arith, length_then (byte_code char) (ops.Set local ∷ []) (byte_size char) 1 (length_byte char) refl)))
       ∙ (omega arith)
-  length_statement p at (erased.Update type cell operator value site) =
-      let m = at + place_size cell + 2 in
-      let last = operator_code operator site ∷ (byte_code (is_char type) ++ store_code type ∷ []) in
-      let back = length_then (expression_code p.scratch m value) last (expression_size value) (1 + (byte_size (is_char type) + 1)) (length_expression p.scratch m value) (omega (arith, length_then (byte_code (is_char type)) (store_code type ∷ []) (byte_size (is_char type)) 1 (length_byte (is_char type)) refl)) in
-      length_then (place_code p.scratch at cell) (ops.Duplicate ∷ load_code type ∷ (expression_code p.scratch m value ++ last)) (place_size cell) (2 + (expression_size value + (1 + (byte_size (is_char type) + 1)))) (length_place p.scratch at cell) (omega (arith, back))
+  length_statement p at (erased.Update type cell operator value site end) = length_update p.scratch at type cell operator value site end
   length_statement p at (erased.Evaluate value) = length_then (expression_code p.scratch at value) (ops.Discard ∷ []) (expression_size value) 1 (length_expression p.scratch at value) refl
   length_statement p at (erased.CallAlone callee arguments) = length_then (arguments_code p.scratch at arguments) (ops.Tick ∷ callee_code callee ∷ []) (arguments_size arguments) 2 (length_arguments p.scratch at arguments) refl
   length_statement p at (erased.Print number) = length_then (expression_code p.scratch at number) (ops.Print ∷ []) (expression_size number) 1 (length_expression p.scratch at number) refl
@@ -216,7 +258,8 @@ mutual
   stack_above erased.NextInput = omega arith
   stack_above (erased.Sum pointer direction number size checks) = omega (arith, stack_above pointer)
   stack_above (erased.Order comparison left left_checks right right_checks) = omega (arith, stack_above left)
-  stack_above (erased.Allocate count element) = stack_above count
+  stack_above (erased.Allocate count element terminated) = stack_above count
+  stack_above (erased.Length pointer size checks) = omega (arith, stack_above pointer)
   stack_above (erased.Cast pointer size checks) = omega (arith, stack_above pointer)
 
   pub place_above : (p : erased.Place) → 1 ≤ place_stack p

@@ -226,7 +226,7 @@ module _ (g : Execution) (l : Layout g) where
   abbrev pub holding : ℕ → meaning.State → Layout g
   holding w s = record l { held = Some w; since = shapes s.blocks }
 
-  value_set : (next : ℕ) (stack : List ℕ) (s : meaning.State) (p : Places) (w : ℕ) → p.scratch ≡ length l.function.locals → Here g l next (w ∷ stack) s → slice_get (code g l).ops next ≡ Some (ops.Set p.scratch) → Here g (holding w s) (next + 1) stack s
+  pub value_set : (next : ℕ) (stack : List ℕ) (s : meaning.State) (p : Places) (w : ℕ) → p.scratch ≡ length l.function.locals → Here g l next (w ∷ stack) s → slice_get (code g l).ops next ≡ Some (ops.Set p.scratch) → Here g (holding w s) (next + 1) stack s
   value_set next stack s p w is here at =
       let c = here.scratch in
       let slots = map (slot s) s.locals ++ words c in
@@ -249,7 +249,7 @@ module _ (g : Execution) (l : Layout g) where
       }
 
   -- the value's word is pushed
-  value_pushed : (next : ℕ) (stack : List ℕ) (s t : meaning.State) (p : Places) (w : ℕ) → ArePlaces g l p → Grows l.since (shapes s.blocks) → Here g (holding w s) next stack t → slice_get (code g l).ops next ≡ Some (ops.Local p.scratch) → length stack < (code g l).stack → Here g l (next + 1) (w ∷ stack) t
+  pub value_pushed : (next : ℕ) (stack : List ℕ) (s t : meaning.State) (p : Places) (w : ℕ) → ArePlaces g l p → Grows l.since (shapes s.blocks) → Here g (holding w s) next stack t → slice_get (code g l).ops next ≡ Some (ops.Local p.scratch) → length stack < (code g l).stack → Here g l (next + 1) (w ∷ stack) t
   value_pushed next stack s t p w places grows here at room =
       let c = here.scratch in
       let slots = map (slot t) t.locals ++ words c in

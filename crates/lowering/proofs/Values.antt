@@ -1,5 +1,5 @@
 -- The code of an expression leaves the word of its value.
-use Rattle.std.proofs.Common.{◌≡◌, ℕ, ◌+◌, ◌<◌, ◌≤◌, ℤ, pos, List, [], ◌∷◌, ◌++◌, length, Option, Some, None, refl, sym, subst, arith}
+use Rattle.std.proofs.Common.{◌≡◌, ℕ, Bool, ◌+◌, ◌<◌, ◌≤◌, ℤ, pos, List, [], ◌∷◌, ◌++◌, length, Option, Some, None, refl, sym, subst, arith}
 use Rattle.std.specs.Prelude.{max, slice_get, not}
 use Rattle.std.specs.List.{AllByRecursion}
 use Rattle.ckc_core.specs.Outcome.{Gives, Ends, Stuck, Unsound, Short, and_then}
@@ -17,7 +17,7 @@ use Rattle.ckc_core.specs.Steps.{Result, setting_of, truth, number_of_test, arit
 use Rattle.check_insertion.specs.ErasedMeaning.{Knot, Setting, value, values, place, number_of}
 use Rattle.code_words.specs.declared.op.Op.{Op}
 use Rattle.code_words.specs.declared.op.Op.TheVariants as ops
-use Rattle.lowering.specs.Code.{Still, operator_code, load_code, checks_code, checks_size, through_code, through_size, sum_code, sum_size, order_code, order_size, index_code, index_size, expression_size, arguments_size, place_size, expression_code, arguments_code, place_code, callee_code}
+use Rattle.lowering.specs.Code.{Still, operator_code, load_code, checks_code, checks_size, through_code, through_size, sum_code, sum_size, order_code, order_size, index_code, index_size, expression_size, arguments_size, place_size, expression_code, arguments_code, place_code, callee_code, allocation_code}
 use Rattle.check_insertion.specs.Stacks.{expression_stack, arguments_stack, place_stack, index_stack}
 use Rattle.lowering.specs.Sized.{IsElement, SizedExpression, SizedArguments, SizedPlace, SizedIndex}
 use Rattle.lowering.proofs.Shapes.{kept_grows, word_grows}
@@ -28,6 +28,7 @@ use Rattle.lowering.proofs.Expressions.{number_runs, local_runs, operator_runs, 
 use Rattle.lowering.proofs.Places.{Placed, variable_runs, load_runs}
 use Rattle.lowering.proofs.Accesses.{index_pile, IsIndex, SmallChecks, most_words, through_runs, sum_runs, order_runs, cast_runs}
 use Rattle.lowering.proofs.Allocations.{allocation_runs}
+use Rattle.lowering.proofs.TextLengths.{length_runs}
 use Rattle.lowering.proofs.Conditions.{zero_runs, and_runs, or_runs, same_runs}
 use Rattle.lowering.proofs.Calls.{piled, KnotRuns, Resumes, call_runs}
 use Rattle.lowering.proofs.Tainted.{tainted_runs}
@@ -149,10 +150,10 @@ module _ (g : Execution) where
         (λ w u y. numbered l number size n stack v w t u x.0.kept.grows x.1 y)
 
     -- a count, and the block that is made
-    allocated_runs : (l : Layout g) (m : ℕ) (stack : List ℕ) (v : Value) (t : meaning.State) (element : List Initial) → IsElement element → IsKept t v → Here g l m (word_of g t v ∷ stack) t → slice_get (code g l).ops m ≡ Some (ops.Alloc (element_size element)) → length stack < (code g l).stack → Evaluates g l (m + 1) stack (and_then (number_given None v t) (allocated g.settings.trusted element))
-    allocated_runs l m stack (Number z) t element is kept here at room = allocation_runs g l m stack t z element is kept here at room
-    allocated_runs l m stack Null t element is kept here at room = tt
-    allocated_runs l m stack (At block byte) t element is kept here at room = tt
+    allocated_runs : (l : Layout g) (m : ℕ) (stack : List ℕ) (v : Value) (t : meaning.State) (terminated : Bool) (element : List Initial) → IsElement element → IsKept t v → Here g l m (word_of g t v ∷ stack) t → slice_get (code g l).ops m ≡ Some (allocation_code terminated (element_size element)) → length stack < (code g l).stack → Evaluates g l (m + 1) stack (and_then (number_given None v t) (allocated g.settings.trusted terminated element))
+    allocated_runs l m stack (Number z) t terminated element is kept here at room = allocation_runs g l m stack t terminated z element is kept here at room
+    allocated_runs l m stack Null t terminated element is kept here at room = tt
+    allocated_runs l m stack (At block byte) t terminated element is kept here at room = tt
 
     mutual
       -- the value of an expression
@@ -250,16 +251,26 @@ module _ (g : Execution) where
           (λ w u y.
           let z = both g l n stack v w t u x.0.kept.grows x.1 y in
           order_runs g l slot is comparison n stack u left_checks right_checks v w sized.2 sized.3 z.below z.top z.here (has_back (code g l).ops m second last (expression_size right) (length_expression slot m right) back) (omega arith))))
-      value_runs (erased.Allocate count element) l slot is sized next stack s here at room low =
+      value_runs (erased.Length pointer size checks) l slot is sized next stack s here at room low =
+          let m = next + expression_size pointer in
+          let first = expression_code slot next pointer in
+          let last = checks_code slot (Still size) checks ++ ops.TextLength ∷ [] in
+          let step = checks_size (Still size) checks + 1 in
+          let end : m + step ≡ next + (expression_size pointer + step) = omega arith in
+          evaluates_at g l (m + step) (next + (expression_size pointer + step)) stack (value (setting g) k (erased.Length pointer size checks) s) end
+          (leads_on (Arrives g l m stack) (Arrives g l (m + step) stack) (Finishes g) (value (setting g) k pointer s) _
+          (value_runs pointer l slot is sized.0 next stack s here (has_front (code g l).ops next first last at) (omega arith) (omega arith))
+          (λ v t x. length_runs g l slot is size m stack t checks v sized.2 x.1 x.0 (has_back (code g l).ops next first last (expression_size pointer) (length_expression slot next pointer) at) (omega arith)))
+      value_runs (erased.Allocate count element terminated) l slot is sized next stack s here at room low =
           let m = next + expression_size count in
           let first = expression_code slot next count in
-          let last = ops.Alloc (element_size element) ∷ [] in
+          let last = allocation_code terminated (element_size element) ∷ [] in
           let end : m + 1 ≡ next + (expression_size count + 1) = omega arith in
-          evaluates_at g l (m + 1) (next + (expression_size count + 1)) stack (value (setting g) k (erased.Allocate count element) s) end
-          (subst (Evaluates g l (m + 1) stack) (sym (and_then_twice (value (setting g) k count s) (number_given None) (allocated g.settings.trusted element)))
+          evaluates_at g l (m + 1) (next + (expression_size count + 1)) stack (value (setting g) k (erased.Allocate count element terminated) s) end
+          (subst (Evaluates g l (m + 1) stack) (sym (and_then_twice (value (setting g) k count s) (number_given None) (allocated g.settings.trusted terminated element)))
           (leads_on (Arrives g l m stack) (Arrives g l (m + 1) stack) (Finishes g) (value (setting g) k count s) _
           (value_runs count l slot is sized.0 next stack s here (has_front (code g l).ops next first last at) room (omega arith))
-          (λ v t x. allocated_runs l m stack v t element sized.1 x.1 x.0 (has_back (code g l).ops next first last (expression_size count) (length_expression slot next count) at).0 (omega (arith, stack_above count)))))
+          (λ v t x. allocated_runs l m stack v t terminated element sized.1 x.1 x.0 (has_back (code g l).ops next first last (expression_size count) (length_expression slot next count) at).0 (omega (arith, stack_above count)))))
       value_runs (erased.Cast pointer size checks) l slot is sized next stack s here at room low =
           let m = next + expression_size pointer in
           let first = expression_code slot next pointer in

@@ -5,10 +5,11 @@ use Rattle.ckc_core.specs.declared.program.Direction.{Direction}
 use Rattle.ckc_core.specs.declared.program.Direction.TheVariants as directions
 use Rattle.check_insertion.specs.declared.erased.Check.{Check}
 use Rattle.check_insertion.specs.declared.erased.Check.TheVariants as checks
+use Rattle.check_insertion.specs.declared.erased.Reading.{Reading}
 use Rattle.check_insertion.specs.Erased as erased
 use Rattle.ckc_core.specs.Steps.{is_char}
-use Rattle.check_insertion.specs.Weights.{expression_weight, arguments_weight, place_weight, index_weight, statement_weight, statements_weight}
-use Rattle.lowering.specs.Code.{Reach, Still, Onward, Back, reach_to, offset_size, number_size, check_size, checks_size, moved_size, through_size, index_size, byte_size, expression_size, arguments_size, place_size, before_value_size, behind_value_size, statement_size, statements_size, statements_code, ending_code, body_places, function_ops}
+use Rattle.check_insertion.specs.Weights.{expression_weight, arguments_weight, place_weight, index_weight, end_weight, statement_weight, statements_weight}
+use Rattle.lowering.specs.Code.{Reach, Still, Onward, Back, reach_to, offset_size, number_size, check_size, checks_size, moved_size, through_size, index_size, byte_size, expression_size, arguments_size, place_size, before_value_size, behind_value_size, ended_size, update_size, statement_size, statements_size, statements_code, ending_code, body_places, function_ops}
 use Rattle.lowering.specs.Correct.{IsFunction}
 use Rattle.lowering.proofs.Sizes.{length_statements}
 
@@ -63,7 +64,8 @@ mutual
   expression_short erased.NextInput = omega arith
   expression_short (erased.Sum pointer direction number size cs) = omega (arith, expression_short pointer, expression_short number, checks_short (reach_to direction size) cs, moved_short direction)
   expression_short (erased.Order comparison left left_checks right right_checks) = omega (arith, expression_short left, expression_short right, checks_short (Still 1) left_checks, checks_short (Still 1) right_checks)
-  expression_short (erased.Allocate count element) = omega (arith, expression_short count)
+  expression_short (erased.Allocate count element terminated) = omega (arith, expression_short count)
+  expression_short (erased.Length pointer size cs) = omega (arith, expression_short pointer, checks_short (Still size) cs)
   expression_short (erased.Cast pointer size cs) = omega (arith, expression_short pointer, checks_short (Still size) cs)
 
   arguments_short : (arguments : erased.Arguments) → arguments_size arguments ≤ 9 * arguments_weight arguments
@@ -78,17 +80,29 @@ mutual
   index_short erased.First = omega arith
   index_short (erased.Element number size) = expression_short number
 
-around_short : (p : erased.Place) → before_value_size p + behind_value_size p ≤ 9 * place_weight p
-around_short (erased.Direct object offset) = omega (arith, offset_short offset)
-around_short (erased.Through pointer index offset cs) = omega (arith, expression_short pointer, index_short index, through_short index offset cs)
+ended_short : (size offset : ℕ) (cs : List Check) → ended_size size offset cs ≤ 9 * length cs + 15
+ended_short size offset cs = omega (arith, checks_short (Onward size) cs, offset_short offset)
+
+around_short : (p : erased.Place) (end : Option Reading) → before_value_size p + behind_value_size p end ≤ 10 * place_weight p + 10 * end_weight end
+around_short (erased.Direct object offset) end = omega (arith, offset_short offset)
+around_short (erased.Through pointer index offset cs) None = omega (arith, expression_short pointer, index_short index, through_short index offset cs)
+around_short (erased.Through pointer erased.First offset cs) (Some r) = omega (arith, expression_short pointer, through_short erased.First offset cs)
+around_short (erased.Through pointer (erased.Element number size) offset cs) (Some r) = omega (arith, expression_short pointer, expression_short number, ended_short size offset cs)
+
+update_short : (cell : erased.Place) (end : Option Reading) (value byte : ℕ) → byte ≤ 1 → update_size cell end value byte ≤ 10 + 10 * place_weight cell + 10 * end_weight end + value
+update_short cell None value byte few = omega (arith, place_short cell, few)
+update_short (erased.Direct object offset) (Some r) value byte few = omega (arith, place_short (erased.Direct object offset), few)
+update_short (erased.Through pointer erased.First offset cs) (Some r) value byte few = omega (arith, place_short (erased.Through pointer erased.First offset cs), few)
+update_short (erased.Through pointer (erased.Element number size) offset cs) (Some r) value byte few =
+    omega (arith, expression_short pointer, expression_short number, through_short (erased.Element number size) offset cs, ended_short size offset [], few)
 
 mutual
-  statement_short : (x : erased.Statement) → statement_size x ≤ 9 * statement_weight x
+  statement_short : (x : erased.Statement) → statement_size x ≤ 10 * statement_weight x
   statement_short erased.Nothing = omega arith
   statement_short (erased.SetLocal local value) = omega (arith, expression_short value)
-  statement_short (erased.Store type p value) = omega (arith, around_short p, expression_short value)
+  statement_short (erased.Store type p value end) = omega (arith, around_short p end, expression_short value)
   statement_short (erased.UpdateLocal char local operator value site) = omega (arith, expression_short value, byte_short char)
-  statement_short (erased.Update type p operator value site) = omega (arith, place_short p, expression_short value, byte_short (is_char type))
+  statement_short (erased.Update type p operator value site end) = omega (arith, update_short p end (expression_size value) (byte_size (is_char type)) (byte_short (is_char type)), expression_short value)
   statement_short (erased.Evaluate value) = omega (arith, expression_short value)
   statement_short (erased.CallAlone callee arguments) = omega (arith, arguments_short arguments)
   statement_short (erased.Print number) = omega (arith, expression_short number)
@@ -101,7 +115,7 @@ mutual
   statement_short erased.Break = omega arith
   statement_short erased.Continue = omega arith
 
-  statements_short : (xs : erased.Statements) → statements_size xs ≤ 9 * statements_weight xs
+  statements_short : (xs : erased.Statements) → statements_size xs ≤ 10 * statements_weight xs
   statements_short erased.NoMore = omega arith
   statements_short (erased.Then first others) = omega (arith, statement_short first, statements_short others)
 

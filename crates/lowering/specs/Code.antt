@@ -17,6 +17,7 @@ use Rattle.ckc_core.specs.declared.program.Direction.TheVariants as directions
 use Rattle.ckc_core.specs.declared.program.Site.{Site}
 use Rattle.check_insertion.specs.declared.erased.Check.{Check}
 use Rattle.check_insertion.specs.declared.erased.Check.TheVariants as checks
+use Rattle.check_insertion.specs.declared.erased.Reading.{Reading}
 use Rattle.check_insertion.specs.Erased as erased
 use Rattle.ckc_core.specs.Steps.{is_char}
 use Rattle.ckc_core.specs.Pointers.{element_size}
@@ -146,6 +147,37 @@ through_code slot erased.First offset checks = checks_code slot (Still 1) checks
 through_code slot (erased.Element number size) offset checks =
     ops.Set (number_slot slot) ∷ (checks_code slot (Onward size) checks ++ (moved_code slot directions.Forward size ++ offset_code offset))
 
+-- nothing but 0 is stored at the upper end of the pointer on the stack, which stays there: the number of the element and the value are kept aside (C3)
+abbrev pub term_code : ℕ → ℕ → Reading → List Op
+term_code slot size r =
+    ops.Set (pointer_slot slot)
+    ∷ ops.Local (pointer_slot slot)
+    ∷ ops.Local (pointer_slot slot)
+    ∷ ops.Local (number_slot slot)
+    ∷ base_code slot r.bounds.base
+    ∷ variable_code r.bounds.hi.var
+    ∷ ops.Local slot
+    ∷ ops.Term r.bounds.hi.plus size r.site.place
+    ∷ []
+
+-- the value that is kept aside goes into a cell of an element of a null-terminated pointer, behind the checks
+abbrev pub ended_code : ℕ → CType → ℕ → ℕ → List Check → Reading → List Op
+ended_code slot type size offset checks r =
+    ops.Set (number_slot slot)
+    ∷ (checks_code slot (Onward size) checks
+    ++ (term_code slot size r ++ (moved_code slot directions.Forward size ++ (offset_code offset ++ ops.Local slot ∷ store_code type ∷ []))))
+
+-- a pointer and the number of an element are on the stack twice
+abbrev pub twice_code : ℕ → List Op
+twice_code slot =
+    ops.Set (number_slot slot)
+    ∷ ops.Set (pointer_slot slot)
+    ∷ ops.Local (pointer_slot slot)
+    ∷ ops.Local (number_slot slot)
+    ∷ ops.Local (pointer_slot slot)
+    ∷ ops.Local (number_slot slot)
+    ∷ []
+
 abbrev pub sum_code : ℕ → Direction → ℕ → List Check → List Op
 sum_code slot direction size checks =
     ops.Set (number_slot slot) ∷ (checks_code slot (reach_to direction size) checks ++ moved_code slot direction size)
@@ -164,6 +196,11 @@ abbrev pub order_code : ℕ → Comparison → List Check → List Check → Lis
 order_code slot comparison left_checks right_checks =
     ops.Set (number_slot slot)
     ∷ (checks_code slot (Still 1) left_checks ++ ops.Local (number_slot slot) ∷ (checks_code slot (Still 1) right_checks ++ order_op comparison ∷ []))
+
+-- a new block, whose last element is 0 where it is null-terminated
+abbrev pub allocation_code : Bool → ℕ → Op
+allocation_code true size = ops.AllocTerminated size
+allocation_code false size = ops.Alloc size
 
 -- keeps a number modulo 256, where it has to be
 abbrev pub byte_code : Bool → List Op
@@ -199,6 +236,9 @@ abbrev pub through_size : erased.Index → ℕ → List Check → ℕ
 through_size erased.First offset checks = checks_size (Still 1) checks + offset_size offset
 through_size (erased.Element number size) offset checks = 1 + (checks_size (Onward size) checks + (2 + offset_size offset))
 
+abbrev pub ended_size : ℕ → ℕ → List Check → ℕ
+ended_size size offset checks = 1 + (checks_size (Onward size) checks + (8 + (2 + (offset_size offset + 2))))
+
 abbrev pub sum_size : Direction → ℕ → List Check → ℕ
 sum_size direction size checks = 1 + (checks_size (reach_to direction size) checks + moved_size direction)
 
@@ -231,7 +271,8 @@ abbrev mutual
       expression_size pointer + (expression_size number + sum_size direction size checks)
   expression_size (erased.Order comparison left left_checks right right_checks) =
       expression_size left + (expression_size right + order_size left_checks right_checks)
-  expression_size (erased.Allocate count element) = expression_size count + 1
+  expression_size (erased.Allocate count element terminated) = expression_size count + 1
+  expression_size (erased.Length pointer size checks) = expression_size pointer + (checks_size (Still size) checks + 1)
   expression_size (erased.Cast pointer size checks) = expression_size pointer + checks_size (Still size) checks
 
   pub arguments_size : erased.Arguments → ℕ
@@ -251,17 +292,32 @@ abbrev pub before_value_size : erased.Place → ℕ
 before_value_size (erased.Direct object offset) = 1 + offset_size offset
 before_value_size (erased.Through pointer index offset checks) = expression_size pointer + index_size index
 
-abbrev pub behind_value_size : erased.Place → ℕ
-behind_value_size (erased.Direct object offset) = 1
-behind_value_size (erased.Through pointer index offset checks) = 3 + through_size index offset checks
+abbrev pub behind_through_size : erased.Index → ℕ → List Check → Option Reading → ℕ
+behind_through_size index offset checks None = 3 + through_size index offset checks
+behind_through_size erased.First offset checks (Some r) = 3 + through_size erased.First offset checks
+behind_through_size (erased.Element number size) offset checks (Some r) = 1 + ended_size size offset checks
+
+abbrev pub behind_value_size : erased.Place → Option Reading → ℕ
+behind_value_size (erased.Direct object offset) end = 1
+behind_value_size (erased.Through pointer index offset checks) end = behind_through_size index offset checks end
+
+-- an update, whose value has a size, and whose result is kept modulo 256 by so many instructions
+abbrev pub update_size : erased.Place → Option Reading → ℕ → ℕ → ℕ
+update_size cell None value byte = place_size cell + (2 + (value + (1 + (byte + 1))))
+update_size (erased.Direct object offset) (Some r) value byte = place_size (erased.Direct object offset) + (2 + (value + (1 + (byte + 1))))
+update_size (erased.Through pointer erased.First offset checks) (Some r) value byte =
+    place_size (erased.Through pointer erased.First offset checks) + (2 + (value + (1 + (byte + 1))))
+update_size (erased.Through pointer (erased.Element number size) offset checks) (Some r) value byte =
+    expression_size pointer + expression_size number
+    + (6 + (through_size (erased.Element number size) offset checks + (1 + (value + (1 + (byte + (1 + ended_size size offset [])))))))
 
 abbrev mutual
   pub statement_size : erased.Statement → ℕ
   statement_size erased.Nothing = 0
   statement_size (erased.SetLocal local value) = expression_size value + 1
-  statement_size (erased.Store type p value) = before_value_size p + (expression_size value + behind_value_size p)
+  statement_size (erased.Store type p value end) = before_value_size p + (expression_size value + behind_value_size p end)
   statement_size (erased.UpdateLocal char local operator value site) = 1 + (expression_size value + (1 + (byte_size char + 1)))
-  statement_size (erased.Update type p operator value site) = place_size p + (2 + (expression_size value + (1 + (byte_size (is_char type) + 1))))
+  statement_size (erased.Update type p operator value site end) = update_size p end (expression_size value) (byte_size (is_char type))
   statement_size (erased.Evaluate value) = expression_size value + 1
   statement_size (erased.CallAlone callee arguments) = arguments_size arguments + 2
   statement_size (erased.Print number) = expression_size number + 1
@@ -317,7 +373,8 @@ abbrev mutual
       expression_code slot at pointer ++ (expression_code slot (at + expression_size pointer) number ++ sum_code slot direction size checks)
   expression_code slot at (erased.Order comparison left left_checks right right_checks) =
       expression_code slot at left ++ (expression_code slot (at + expression_size left) right ++ order_code slot comparison left_checks right_checks)
-  expression_code slot at (erased.Allocate count element) = expression_code slot at count ++ ops.Alloc (element_size element) ∷ []
+  expression_code slot at (erased.Allocate count element terminated) = expression_code slot at count ++ allocation_code terminated (element_size element) ∷ []
+  expression_code slot at (erased.Length pointer size checks) = expression_code slot at pointer ++ (checks_code slot (Still size) checks ++ ops.TextLength ∷ [])
   expression_code slot at (erased.Cast pointer size checks) = expression_code slot at pointer ++ checks_code slot (Still size) checks
 
   -- leaves the words of the arguments there, the last on top
@@ -355,24 +412,47 @@ before_value slot at (erased.Through pointer index offset checks) =
     expression_code slot at pointer ++ index_code slot (at + expression_size pointer) index
 
 -- what follows the value
-abbrev pub behind_value : ℕ → CType → erased.Place → List Op
-behind_value slot type (erased.Direct object offset) = store_code type ∷ []
-behind_value slot type (erased.Through pointer index offset checks) =
+abbrev pub behind_through : ℕ → CType → erased.Index → ℕ → List Check → Option Reading → List Op
+behind_through slot type index offset checks None =
     ops.Set slot ∷ (through_code slot index offset checks ++ ops.Local slot ∷ store_code type ∷ [])
+behind_through slot type erased.First offset checks (Some r) =
+    ops.Set slot ∷ (through_code slot erased.First offset checks ++ ops.Local slot ∷ store_code type ∷ [])
+behind_through slot type (erased.Element number size) offset checks (Some r) = ops.Set slot ∷ ended_code slot type size offset checks r
+
+abbrev pub behind_value : ℕ → CType → erased.Place → Option Reading → List Op
+behind_value slot type (erased.Direct object offset) end = store_code type ∷ []
+behind_value slot type (erased.Through pointer index offset checks) end = behind_through slot type index offset checks end
+
+-- an update keeps its address under the old value, and where it has an end, its pointer and the number of its element
+abbrev pub plain_update : ℕ → ℕ → CType → erased.Place → Operator → erased.Expression → Site → List Op
+plain_update slot at type cell operator value site =
+    place_code slot at cell
+    ++ ops.Duplicate
+    ∷ load_code type
+    ∷ (expression_code slot (at + place_size cell + 2) value ++ operator_code operator site ∷ (byte_code (is_char type) ++ store_code type ∷ []))
+
+abbrev pub update_code : ℕ → ℕ → CType → erased.Place → Operator → erased.Expression → Site → Option Reading → List Op
+update_code slot at type cell operator value site None = plain_update slot at type cell operator value site
+update_code slot at type (erased.Direct object offset) operator value site (Some r) = plain_update slot at type (erased.Direct object offset) operator value site
+update_code slot at type (erased.Through pointer erased.First offset checks) operator value site (Some r) =
+    plain_update slot at type (erased.Through pointer erased.First offset checks) operator value site
+update_code slot at type (erased.Through pointer (erased.Element number size) offset checks) operator value site (Some r) =
+    before_value slot at (erased.Through pointer (erased.Element number size) offset checks)
+    ++ (twice_code slot
+    ++ (through_code slot (erased.Element number size) offset checks
+    ++ load_code type
+    ∷ (expression_code slot (at + (expression_size pointer + expression_size number) + 6 + through_size (erased.Element number size) offset checks + 1) value
+    ++ operator_code operator site ∷ (byte_code (is_char type) ++ ops.Set slot ∷ ended_code slot type size offset [] r))))
 
 abbrev mutual
   pub statement_code : Places → ℕ → erased.Statement → List Op
   statement_code p at erased.Nothing = []
   statement_code p at (erased.SetLocal local value) = expression_code p.scratch at value ++ ops.Set local ∷ []
-  statement_code p at (erased.Store type cell value) =
-      before_value p.scratch at cell ++ (expression_code p.scratch (at + before_value_size cell) value ++ behind_value p.scratch type cell)
+  statement_code p at (erased.Store type cell value end) =
+      before_value p.scratch at cell ++ (expression_code p.scratch (at + before_value_size cell) value ++ behind_value p.scratch type cell end)
   statement_code p at (erased.UpdateLocal char local operator value site) =
       ops.Local local ∷ (expression_code p.scratch (at + 1) value ++ operator_code operator site ∷ (byte_code char ++ ops.Set local ∷ []))
-  statement_code p at (erased.Update type cell operator value site) =
-      place_code p.scratch at cell
-      ++ ops.Duplicate
-      ∷ load_code type
-      ∷ (expression_code p.scratch (at + place_size cell + 2) value ++ operator_code operator site ∷ (byte_code (is_char type) ++ store_code type ∷ []))
+  statement_code p at (erased.Update type cell operator value site end) = update_code p.scratch at type cell operator value site end
   statement_code p at (erased.Evaluate value) = expression_code p.scratch at value ++ ops.Discard ∷ []
   statement_code p at (erased.CallAlone callee arguments) = arguments_code p.scratch at arguments ++ ops.Tick ∷ callee_code callee ∷ []
   statement_code p at (erased.Print number) = expression_code p.scratch at number ++ ops.Print ∷ []

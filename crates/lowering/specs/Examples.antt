@@ -58,7 +58,7 @@ shown_members = (record { address = 65552; bytes = 44 ∷ 0 ∷ 0 ∷ 0 ∷ 7 �
 abbrev pub stored_element : Core
 stored_element =
     with_array 3 (core.Store Int (element (pos 2)) (number 7)
-    ∷ (core.Return (core.Load Int (core.Through (sum (pos 2)) (core.Element (number 0)) 0 (site 2 8)) None) ∷ []))
+    ∷ (core.Return (core.Load Int (core.Through (sum (pos 2)) (core.Element (number 0) false) 0 (site 2 8)) None) ∷ []))
 
 -- { array_ptr<int> a : count(3) = calloc<int>(3, sizeof(int)); return !E; }
 abbrev pub not_of : Expression → Core

@@ -8,6 +8,7 @@ use Rattle.ckc_core.specs.Steps.{is_char}
 use Rattle.ckc_core.specs.Pointers.{element_size}
 use Rattle.check_insertion.specs.declared.erased.Check.{Check}
 use Rattle.check_insertion.specs.declared.erased.Check.TheVariants as checks
+use Rattle.check_insertion.specs.declared.erased.Reading.{Reading}
 use Rattle.check_insertion.specs.Erased as erased
 use Rattle.lowering.specs.Images.{width_if}
 
@@ -84,7 +85,8 @@ abbrev mutual
       SizedExpression locals pointer × SizedExpression locals number × (1 ≤ size) × All (IsSmall locals 6) checks
   SizedExpression locals (erased.Order comparison left left_checks right right_checks) =
       SizedExpression locals left × SizedExpression locals right × All (IsSmall locals 1) left_checks × All (IsSmall locals 1) right_checks
-  SizedExpression locals (erased.Allocate count element) = SizedExpression locals count × IsElement element
+  SizedExpression locals (erased.Allocate count element terminated) = SizedExpression locals count × IsElement element
+  SizedExpression locals (erased.Length pointer size checks) = SizedExpression locals pointer × (1 ≤ size) × All (IsSmall locals 6) checks
   SizedExpression locals (erased.Cast pointer size checks) = SizedExpression locals pointer × (1 ≤ size) × All (IsSmall locals 7) checks
 
   pub SizedArguments : ℕ → erased.Arguments → Type 0
@@ -105,13 +107,20 @@ abbrev pub SizedNumber : ℕ → erased.Index → Type 0
 SizedNumber locals erased.First = Unit {0}
 SizedNumber locals (erased.Element number size) = SizedExpression locals number
 
+-- an element alone has an end at which nothing but 0 is stored
+abbrev pub HasEnd : erased.Place → Option Reading → Type 0
+HasEnd cell None = Unit {0}
+HasEnd (erased.Direct object offset) (Some r) = ⊥
+HasEnd (erased.Through pointer erased.First offset checks) (Some r) = ⊥
+HasEnd (erased.Through pointer (erased.Element number size) offset checks) (Some r) = AreWithin r.bounds
+
 abbrev mutual
   pub SizedStatement : ℕ → erased.Statement → Type 0
   SizedStatement locals erased.Nothing = Unit {0}
   SizedStatement locals (erased.SetLocal local value) = SizedExpression locals value
-  SizedStatement locals (erased.Store type p value) = SizedPlace locals p × SizedExpression locals value
+  SizedStatement locals (erased.Store type p value end) = SizedPlace locals p × SizedExpression locals value × HasEnd p end
   SizedStatement locals (erased.UpdateLocal char local operator value site) = SizedExpression locals value
-  SizedStatement locals (erased.Update type p operator value site) = SizedPlace locals p × SizedExpression locals value
+  SizedStatement locals (erased.Update type p operator value site end) = SizedPlace locals p × SizedExpression locals value × HasEnd p end
   SizedStatement locals (erased.Evaluate value) = SizedExpression locals value
   SizedStatement locals (erased.CallAlone callee arguments) = SizedArguments locals arguments
   SizedStatement locals (erased.Print number) = SizedExpression locals number

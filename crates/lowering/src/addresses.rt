@@ -1,17 +1,19 @@
 // The addresses of cells, and the checks of the pointers that they are reached by.
 
-ghost use Rattle.std.specs.Prelude.{◌≡◌, ◌≤◌, ◌++◌, All, OnOk};
+ghost use Rattle.std.specs.Prelude.{◌≡◌, ◌≤◌, [], ◌∷◌, ◌++◌, All, OnOk};
 ghost use Rattle.pointer_modes.specs.Types.{ctype as type_of};
 ghost use Rattle.check_insertion.specs.Erased.{index as index_of, place as place_of};
+ghost use Rattle.ckc_core.specs.declared.program.Direction.TheVariants.{Forward};
+ghost use Rattle.code_words.specs.declared.op.Op.TheVariants as ops_of;
 ghost use Rattle.lowering.specs.Code as code;
 ghost use Rattle.lowering.specs.Sized.{IsSmall, SizedIndex, SizedPlace};
 
-use crate::check_code::{emit_checks, emit_moved};
+use crate::check_code::{emit_checks, emit_moved, emit_term};
 use crate::code_sizes::reach_to;
 use crate::instructions::{order_op, put, put_two, store_op};
 use crate::reach::Reach;
 use act_words::operator::Comparison;
-use check_insertion::erased::{CellPlace, Check, Index};
+use check_insertion::erased::{CellPlace, Check, Index, Reading};
 use ckc_core::program::Direction;
 use ckc_text::fault::NoMemory;
 use code_words::op::Op;
@@ -96,16 +98,92 @@ pub fn emit_order(
     put(ops, order_op(comparison))
 }
 
+/// How many bytes stand before the first zero, from the pointer on the stack on, behind its checks.
+pub fn emit_length(
+    ops: &mut Vec<Op>,
+    slot: u32,
+    size: u32,
+    checks: &[Check],
+) -> Result<(), NoMemory>
+    requires slot { slot ≤ 4096 }
+    requires small { All (IsSmall slot 6) checks.now }
+    ensures { OnOk result (ops.new.items ≡ ops.old.items ++ (code.checks_code slot (code.Still size) checks.now ++ ops_of.TextLength ∷ [])) }
+{
+    emit_checks(ops, slot, Reach::Still { size }, checks)?;
+    put(ops, Op::TextLength)
+}
+
+// The value that is kept aside goes to a cell of an element of the pointer on the stack.
+fn emit_stored(
+    ops: &mut Vec<Op>,
+    slot: u32,
+    ctype: &CType,
+    size: u32,
+    offset: u32,
+) -> Result<(), NoMemory>
+    requires slot { slot ≤ 4096 }
+    ensures { OnOk result (ops.new.items ≡ ops.old.items ++ (code.moved_code slot Forward size ++ (code.offset_code offset ++ ops_of.Local slot ∷ code.store_code (type_of ctype.now) ∷ []))) }
+{
+    emit_moved(ops, slot, Direction::Forward, size)?;
+    emit_offset(ops, offset)?;
+    put_two(ops, Op::Local(slot), store_op(ctype))
+}
+
+/// The same behind the checks of a null-terminated pointer, at whose upper end nothing but 0 is stored, with the number of the element above it.
+pub fn emit_ended(
+    ops: &mut Vec<Op>,
+    slot: u32,
+    ctype: &CType,
+    size: u32,
+    offset: u32,
+    checks: &[Check],
+    reading: Reading,
+) -> Result<(), NoMemory>
+    requires slot { slot ≤ 4096 }
+    requires small { All (IsSmall slot 6) checks.now }
+    ensures { OnOk result (ops.new.items ≡ ops.old.items ++ code.ended_code slot (type_of ctype.now) size offset checks.now reading) }
+{
+    put(ops, Op::Set(slot + 2))?;
+    emit_checks(ops, slot, Reach::Onward { size }, checks)?;
+    emit_term(ops, slot, size, reading)?;
+    emit_stored(ops, slot, ctype, size, offset)
+}
+
+// What follows the value of a store through the pointer on the stack.
+fn emit_behind_through(
+    ops: &mut Vec<Op>,
+    slot: u32,
+    ctype: &CType,
+    index: &Index,
+    offset: u32,
+    checks: &[Check],
+    end: Option<Reading>,
+) -> Result<(), NoMemory>
+    requires slot { slot ≤ 4096 }
+    requires sized { SizedIndex slot (index_of index.now) checks.now }
+    ensures { OnOk result (ops.new.items ≡ ops.old.items ++ code.behind_through slot (type_of ctype.now) (index_of index.now) offset checks.now end) }
+{
+    put(ops, Op::Set(slot))?;
+    if let Index::Element { size, .. } = index
+        && let Some(reading) = end
+    {
+        return emit_ended(ops, slot, ctype, *size, offset, checks, reading);
+    }
+    emit_through(ops, slot, index, offset, checks)?;
+    put_two(ops, Op::Local(slot), store_op(ctype))
+}
+
 /// What follows the value of a store: the checks of the pointer, while the value is kept aside.
 pub fn emit_behind_value(
     ops: &mut Vec<Op>,
     slot: u32,
     ctype: &CType,
     cell: &CellPlace,
+    end: Option<Reading>,
 ) -> Result<(), NoMemory>
     requires slot { slot ≤ 4096 }
     requires sized { SizedPlace slot (place_of cell.now) }
-    ensures { OnOk result (ops.new.items ≡ ops.old.items ++ code.behind_value slot (type_of ctype.now) (place_of cell.now)) }
+    ensures { OnOk result (ops.new.items ≡ ops.old.items ++ code.behind_value slot (type_of ctype.now) (place_of cell.now) end) }
 {
     match cell {
         CellPlace::Direct { .. } => put(ops, store_op(ctype)),
@@ -115,9 +193,8 @@ pub fn emit_behind_value(
             checks,
             ..
         } => {
-            put(ops, Op::Set(slot))?;
-            emit_through(ops, slot, index, *offset, checks.as_slice())?;
-            put_two(ops, Op::Local(slot), store_op(ctype))
+            let checks = checks.as_slice();
+            emit_behind_through(ops, slot, ctype, index, *offset, checks, end)
         }
     }
 }

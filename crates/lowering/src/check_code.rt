@@ -8,7 +8,7 @@ ghost use Rattle.lowering.specs.Sized.{Reads};
 use crate::instructions::{base_op, end_constant, put, put_two, variable_op};
 use crate::reach::Reach;
 use bounds_exprs::term::Bounds;
-use check_insertion::erased::Check;
+use check_insertion::erased::{Check, Reading};
 use ckc_core::program::{Direction, Site};
 use ckc_text::fault::NoMemory;
 use code_words::op::Op;
@@ -122,6 +122,30 @@ fn contain_op(old: Bounds, new: Bounds, size: u32, site: Site) -> Op
         size,
         place: site.place,
     }
+}
+
+/// Nothing but 0 is stored at the upper end of the pointer on the stack: the number of the element and the value are kept aside.
+pub fn emit_term(ops: &mut Vec<Op>, slot: u32, size: u32, reading: Reading) -> Result<(), NoMemory>
+    requires { slot ≤ 4096 }
+    ensures { OnOk result (ops.new.items ≡ ops.old.items ++ code.term_code slot size reading) }
+{
+    put_two(ops, Op::Set(slot + 1), Op::Local(slot + 1))?;
+    put_two(ops, Op::Local(slot + 1), Op::Local(slot + 2))?;
+    let bounds = reading.bounds;
+    put_two(ops, base_op(slot, bounds.base), variable_op(bounds.hi.var))?;
+    let high = bounds.hi.plus;
+    let place = reading.site.place;
+    put_two(ops, Op::Local(slot), Op::Term { high, size, place })
+}
+
+/// A pointer and the number of an element are on the stack twice.
+pub fn emit_twice(ops: &mut Vec<Op>, slot: u32) -> Result<(), NoMemory>
+    requires { slot ≤ 4096 }
+    ensures { OnOk result (ops.new.items ≡ ops.old.items ++ code.twice_code slot) }
+{
+    put_two(ops, Op::Set(slot + 2), Op::Set(slot + 1))?;
+    put_two(ops, Op::Local(slot + 1), Op::Local(slot + 2))?;
+    put_two(ops, Op::Local(slot + 1), Op::Local(slot + 2))
 }
 
 /// The checks of the pointer on the stack, one after the other.

@@ -6,7 +6,7 @@ ghost use Rattle.check_insertion.specs.Erased.{expression, place, index as index
 ghost use Rattle.lowering.specs.Code as code;
 
 use crate::reach::Reach;
-use check_insertion::erased::{CellPlace, Check, Expr, Index, Stmt};
+use check_insertion::erased::{CellPlace, Check, Expr, Index, Reading, Stmt};
 use ckc_core::char_cells::has_one_byte;
 use ckc_core::program::Direction;
 
@@ -152,6 +152,14 @@ pub fn expression_size(expr: &Expr) -> u32
             parts + order_size(left_checks.as_slice(), right_checks.as_slice())
         }
         Expr::Allocate { count, .. } => expression_size(count) + 1,
+        Expr::Length {
+            pointer,
+            size,
+            checks,
+        } => {
+            let checks = checks_size(Reach::Still { size: *size }, checks.as_slice());
+            expression_size(pointer) + checks + 1
+        }
         Expr::Cast {
             pointer,
             size,
@@ -207,10 +215,29 @@ fn index_size(index: &Index) -> u32
     }
 }
 
+// The size of a store to a cell of an element at whose end nothing but 0 is stored.
+fn ended_size(size: u32, offset: u32, checks: &[Check]) -> u32
+    requires { code.ended_size size offset checks.now ≤ 2 ^ 31 }
+    ensures { result ≡ code.ended_size size offset checks.now }
+{
+    checks_size(Reach::Onward { size }, checks) + 13 + offset_size(offset)
+}
+
+// The size of what follows the value of a store through a pointer.
+fn behind_size(index: &Index, offset: u32, checks: &[Check], end: Option<Reading>) -> u32
+    requires { code.behind_through_size (index_of index.now) offset checks.now end ≤ 2 ^ 31 }
+    ensures { result ≡ code.behind_through_size (index_of index.now) offset checks.now end }
+{
+    match (index, end) {
+        (Index::Element { size, .. }, Some(_)) => 1 + ended_size(*size, offset, checks),
+        _ => 3 + through_size(index, offset, checks),
+    }
+}
+
 // The size of the code of a store, whose value has a size.
-fn store_size(cell: &CellPlace, value: u32) -> u32
-    requires { code.before_value_size (place cell.now) + (value + code.behind_value_size (place cell.now)) ≤ 2 ^ 31 }
-    ensures { result ≡ code.before_value_size (place cell.now) + (value + code.behind_value_size (place cell.now)) }
+fn store_size(cell: &CellPlace, value: u32, end: Option<Reading>) -> u32
+    requires { code.before_value_size (place cell.now) + (value + code.behind_value_size (place cell.now) end) ≤ 2 ^ 31 }
+    ensures { result ≡ code.before_value_size (place cell.now) + (value + code.behind_value_size (place cell.now) end) }
 {
     match cell {
         CellPlace::Direct { offset, .. } => 1 + offset_size(*offset) + value + 1,
@@ -220,18 +247,31 @@ fn store_size(cell: &CellPlace, value: u32) -> u32
             offset,
             checks,
         } => {
-            let through = through_size(index, *offset, checks.as_slice());
-            expression_size(pointer) + index_size(index) + value + 3 + through
+            let behind = behind_size(index, *offset, checks.as_slice(), end);
+            expression_size(pointer) + index_size(index) + value + behind
         }
     }
 }
 
-// The size of the code of an update, whose place and value have sizes.
-fn update_size(cell: u32, value: u32, char: bool) -> u32
-    requires { cell + (2 + (value + (1 + (code.byte_size char + 1)))) ≤ 2 ^ 31 }
-    ensures { result ≡ cell + (2 + (value + (1 + (code.byte_size char + 1)))) }
+// The size of the code of an update, whose value has a size, and whose result is kept modulo 256 by so many instructions.
+fn update_size(cell: &CellPlace, end: Option<Reading>, value: u32, byte: u32) -> u32
+    requires { code.update_size (place cell.now) end value byte ≤ 2 ^ 31 }
+    ensures { result ≡ code.update_size (place cell.now) end value byte }
 {
-    cell + value + 4 + byte_size(char)
+    if let CellPlace::Through {
+        pointer,
+        index,
+        offset,
+        checks,
+    } = cell
+        && let Index::Element { size, .. } = index
+        && end.is_some()
+    {
+        let parts = expression_size(pointer) + index_size(index);
+        let through = through_size(index, *offset, checks.as_slice());
+        return parts + through + value + byte + 9 + ended_size(*size, *offset, &[]);
+    }
+    place_size(cell) + value + 4 + byte
 }
 
 /// The size of a statement's code.
@@ -246,7 +286,12 @@ pub fn statement_size(stmt: &Stmt) -> u32
         Stmt::SetLocal { value, .. } => expression_size(value) + 1,
         Stmt::Evaluate(value) | Stmt::Print(value) | Stmt::PutByte(value) | Stmt::Return(value) =>
             expression_size(value) + 1,
-        Stmt::Store { cell, value, .. } => store_size(cell, expression_size(value)),
+        Stmt::Store {
+            cell,
+            value,
+            end,
+            ..
+        } => store_size(cell, expression_size(value), *end),
         Stmt::UpdateLocal { is_char, value, .. } => {
             expression_size(value) + 3 + byte_size(*is_char)
         }
@@ -254,13 +299,11 @@ pub fn statement_size(stmt: &Stmt) -> u32
             ctype,
             cell,
             value,
+            end,
             ..
         } => {
-            update_size(
-                place_size(cell),
-                expression_size(value),
-                has_one_byte(ctype),
-            )
+            let byte = byte_size(has_one_byte(ctype));
+            update_size(cell, *end, expression_size(value), byte)
         }
         Stmt::CallAlone(call) => arguments_size(call.arguments.as_slice()) + 2,
         Stmt::Block(inner) => statements_size(inner.as_slice()),

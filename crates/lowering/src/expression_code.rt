@@ -7,13 +7,13 @@ ghost use Rattle.code_words.specs.declared.op.Op.TheVariants as ops_of;
 ghost use Rattle.lowering.specs.Code as code;
 ghost use Rattle.lowering.specs.Sized.{SizedExpression, SizedArguments, SizedPlace, SizedNumber};
 
-use crate::addresses::{emit_address, emit_order, emit_sum, emit_through};
+use crate::addresses::{emit_address, emit_length, emit_order, emit_sum, emit_through};
 use crate::call_code::{argument_at, put_call};
 use crate::cells::element_bytes;
 use crate::check_code::emit_checks;
 use crate::code_sizes::expression_size;
 use crate::instructions::{
-    begin_and, begin_or, callee_op, end_and, load_op, operator_op, put, put_two,
+    alloc_op, begin_and, begin_or, callee_op, end_and, load_op, operator_op, put, put_two,
 };
 use crate::reach::Reach;
 use act_words::operator::Comparison;
@@ -85,9 +85,21 @@ pub fn emit_expression(ops: &mut Vec<Op>, slot: u32, expr: &Expr) -> Result<(), 
             let left = left_checks.as_slice();
             emit_order(ops, slot, *comparison, left, right_checks.as_slice())
         }
-        Expr::Allocate { count, element } => {
+        Expr::Allocate {
+            count,
+            element,
+            terminated,
+        } => {
             let size = element_bytes(element.as_slice());
-            emit_with(ops, slot, count, Op::Alloc { size })
+            emit_with(ops, slot, count, alloc_op(*terminated, size))
+        }
+        Expr::Length {
+            pointer,
+            size,
+            checks,
+        } => {
+            emit_expression(ops, slot, pointer)?;
+            emit_length(ops, slot, *size, checks.as_slice())
         }
         Expr::Cast {
             pointer,

@@ -87,6 +87,17 @@ pub fn order_op(comparison: Comparison) -> Op
     }
 }
 
+/// What makes a new block of elements of so many bytes, whose last one is 0 where it is null-terminated.
+pub fn alloc_op(terminated: bool, size: u32) -> Op
+    ensures { result ≡ code.allocation_code terminated size }
+{
+    if terminated {
+        Op::AllocTerminated { size }
+    } else {
+        Op::Alloc { size }
+    }
+}
+
 /// What loads a cell of the type.
 pub fn load_op(ctype: &CType) -> Op
     ensures { result ≡ code.load_code (type_of ctype.now) }

@@ -4,7 +4,7 @@ ghost use Rattle.std.specs.Prelude.{◌≡◌, ◌+◌, ◌≤◌};
 ghost use Rattle.check_insertion.specs.Erased.{expression, place, index as index_of, arguments_of, statement, statements_of};
 ghost use Rattle.check_insertion.specs.Stacks as stacks;
 
-use check_insertion::erased::{CellPlace, Expr, Index, Stmt};
+use check_insertion::erased::{CellPlace, Expr, Index, Reading, Stmt};
 
 // An offset is added to an address on the stack.
 fn offset_stack(offset: u32) -> u32
@@ -46,6 +46,7 @@ fn expression_stack(expr: &Expr) -> u32
             expression_stack(left).max((1 + expression_stack(right)).max(2))
         }
         Expr::Allocate { count, .. } => expression_stack(count),
+        Expr::Length { pointer, .. } => expression_stack(pointer).max(6),
         Expr::Cast { pointer, .. } => expression_stack(pointer).max(7),
     }
 }
@@ -121,6 +122,17 @@ fn store_stack(cell: &CellPlace, value: &Expr) -> u32
     }
 }
 
+// The most words of an update whose value has so many.
+fn update_stack(end: Option<Reading>, value: u32) -> u32
+    requires { value ≤ 4096 }
+    ensures { result ≡ stacks.update_stack end value }
+{
+    match end {
+        None => 2 + value,
+        Some(_) => (3 + value).max(8),
+    }
+}
+
 // The most words of a statement.
 #[cycle(statement_stacks)]
 fn statement_stack(stmt: &Stmt) -> u32
@@ -134,7 +146,12 @@ fn statement_stack(stmt: &Stmt) -> u32
             expression_stack(value),
         Stmt::Store { cell, value, .. } => store_stack(cell, value),
         Stmt::UpdateLocal { value, .. } => 1 + expression_stack(value),
-        Stmt::Update { cell, value, .. } => place_stack(cell).max(2 + expression_stack(value)),
+        Stmt::Update {
+            cell,
+            value,
+            end,
+            ..
+        } => place_stack(cell).max(update_stack(*end, expression_stack(value))),
         Stmt::CallAlone(call) => arguments_stack(call.arguments.as_slice()),
         Stmt::Block(inner) => statements_stack(inner.as_slice()),
         Stmt::If {

@@ -2,13 +2,15 @@
 
 ghost use Rattle.std.specs.Prelude.{◌≡◌, ◌+◌, ◌^◌, ◌≤◌, [], ◌∷◌, ◌++◌, length, OnOk};
 ghost use Rattle.pointer_modes.specs.Types.{ctype as type_of};
-ghost use Rattle.check_insertion.specs.Erased.{If, Loop, Store, Update, UpdateLocal, expression, place as place_of, statement, statements_of};
+ghost use Rattle.ckc_core.specs.Steps.{is_char};
+ghost use Rattle.check_insertion.specs.Erased.{If, Loop, Store, UpdateLocal, expression, index as index_of, place as place_of, statement, statements_of};
 ghost use Rattle.code_words.specs.declared.op.Op.TheVariants as ops_of;
 ghost use Rattle.lowering.specs.Code as code;
-ghost use Rattle.lowering.specs.Sized.{SizedExpression, SizedPlace, SizedStatement, SizedStatements};
+ghost use Rattle.lowering.specs.Sized.{SizedExpression, SizedIndex, SizedPlace, SizedStatement, SizedStatements};
 ghost use Rattle.lowering.specs.Views.{targets_of};
 
-use crate::addresses::emit_behind_value;
+use crate::addresses::{emit_behind_value, emit_ended, emit_through};
+use crate::check_code::emit_twice;
 use crate::code_sizes::{expression_size, statement_size};
 use crate::expression_code::{
     emit_before_value, emit_call, emit_expression, emit_place, emit_with,
@@ -16,7 +18,7 @@ use crate::expression_code::{
 use crate::instructions::{load_op, operator_op, place_behind, put, put_two, store_op};
 use crate::loops::{Targets, begin_loop, loop_targets};
 use act_words::operator::Operator;
-use check_insertion::erased::{CellPlace, Expr, Stmt};
+use check_insertion::erased::{CellPlace, Check, Expr, Index, Reading, Stmt};
 use ckc_core::char_cells::has_one_byte;
 use ckc_core::program::Site;
 use ckc_text::fault::NoMemory;
@@ -30,15 +32,16 @@ fn emit_store(
     ctype: &CType,
     cell: &CellPlace,
     value: &Expr,
+    end: Option<Reading>,
 ) -> Result<(), NoMemory>
     requires slot { targets.scratch ≤ 4096 }
     requires sized { SizedPlace targets.scratch (place_of cell.now) × SizedExpression targets.scratch (expression value.now) }
     requires room { length ops.old.items + (code.before_value_size (place_of cell.now) + code.expression_size (expression value.now)) ≤ 2 ^ 31 }
-    ensures { OnOk result (ops.new.items ≡ ops.old.items ++ code.statement_code (targets_of targets) (length ops.old.items) (Store (type_of ctype.now) (place_of cell.now) (expression value.now))) }
+    ensures { OnOk result (ops.new.items ≡ ops.old.items ++ code.statement_code (targets_of targets) (length ops.old.items) (Store (type_of ctype.now) (place_of cell.now) (expression value.now) end)) }
 {
     emit_before_value(ops, targets.scratch, cell)?;
     emit_expression(ops, targets.scratch, value)?;
-    emit_behind_value(ops, targets.scratch, ctype, cell)
+    emit_behind_value(ops, targets.scratch, ctype, cell, end)
 }
 
 // An operator, and what keeps its result, modulo 256 where it has to be.
@@ -53,25 +56,84 @@ fn emit_result(ops: &mut Vec<Op>, operator: Op, char: bool, keep: Op) -> Result<
 }
 
 // A cell's old value and an operator with another one.
-fn emit_update(
+fn emit_plain_update(
     ops: &mut Vec<Op>,
-    targets: Targets,
+    slot: u32,
     ctype: &CType,
     cell: &CellPlace,
     operator: Operator,
     value: &Expr,
     site: Site,
 ) -> Result<(), NoMemory>
-    requires slot { targets.scratch ≤ 4096 }
-    requires sized { SizedPlace targets.scratch (place_of cell.now) × SizedExpression targets.scratch (expression value.now) }
+    requires slot { slot ≤ 4096 }
+    requires sized { SizedPlace slot (place_of cell.now) × SizedExpression slot (expression value.now) }
     requires room { length ops.old.items + (code.place_size (place_of cell.now) + (2 + code.expression_size (expression value.now))) ≤ 2 ^ 31 }
-    ensures { OnOk result (ops.new.items ≡ ops.old.items ++ code.statement_code (targets_of targets) (length ops.old.items) (Update (type_of ctype.now) (place_of cell.now) operator (expression value.now) site)) }
+    ensures { OnOk result (ops.new.items ≡ ops.old.items ++ code.plain_update slot (length ops.old.items) (type_of ctype.now) (place_of cell.now) operator (expression value.now) site) }
 {
-    emit_place(ops, targets.scratch, cell)?;
+    emit_place(ops, slot, cell)?;
     put_two(ops, Op::Duplicate, load_op(ctype))?;
-    emit_expression(ops, targets.scratch, value)?;
+    emit_expression(ops, slot, value)?;
     let op = operator_op(operator, site);
     emit_result(ops, op, has_one_byte(ctype), store_op(ctype))
+}
+
+// An operator, and its result, modulo 256 where it has to be, which is kept aside.
+fn emit_kept_result(ops: &mut Vec<Op>, slot: u32, operator: Op, char: bool) -> Result<(), NoMemory>
+    ensures { OnOk result (ops.new.items ≡ ops.old.items ++ operator ∷ (code.byte_code char ++ ops_of.Set slot ∷ [])) }
+{
+    emit_result(ops, operator, char, Op::Set(slot))
+}
+
+// The old value of an element of a null-terminated pointer, with the pointer and the number of the element below it.
+fn emit_old_value(
+    ops: &mut Vec<Op>,
+    slot: u32,
+    ctype: &CType,
+    index: &Index,
+    offset: u32,
+    checks: &[Check],
+) -> Result<(), NoMemory>
+    requires slot { slot ≤ 4096 }
+    requires sized { SizedIndex slot (index_of index.now) checks.now }
+    ensures { OnOk result (ops.new.items ≡ ops.old.items ++ (code.twice_code slot ++ (code.through_code slot (index_of index.now) offset checks.now ++ code.load_code (type_of ctype.now) ∷ []))) }
+{
+    emit_twice(ops, slot)?;
+    emit_through(ops, slot, index, offset, checks)?;
+    put(ops, load_op(ctype))
+}
+
+// A cell's old value and an operator with another one; at the upper end of a null-terminated pointer nothing but 0 is stored.
+fn emit_update(
+    ops: &mut Vec<Op>,
+    slot: u32,
+    ctype: &CType,
+    cell: &CellPlace,
+    operator: Operator,
+    value: &Expr,
+    site: Site,
+    end: Option<Reading>,
+) -> Result<(), NoMemory>
+    requires slot { slot ≤ 4096 }
+    requires sized { SizedPlace slot (place_of cell.now) × SizedExpression slot (expression value.now) }
+    requires room { length ops.old.items + code.update_size (place_of cell.now) end (code.expression_size (expression value.now)) (code.byte_size (is_char (type_of ctype.now))) ≤ 2 ^ 31 }
+    ensures { OnOk result (ops.new.items ≡ ops.old.items ++ code.update_code slot (length ops.old.items) (type_of ctype.now) (place_of cell.now) operator (expression value.now) site end) }
+{
+    if let CellPlace::Through {
+        index,
+        offset,
+        checks,
+        ..
+    } = cell
+        && let Index::Element { size, .. } = index
+        && let Some(reading) = end
+    {
+        emit_before_value(ops, slot, cell)?;
+        emit_old_value(ops, slot, ctype, index, *offset, checks.as_slice())?;
+        emit_expression(ops, slot, value)?;
+        emit_kept_result(ops, slot, operator_op(operator, site), has_one_byte(ctype))?;
+        return emit_ended(ops, slot, ctype, *size, *offset, &[], reading);
+    }
+    emit_plain_update(ops, slot, ctype, cell, operator, value, site)
 }
 
 // The same for a local variable.
@@ -144,7 +206,12 @@ fn emit_statement(ops: &mut Vec<Op>, targets: Targets, stmt: &Stmt) -> Result<()
     match stmt {
         Stmt::Nothing => Ok(()),
         Stmt::SetLocal { local, value } => emit_with(ops, targets.scratch, value, Op::Set(*local)),
-        Stmt::Store { ctype, cell, value } => emit_store(ops, targets, ctype, cell, value),
+        Stmt::Store {
+            ctype,
+            cell,
+            value,
+            end,
+        } => emit_store(ops, targets, ctype, cell, value, *end),
         Stmt::UpdateLocal {
             is_char,
             local,
@@ -158,7 +225,17 @@ fn emit_statement(ops: &mut Vec<Op>, targets: Targets, stmt: &Stmt) -> Result<()
             operator,
             value,
             site,
-        } => emit_update(ops, targets, ctype, cell, *operator, value, *site),
+            end,
+        } => emit_update(
+            ops,
+            targets.scratch,
+            ctype,
+            cell,
+            *operator,
+            value,
+            *site,
+            *end,
+        ),
         Stmt::Evaluate(value) => emit_with(ops, targets.scratch, value, Op::Discard),
         Stmt::CallAlone(call) => emit_call(
             ops,

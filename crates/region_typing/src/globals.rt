@@ -249,6 +249,7 @@ fn object(
     let filled = !cells.is_empty();
     walk.objects.push(Object {
         cells,
+        zero_ended: false,
         is_sealed: v.bounds.is_some(),
     })?;
     needs(filled, Code::E10, span)

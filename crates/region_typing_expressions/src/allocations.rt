@@ -202,6 +202,7 @@ fn row_counted(
                 hi: count,
             },
             size: structs.size_of(t),
+            terminated: false,
             site,
         }),
     }
@@ -225,6 +226,7 @@ pub fn allocation(
     let value = Expr::Allocate {
         count,
         element,
+        terminated: false,
         bounds,
     };
     Ok(plain(

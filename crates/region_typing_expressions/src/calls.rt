@@ -174,6 +174,7 @@ pub fn call_bounds(
             Some(bounds) => Some(PointerBounds {
                 bounds,
                 size: structs.size_of(target),
+                terminated: false,
                 site,
             }),
         },

@@ -62,7 +62,10 @@ fn cell_of(base: Base, offset: u32, site: Site) -> CellPlace
             ..
         } => CellPlace::Through {
             pointer,
-            index: Index::Element(number),
+            index: Index::Element {
+                number,
+                terminated: false,
+            },
             offset,
             site,
         },

@@ -68,7 +68,7 @@ fn known_source(vars: u32, bounds: Option<Bounds>) -> Source
 }
 
 /// What a local pointer of a kind and with declared bounds is assigned, where a flow has so many variables: null, or a pointer,
-/// of whose bounds something is known only where it leads to an array.
+/// of whose bounds something is known only where it counts elements.
 pub fn source(vars: u32, kind: Kind, declared: Option<Bounds>, value: &Expr) -> Source
     ensures value { result ≡ source_of vars kind declared (expression_of value.now) }
     ensures below { IsSourceBelow vars result }
@@ -77,7 +77,7 @@ pub fn source(vars: u32, kind: Kind, declared: Option<Bounds>, value: &Expr) -> 
         return Source::Null;
     }
     match kind {
-        Kind::Array => known_source(vars, given_bounds(declared, value)),
-        Kind::One | Kind::Nt => Source::Lost,
+        Kind::Array | Kind::Nt => known_source(vars, given_bounds(declared, value)),
+        Kind::One => Source::Lost,
     }
 }

@@ -28,7 +28,7 @@ use Rattle.ckc_core.specs.Outcome.{and_then, and_then-and_then}
 use Rattle.ckc_core.specs.Core as core
 use Rattle.ckc_core.specs.States.{Value, Number, Null, At, Cell, Local, State, cell_at, same_type, has_type}
 use Rattle.ckc_core.specs.Steps.{Result, Flow, Next, Broke, Continued, Returned, given, arithmetic_of, is_char, kept_if, set_if, set_local, set_over, pointer_to, store_if, store_over, store_at, leaves_zero, load_at, printed, put, no_result, called}
-use Rattle.ckc_core.specs.Meaning.{Knot, Setting, audit, effect, place, place_from, site_of, target_of, value, values}
+use Rattle.ckc_core.specs.Meaning.{Knot, Setting, audit, effect, place, place_from, site_of, storable, target_of, value, values}
 use Rattle.region_typing_rules.specs.Verdicts.{picked}
 use Rattle.region_typing_rules.specs.Readings.{Behind, term, own_bounds, based_bounds, is_null, pointer_local, known_at, behind_local, is_not_null}
 use Rattle.region_typing_rules.specs.Knowing.{are_below, given_from, given_bounds, known_source, source, moved_from, value_assigned, assigned_by}
@@ -108,7 +108,8 @@ is_address (core.Call callee arguments bounds) = false
 is_address core.NextInput = false
 is_address (core.Sum pointer direction number site bounds) = false
 is_address (core.Order comparison left right site) = false
-is_address (core.Allocate count element bounds) = false
+is_address (core.Allocate count element terminated bounds) = false
+is_address (core.Length pointer site) = false
 is_address (core.Cast pointer bounds) = false
 
 -- where an expression is a local pointer plus a constant, its value stands so many elements behind what the local holds
@@ -156,7 +157,7 @@ IsGivenTo structs n Char e v s = Unit {0}
 IsGivenTo structs n (Struct number) e v s = Unit {0}
 IsGivenTo structs n (Pointer m kinds.One t) e v s = Unit {0}
 IsGivenTo structs n (Pointer m kinds.Array t) e v s = AreGiven structs n (Pointer m kinds.Array t) e v s
-IsGivenTo structs n (Pointer m kinds.Nt t) e v s = Unit {0}
+IsGivenTo structs n (Pointer m kinds.Nt t) e v s = AreGiven structs n (Pointer m kinds.Nt t) e v s
 
 -- a value without bounds
 none_given_to : (structs : List Structure) (n : ℕ) (c : CType) (e : core.Expression) (v : Value) (s : State) → own_bounds e ≡ None → based_bounds e ≡ None → IsGivenTo structs n c e v s
@@ -165,7 +166,7 @@ none_given_to structs n Char e v s own based = tt
 none_given_to structs n (Struct number) e v s own based = tt
 none_given_to structs n (Pointer m kinds.One t) e v s own based = tt
 none_given_to structs n (Pointer m kinds.Array t) e v s own based = none_given structs n (Pointer m kinds.Array t) e v s own based
-none_given_to structs n (Pointer m kinds.Nt t) e v s own based = tt
+none_given_to structs n (Pointer m kinds.Nt t) e v s own based = none_given structs n (Pointer m kinds.Nt t) e v s own based
 
 source_given : (structs : List Structure) (vars n : ℕ) (m : Mode) (kind : Kind) (t : CType) (declared : Option Bounds) (e : core.Expression) (v : Value) (s w : State) → (is_null e ≡ true → v ≡ Null) → IsAlike n s w → IsGivenTo structs n (Pointer m kind t) e v s
     → IsGiven structs (source vars kind declared e) (record { type = Pointer m kind t; value = v }) w
@@ -173,7 +174,9 @@ source_given structs vars n m kinds.Array t declared e v s w null alike h =
     null_given_by structs (is_null e) (known_source vars (given_bounds declared e)) (record { type = Pointer m kinds.Array t; value = v }) w null
     (λ other. known_given structs vars (Pointer m kinds.Array t) (given_bounds declared e) v w (bounds_given structs (Pointer m kinds.Array t) declared e v w (h w alike)))
 source_given structs vars n m kinds.One t declared e v s w null alike h = null_given_by structs (is_null e) sources.Lost (record { type = Pointer m kinds.One t; value = v }) w null (λ other. tt)
-source_given structs vars n m kinds.Nt t declared e v s w null alike h = null_given_by structs (is_null e) sources.Lost (record { type = Pointer m kinds.Nt t; value = v }) w null (λ other. tt)
+source_given structs vars n m kinds.Nt t declared e v s w null alike h =
+    null_given_by structs (is_null e) (known_source vars (given_bounds declared e)) (record { type = Pointer m kinds.Nt t; value = v }) w null
+    (λ other. known_given structs vars (Pointer m kinds.Nt t) (given_bounds declared e) v w (bounds_given structs (Pointer m kinds.Nt t) declared e v w (h w alike)))
 
 -- known not to be null
 known_value : (types : List CType) (f : Knowledge) (e : core.Expression) (o : Option ℕ) (v : Value) → known_at f o ≡ true → ((p : ℕ) → o ≡ Some p → (held_at f.held p).known ≡ true → v ≢ Null) → v ≢ Null
@@ -199,7 +202,8 @@ not_null_read types f (core.Call callee arguments bounds) v address known h = kn
 not_null_read types f core.NextInput v address known h = known_value types f core.NextInput (pointer_local types core.NextInput) v h known
 not_null_read types f (core.Sum pointer direction number site bounds) v address known h = known_value types f (core.Sum pointer direction number site bounds) (pointer_local types (core.Sum pointer direction number site bounds)) v h known
 not_null_read types f (core.Order comparison left right site) v address known h = known_value types f (core.Order comparison left right site) (pointer_local types (core.Order comparison left right site)) v h known
-not_null_read types f (core.Allocate count element bounds) v address known h = known_value types f (core.Allocate count element bounds) (pointer_local types (core.Allocate count element bounds)) v h known
+not_null_read types f (core.Allocate count element terminated bounds) v address known h = known_value types f (core.Allocate count element terminated bounds) (pointer_local types (core.Allocate count element terminated bounds)) v h known
+not_null_read types f (core.Length pointer site) v address known h = known_value types f (core.Length pointer site) (pointer_local types (core.Length pointer site)) v h known
 not_null_read types f (core.Cast pointer bounds) v address known h = known_value types f (core.Cast pointer bounds) (pointer_local types (core.Cast pointer bounds)) v h known
 
 -- a pointer that is assigned itself stays where it is
@@ -419,7 +423,8 @@ module _ (audited : Bool) (g : Setting) (k : Knot) (moves : KnotMoves audited g 
   address_read core.NextInput s = so_always (λ (v : Value) (t : State). is_address core.NextInput ≡ true → v ≢ Null) (value audited g k core.NextInput s) (λ v t h. absurd (cc))
   address_read (core.Sum pointer direction number site bounds) s = so_always (λ (v : Value) (t : State). is_address (core.Sum pointer direction number site bounds) ≡ true → v ≢ Null) (value audited g k (core.Sum pointer direction number site bounds) s) (λ v t h. absurd (cc))
   address_read (core.Order comparison left right site) s = so_always (λ (v : Value) (t : State). is_address (core.Order comparison left right site) ≡ true → v ≢ Null) (value audited g k (core.Order comparison left right site) s) (λ v t h. absurd (cc))
-  address_read (core.Allocate count element bounds) s = so_always (λ (v : Value) (t : State). is_address (core.Allocate count element bounds) ≡ true → v ≢ Null) (value audited g k (core.Allocate count element bounds) s) (λ v t h. absurd (cc))
+  address_read (core.Allocate count element terminated bounds) s = so_always (λ (v : Value) (t : State). is_address (core.Allocate count element terminated bounds) ≡ true → v ≢ Null) (value audited g k (core.Allocate count element terminated bounds) s) (λ v t h. absurd (cc))
+  address_read (core.Length pointer site) s = so_always (λ (v : Value) (t : State). is_address (core.Length pointer site) ≡ true → v ≢ Null) (value audited g k (core.Length pointer site) s) (λ v t h. absurd (cc))
   address_read (core.Cast pointer bounds) s = so_always (λ (v : Value) (t : State). is_address (core.Cast pointer bounds) ≡ true → v ≢ Null) (value audited g k (core.Cast pointer bounds) s) (λ v t h. absurd (cc))
 
   abbrev IsLocalOf : core.Expression → Value → State → Type 0
@@ -445,12 +450,14 @@ module _ (audited : Bool) (g : Setting) (k : Knot) (moves : KnotMoves audited g 
   goes_on core.Nothing plain s = refl
   goes_on (core.SetLocal x e) plain s = behind_any GoesOn (value audited g k e s) (set_local x) (λ v t. set_goes x v t)
   goes_on (core.Store type p e) plain s =
-      behind_any GoesOn (target_of audited g k p s) _ (λ q t. behind_any GoesOn (value audited g k e t) _ (λ v u. behind_any GoesOn (place_from p q u) _ (λ at w. store_goes type (site_of p) at v w)))
+      behind_any GoesOn (target_of audited g k p s) _ (λ q t. behind_any GoesOn (value audited g k e t) _ (λ v u. behind_any GoesOn (place_from p q u) _
+      (λ at w. behind_any GoesOn (storable p q v w) _ (λ _ x. store_goes type (site_of p) at v x))))
   goes_on (core.UpdateLocal char x operator e site) plain s =
       behind_any GoesOn (given (slice_get s.locals x) s) _ (λ old t. behind_any GoesOn (value audited g k e t) _ (λ v u. behind_any GoesOn (arithmetic_of operator site old v u) _ (λ new w. behind_any GoesOn (kept_if char new w) (set_local x) (λ last y. set_goes x last y))))
   goes_on (core.Update type p operator e site) plain s =
-      behind_any GoesOn (place audited g k p s) _ (λ at t. behind_any GoesOn (load_at type (Some site) at t) _ (λ old u. behind_any GoesOn (value audited g k e u) _ (λ v w. behind_any GoesOn (arithmetic_of operator site old v w) _
-      (λ new x. behind_any GoesOn (kept_if (is_char type) new x) (store_at type (Some site) at) (λ last y. store_goes type (Some site) at last y)))))
+      behind_any GoesOn (target_of audited g k p s) _ (λ q t. behind_any GoesOn (place_from p q t) _ (λ at u. behind_any GoesOn (load_at type (Some site) at u) _ (λ old w. behind_any GoesOn (value audited g k e w) _
+      (λ v x. behind_any GoesOn (arithmetic_of operator site old v x) _ (λ new y. behind_any GoesOn (kept_if (is_char type) new y) _
+      (λ last z. behind_any GoesOn (storable p q last z) _ (λ _ done. store_goes type (Some site) at last done)))))))
   goes_on (core.Evaluate e) plain s = behind_any GoesOn (value audited g k e s) _ (λ v t. refl)
   goes_on (core.CallAlone callee arguments) plain s = behind_any GoesOn (values audited g k arguments s) _ (λ vs t. behind_any GoesOn (called g k callee vs t) no_result (λ v u. result_goes v u))
   goes_on (core.Print e) plain s = behind_any GoesOn (value audited g k e s) printed (λ v t. printed_goes v t)

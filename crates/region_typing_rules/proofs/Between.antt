@@ -338,7 +338,7 @@ picked_low vars false from h = h
 source_below : (vars : ℕ) (kind : Kind) (declared : Option Bounds) (e : core.Expression) → IsSourceBelow vars (source vars kind declared e)
 source_below vars kinds.Array declared e = picked_low vars (is_null e) (known_source vars (given_bounds declared e)) (known_low vars (given_bounds declared e))
 source_below vars kinds.One declared e = picked_low vars (is_null e) sources.Lost tt
-source_below vars kinds.Nt declared e = picked_low vars (is_null e) sources.Lost tt
+source_below vars kinds.Nt declared e = picked_low vars (is_null e) (known_source vars (given_bounds declared e)) (known_low vars (given_bounds declared e))
 
 pub term_below : (types : List CType) (vars : ℕ) (e : core.Expression) (o : Option Term) → term types e ≡ o → length types ≤ vars → IsTermBelow vars o
 term_below types vars e None is few = tt

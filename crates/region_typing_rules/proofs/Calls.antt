@@ -147,7 +147,7 @@ given_to_later structs n Char e v s u after h = tt
 given_to_later structs n (Struct number) e v s u after h = tt
 given_to_later structs n (Pointer m kinds.One t) e v s u after h = tt
 given_to_later structs n (Pointer m kinds.Array t) e v s u after h = given_later structs n (Pointer m kinds.Array t) e v s u after h
-given_to_later structs n (Pointer m kinds.Nt t) e v s u after h = tt
+given_to_later structs n (Pointer m kinds.Nt t) e v s u after h = given_later structs n (Pointer m kinds.Nt t) e v s u after h
 
 pub passed_later : (structs : List Structure) (n : ℕ) (types : List CType) (c : CType) (e : core.Expression) (v : Value) (s u : State) → IsAfter s u → IsPassed structs n types c e v s → IsPassed structs n types c e v u
 passed_later structs n types c e v s u after h = record {

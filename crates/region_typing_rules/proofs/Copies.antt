@@ -47,7 +47,7 @@ size_append (x ∷ xs) ys = omega (arith, size_append xs ys)
 
 pub row_front : (structs : List Structure) (t : CType) (xs ys : List Initial) (byte : ℕ) → HasRow structs (shape_of xs) byte t → HasRow structs (shape_of (xs ++ ys)) byte t
 row_front structs t xs ys byte h = record {
-  stands = record { there = h.stands.there; each = λ k slot e. type_front xs ys (byte + slot.offset) slot.type (h.stands.each k slot e); open_ended = refl; unsealed = refl };
+  stands = record { there = h.stands.there; each = λ k slot e. type_front xs ys (byte + slot.offset) slot.type (h.stands.each k slot e); inside = λ k slot e. refl; unsealed = refl };
   room = omega (arith, h.room, strides_whole xs, strides_whole (xs ++ ys), size_append xs ys);
 }
 
@@ -66,7 +66,7 @@ type_behind (x ∷ xs) ys byte all =
 
 pub row_behind : (structs : List Structure) (t : CType) (xs ys : List Initial) (byte : ℕ) → AllByRecursion IsRoomy xs → HasRow structs (shape_of ys) byte t → HasRow structs (shape_of (xs ++ ys)) (cells_size xs + byte) t
 row_behind structs t xs ys byte all h = record {
-  stands = record { there = h.stands.there; each = each; open_ended = refl; unsealed = refl };
+  stands = record { there = h.stands.there; each = each; inside = λ k slot e. refl; unsealed = refl };
   room = omega (arith, h.room, strides_whole ys, strides_whole (xs ++ ys), size_append xs ys);
 }
   where

@@ -48,7 +48,8 @@ use Rattle.region_typing_rules.proofs.Known.{IsKnown as IsKnownType, base_known,
 use Rattle.region_typing_rules.proofs.Knowledge.{IsPointing, KnowsFile, Knows}
 use Rattle.region_typing_rules.proofs.Growth.{Grows, GrowsTo, declarator_grows, file_known, local_closed, closed_arrays}
 use Rattle.region_typing_rules.proofs.Statements.{IsAny, simple_any, zero_typed, assignment_promises, initialised_promises, both_typed, knows_from}
-use Rattle.region_typing_rules.proofs.Soundness.{IsNext, IsKept, Runs, IsKnot, has_locals, runs_further, runs_both, runs_then, simple_runs, behind_so, given_to_so}
+use Rattle.region_typing_rules.proofs.Goes.{IsNext, IsKept, Runs, IsKnot, has_locals, runs_further, runs_both, runs_then}
+use Rattle.region_typing_rules.proofs.Soundness.{simple_runs, behind_so, given_to_so}
 use Rattle.std.specs.List.{AllByRecursion}
 use Rattle.ckc_core.specs.States.{shapes}
 use Rattle.region_typing_rules.proofs.Marks.{IsAssignment, IsFirst, target_of, assignment_plain, initialised_plain}

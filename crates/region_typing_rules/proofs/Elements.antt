@@ -10,8 +10,8 @@ use Rattle.pointer_modes.specs.declared.ctype.Mode.{Mode}
 use Rattle.pointer_modes.specs.declared.ctype.Kind.TheVariants as kinds
 use Rattle.pointer_modes.specs.Types.{CType, Pointer, Structure}
 use Rattle.pointer_modes.specs.Layout.{size_of}
-use Rattle.bounds_flow_meaning.specs.Holding.{HasSize, IsValid, at_node, types_of}
-use Rattle.bounds_flow_meaning.specs.Rows.{AreElements, HasRow, IsPlace}
+use Rattle.bounds_flow_meaning.specs.Holding.{HasSize, IsValid, at_node, types_of, is_ended, target_size}
+use Rattle.bounds_flow_meaning.specs.Rows.{AreElements, HasRow, IsPlace, LeadsOn}
 use Rattle.bounds_flow_meaning.proofs.Validity.{IsValidAt, between_parts, both_true, int_from, int_to, nat_more, valid_from, valid_to}
 use Rattle.bounds_flow_meaning.proofs.Sums.{bases_stay, ends_move_back, lies}
 use Rattle.ckc_core.specs.declared.program.Direction.{Direction}
@@ -20,24 +20,24 @@ use Rattle.ckc_core.specs.declared.program.PointerBounds.{PointerBounds}
 use Rattle.ckc_core.specs.declared.program.Site.{Site}
 use Rattle.ckc_core.specs.Core as core
 use Rattle.ckc_core.specs.States.{Value, Number, Null, At, Block, Local, State, Shape, shape, shapes}
-use Rattle.ckc_core.specs.Bounds.{Ends, base_byte, block_size, ends_at, ends_from, is_valid, lie_within, term_value}
+use Rattle.ckc_core.specs.Bounds.{Ends, base_byte, block_size, ends_at, ends_from, is_valid, lie_within, term_value, room_of}
 use Rattle.ckc_core.specs.Pointers.{distance, lies_below, lies_up_to, reaches}
 use Rattle.region_typing_rules.specs.Verdicts.{picked}
 use Rattle.region_typing_rules.specs.Readings.{against, based_bounds, constant, from_base, toward, with_base}
 use Rattle.region_typing_rules.specs.Typed as typed
 use Rattle.region_typing_rules.specs.Expressions.{one_element, row_of}
-use Rattle.region_typing_rules.specs.Typed.{AreRows, AreSumBounds, HasValue, IsBoundedBy}
+use Rattle.region_typing_rules.specs.Typed.{AreRows, AreSumBounds, HasValue, IsBoundedBy, IsNodeOf}
 use Rattle.region_typing_rules.proofs.Validity.{place_valid}
 use Rattle.region_typing_rules.proofs.Values.{mapped_from}
 
--- bounds at a node of a pointer to elements of the type
+-- bounds at a node of a pointer of the type
 abbrev pub AreOf : List Structure → CType → Option PointerBounds → Type 0
-AreOf structs t None = Unit {0}
-AreOf structs t (Some p) = p.size ≡ size_of structs t
+AreOf structs c None = Unit {0}
+AreOf structs c (Some p) = IsNodeOf structs c p
 
 -- a pointer with bounds that holds a value
-abbrev pub pointing : Mode → CType → Value → Local
-pointing m t v = record { type = Pointer m kinds.Array t; value = v }
+abbrev pub pointing : CType → Value → Local
+pointing c v = record { type = c; value = v }
 
 -- ---- numbers
 
@@ -76,17 +76,28 @@ ends_size size (Some base) (Some lo) (Some hi) e h = ap (λ (o : Option Ends). s
     size_in None = size
     size_in (Some e) = e.size
 
-module _ (structs : List Structure) (m : Mode) (t : CType) (p : PointerBounds) (s : State) (size : p.size ≡ size_of structs t) where
+room_less : (ended : Bool) (b : Block) (size : ℕ) → room_of ended b size ≤ block_size b
+room_less false b size = omega arith
+room_less true b size = omega arith
+
+-- below the upper end is up to it
+pub below_up_to : (e : Ends) (x : ℤ) → lies_below e x ≡ true → lies_up_to e x ≡ true
+below_up_to e x h =
+    let parts = both_true (int_le e.low x) (int_lt x e.high) h in
+    let less = lt_from x e.high parts.1 in
+    and_from (int_le e.low x) (int_le x e.high) parts.0 (int_to x e.high (omega (arith, ints, less)))
+
+module _ (structs : List Structure) (c : CType) (p : PointerBounds) (s : State) (is : IsNodeOf structs c p) where
   abbrev node : PointerBounds
-  node = at_node p.bounds (size_of structs t) p.site
+  node = at_node p.bounds (target_size structs c) (is_ended c) p.site
 
   node_is : node ≡ p
-  node_is = ap (λ n. at_node p.bounds n p.site) (sym size)
+  node_is = ap (λ n. at_node p.bounds n (is_ended c) p.site) (sym is.size) ∙ ap (λ ended. at_node p.bounds p.size ended p.site) (sym is.terminated)
 
-  pub passes_at : (v : Value) → IsValid structs (Some p.bounds) (pointing m t v) s → is_valid p v s ≡ true
+  pub passes_at : (v : Value) → IsValid structs (Some p.bounds) (pointing c v) s → is_valid p v s ≡ true
   passes_at v h = subst (λ n. is_valid n v s ≡ true) node_is (h.passes p.site)
 
-  module _ (block byte : ℕ) (h : IsValid structs (Some p.bounds) (pointing m t (At block byte)) s) where
+  module _ (block byte : ℕ) (h : IsValid structs (Some p.bounds) (pointing c (At block byte)) s) where
     abbrev valid : IsValidAt p block byte s
     valid = valid_from p block byte s (passes_at (At block byte) h)
 
@@ -94,8 +105,8 @@ module _ (structs : List Structure) (m : Mode) (t : CType) (p : PointerBounds) (
     pub ends_there : (e : Ends) × (ends_at p s.locals block byte ≡ Some e)
     ends_there = (valid.ends, valid.are)
 
-    pub size_there : (e : Ends) → ends_at p s.locals block byte ≡ Some e → e.size ≡ size_of structs t
-    size_there e are = ends_size p.size (base_byte p.bounds.base s.locals block byte) (term_value p.bounds.lo s.locals) (term_value p.bounds.hi s.locals) e are ∙ size
+    pub size_there : (e : Ends) → ends_at p s.locals block byte ≡ Some e → e.size ≡ target_size structs c
+    size_there e are = ends_size p.size (base_byte p.bounds.base s.locals block byte) (term_value p.bounds.lo s.locals) (term_value p.bounds.hi s.locals) e are ∙ is.size
 
     same_ends : (e : Ends) → ends_at p s.locals block byte ≡ Some e → valid.ends ≡ e
     same_ends e are = same_some valid.ends e (sym valid.are ∙ are)
@@ -106,23 +117,27 @@ module _ (structs : List Structure) (m : Mode) (t : CType) (p : PointerBounds) (
     -- ends that aren't turned lie in the block
     from_start : (e : Ends) → ends_at p s.locals block byte ≡ Some e → e.low ≤ℤ e.high → (pos 0 ≤ℤ e.low) × (e.high ≤ℤ pos (block_size valid.held))
     from_start e are le =
-        let fits : lie_within e (block_size valid.held) ≡ true = subst (λ e. lie_within e (block_size valid.held) ≡ true) (same_ends e are) valid.fits in
-        let both : (int_le (pos 0) e.low && int_le e.high (pos (block_size valid.held))) ≡ true = rw (int_to e.low e.high le) at fits in
-        let parts = both_true (int_le (pos 0) e.low) (int_le e.high (pos (block_size valid.held))) both in
-        (int_from (pos 0) e.low parts.0, int_from e.high (pos (block_size valid.held)) parts.1)
+        let room = room_of p.terminated valid.held e.size in
+        let fits : lie_within e room ≡ true = subst (λ e. lie_within e (room_of p.terminated valid.held e.size) ≡ true) (same_ends e are) valid.fits in
+        let both : (int_le (pos 0) e.low && int_le e.high (pos room)) ≡ true = rw (int_to e.low e.high le) at fits in
+        let parts = both_true (int_le (pos 0) e.low) (int_le e.high (pos room)) both in
+        let high = int_from e.high (pos room) parts.1 in
+        let less = room_less p.terminated valid.held e.size in
+        (int_from (pos 0) e.low parts.0, omega (arith, ints, high, less))
 
-    -- an access that its check lets through finds an element
-    pub within : (e : Ends) → ends_at p s.locals block byte ≡ Some e → (z : ℤ) → lies_below e (pos byte +ℤ distance directions.Forward e.size z) ≡ true
-        → (place : ℕ) × (pos byte +ℤ distance directions.Forward e.size z ≡ pos place) × IsPlace structs (shapes s.blocks) t block place
-    within e are z below =
-        let x = pos byte +ℤ distance directions.Forward e.size z in
-        let parts = both_true (int_le e.low x) (int_lt x e.high) below in
+    -- so do the elements up to the upper one
+    pub number_there : (e : Ends) → ends_at p s.locals block byte ≡ Some e → (x : ℤ) → lies_up_to e x ≡ true → (place : ℕ) × (x ≡ pos place)
+    number_there e are x upto =
+        let parts = both_true (int_le e.low x) (int_le x e.high) upto in
         let low = int_from e.low x parts.0 in
-        let high = lt_from x e.high parts.1 in
+        let high = int_from x e.high parts.1 in
         let start = from_start e are (omega (arith, ints, low, high)) in
         let begin = start.0 in
-        let place = natural x (omega (arith, ints, low, begin)) in
-        (place.0, place.1, h.leads p.site block byte e refl (ap (λ n. ends_at n s.locals block byte) node_is ∙ are) z place.0 (sym place.1) (subst (λ x. lies_below e x ≡ true) place.1 below))
+        natural x (omega (arith, ints, low, begin))
+
+    -- what stands between the ends
+    pub leads_there : (e : Ends) → ends_at p s.locals block byte ≡ Some e → LeadsOn structs (shapes s.blocks) c block byte e
+    leads_there e are = h.leads p.site block byte e refl (ap (λ n. ends_at n s.locals block byte) node_is ∙ are)
 
     -- and a sum that its check lets through stays in the block
     pub up_to : (e : Ends) → ends_at p s.locals block byte ≡ Some e → (x : ℤ) → lies_up_to e x ≡ true → (place : ℕ) × (x ≡ pos place) × (reaches (slice_get s.blocks block) place ≡ true)
@@ -130,10 +145,8 @@ module _ (structs : List Structure) (m : Mode) (t : CType) (p : PointerBounds) (
         let parts = both_true (int_le e.low x) (int_le x e.high) upto in
         let low = int_from e.low x parts.0 in
         let high = int_from x e.high parts.1 in
-        let start = from_start e are (omega (arith, ints, low, high)) in
-        let begin = start.0 in
-        let end = start.1 in
-        let place = natural x (omega (arith, ints, low, begin)) in
+        let end = (from_start e are (omega (arith, ints, low, high))).1 in
+        let place = number_there e are x upto in
         let is = place.1 in
         let within' : place.0 ≤ block_size valid.held = omega (arith, ints, is, high, end) in
         (place.0, place.1, subst (λ o. reaches o place.0 ≡ true) (sym valid.found) (let q : nat_le place.0 (block_size valid.held) ≡ true = grind (arith, nat_tests) in q))
@@ -182,22 +195,24 @@ based_has_base (core.Call callee arguments bounds) d h = absurd (cc)
 based_has_base core.NextInput d h = absurd (cc)
 based_has_base (core.Sum pointer direction number site bounds) d h = based_has_base pointer d h
 based_has_base (core.Order comparison left right site) d h = absurd (cc)
-based_has_base (core.Allocate count element bounds) d h = absurd (cc)
+based_has_base (core.Allocate count element terminated bounds) d h = absurd (cc)
+based_has_base (core.Length pointer site) d h = absurd (cc)
 based_has_base (core.Cast pointer bounds) d h = written_base (option_map (λ (b : PointerBounds). b.bounds) bounds) d h
 
 -- a pointer in a block, and the one that is so many elements further on, or back
-pub record IsSum (structs : List Structure) (t : CType) (direction : Direction) (z : ℤ) (v w : Value) (s : State) : Type 0 where
+pub record IsSum (structs : List Structure) (c : CType) (direction : Direction) (z : ℤ) (v w : Value) (s : State) : Type 0 where
   pub block : ℕ
   pub byte : ℕ
   pub place : ℕ
   pub before : v ≡ At block byte
   pub behind : w ≡ At block place
-  pub step : pos place ≡ pos byte +ℤ (toward direction z *ℤ pos (size_of structs t))
+  pub step : pos place ≡ pos byte +ℤ (toward direction z *ℤ pos (target_size structs c))
   pub reach : reaches (slice_get s.blocks block) place ≡ true
+  pub typed : HasValue structs (shapes s.blocks) c w
 
 -- among the same blocks
-pub sum_among : (structs : List Structure) (t : CType) (direction : Direction) (z : ℤ) (v w : Value) (s u : State) → u.blocks ≡ s.blocks → IsSum structs t direction z v w s → IsSum structs t direction z v w u
-sum_among structs t direction z v w s u same h = record {
+pub sum_among : (structs : List Structure) (c : CType) (direction : Direction) (z : ℤ) (v w : Value) (s u : State) → u.blocks ≡ s.blocks → IsSum structs c direction z v w s → IsSum structs c direction z v w u
+sum_among structs c direction z v w s u same h = record {
   block = h.block;
   byte = h.byte;
   place = h.place;
@@ -205,40 +220,41 @@ sum_among structs t direction z v w s u same h = record {
   behind = h.behind;
   step = h.step;
   reach = subst (λ blocks. reaches (slice_get blocks h.block) h.place ≡ true) (sym same) h.reach;
+  typed = subst (λ blocks. HasValue structs (shapes blocks) c w) (sym same) h.typed;
 }
 
-module _ (structs : List Structure) (m : Mode) (t : CType) (direction : Direction) (z : ℤ) (v w : Value) (s : State) (sum : IsSum structs t direction z v w s) where
-  stays_based : (b : Bounds) (base : ℕ) → b.base ≡ Some base → IsValid structs (Some b) (pointing m t v) s → IsValid structs (Some b) (pointing m t w) s
+module _ (structs : List Structure) (c : CType) (direction : Direction) (z : ℤ) (v w : Value) (s : State) (sum : IsSum structs c direction z v w s) where
+  stays_based : (b : Bounds) (base : ℕ) → b.base ≡ Some base → IsValid structs (Some b) (pointing c v) s → IsValid structs (Some b) (pointing c w) s
   stays_based b base is h =
-      subst (λ w. IsValid structs (Some b) (pointing m t w) s) (sym sum.behind)
-      (bases_stay structs s (pointing m t v) sum.block sum.byte sum.place base (toward direction z) b sum.before sum.step sum.reach is h)
+      subst (λ w. IsValid structs (Some b) (pointing c w) s) (sym sum.behind)
+      (bases_stay structs s (pointing c v) sum.block sum.byte sum.place base (toward direction z) b sum.before sum.step sum.reach is h)
 
-  based_from : (b : Bounds) (base : ℕ) → b.base ≡ Some base → IsBoundedBy structs b (pointing m t v) s → IsBoundedBy structs b (pointing m t w) s
+  based_from : (b : Bounds) (base : ℕ) → b.base ≡ Some base → IsBoundedBy structs b (pointing c v) s → IsBoundedBy structs b (pointing c w) s
   based_from b base is h = (stays_based b base is h.0, h.1)
 
   -- bounds without a base say nothing of one
-  unbased : (b d : Bounds) (c : ℤ) → b.base ≡ None → moved_by c b ≡ Some d → HasSize structs (types_of s.locals) (size_of structs t) (Some d)
-  unbased b d c none moved q u e there = absurd (let same = (between_parts b.base _ _ d moved).base in let k : None ≡ Some q = sym none ∙ (sym same ∙ e) in cc)
+  unbased : (b d : Bounds) (by : ℤ) → b.base ≡ None → moved_by by b ≡ Some d → HasSize structs (types_of s.locals) (target_size structs c) (Some d)
+  unbased b d by none moved q u e there = absurd (let same = (between_parts b.base _ _ d moved).base in let k : None ≡ Some q = sym none ∙ (sym same ∙ e) in cc)
 
   -- a sum is valid with its bounds
   pub sum_valid : (types : List CType) (e : core.Expression) (i : core.Expression) (p : PointerBounds) (b : Option PointerBounds) → AreSumBounds types e direction i p b → ((c : ℤ) → constant types i ≡ Some c → z ≡ c)
-      → IsBoundedBy structs p.bounds (pointing m t v) s → ((d : Bounds) → based_bounds e ≡ Some d → IsBoundedBy structs d (pointing m t v) s) → (q : PointerBounds) → b ≡ Some q → IsBoundedBy structs q.bounds (pointing m t w) s
+      → IsBoundedBy structs p.bounds (pointing c v) s → ((d : Bounds) → based_bounds e ≡ Some d → IsBoundedBy structs d (pointing c v) s) → (q : PointerBounds) → b ≡ Some q → IsBoundedBy structs q.bounds (pointing c w) s
   sum_valid types e i p None typed.unknown number h based q is = absurd (cc)
-  sum_valid types e i p (Some r) (typed.based {base = base} {site = site} from) number h based q is = subst (λ (o : PointerBounds). IsBoundedBy structs o.bounds (pointing m t w) s) (some_same r q is) (based_from p.bounds base from h)
+  sum_valid types e i p (Some r) (typed.based {base = base} {site = site} from) number h based q is = subst (λ (o : PointerBounds). IsBoundedBy structs o.bounds (pointing c w) s) (some_same r q is) (based_from p.bounds base from h)
     where
       some_same : (a b : PointerBounds) → Some a ≡ Some b → a ≡ b
       some_same a b q = cc
   sum_valid types e i p (Some r) (typed.beside {d = d} {site = site} from) number h based q is =
       let base = based_has_base e d from in
-      subst (λ (o : PointerBounds). IsBoundedBy structs o.bounds (pointing m t w) s) (some_same r q is) (based_from d base.0 base.1 (based d from))
+      subst (λ (o : PointerBounds). IsBoundedBy structs o.bounds (pointing c w) s) (some_same r q is) (based_from d base.0 base.1 (based d from))
     where
       some_same : (a b : PointerBounds) → Some a ≡ Some b → a ≡ b
       some_same a b q = cc
-  sum_valid types e i p (Some r) (typed.moved {c = c} {q = d} {site = site} none is_constant moved) number h based q is =
-      let back : moved_by (neg_ℤ (toward direction z)) p.bounds ≡ Some d = ap (λ c. moved_by c p.bounds) (ap (λ c. neg_ℤ (toward direction c)) (number c is_constant) ∙ sym (against_is direction c)) ∙ moved in
-      subst (λ (o : PointerBounds). IsBoundedBy structs o.bounds (pointing m t w) s) (some_same r q is) (
-        subst (λ w. IsValid structs (Some d) (pointing m t w) s) (sym sum.behind)
-            (ends_move_back structs s (pointing m t v) sum.block sum.byte sum.place (toward direction z) p.bounds d sum.before sum.step sum.reach none back h.0),
+  sum_valid types e i p (Some r) (typed.moved {c = by} {q = d} {site = site} none is_constant moved) number h based q is =
+      let back : moved_by (neg_ℤ (toward direction z)) p.bounds ≡ Some d = ap (λ c. moved_by c p.bounds) (ap (λ c. neg_ℤ (toward direction c)) (number by is_constant) ∙ sym (against_is direction by)) ∙ moved in
+      subst (λ (o : PointerBounds). IsBoundedBy structs o.bounds (pointing c w) s) (some_same r q is) (
+        subst (λ w. IsValid structs (Some d) (pointing c w) s) (sym sum.behind)
+            (ends_move_back structs s (pointing c v) sum.block sum.byte sum.place (toward direction z) p.bounds d sum.before sum.step sum.reach none back h.0),
         unbased p.bounds d (neg_ℤ (toward direction z)) none back,
       )
     where
@@ -246,16 +262,16 @@ module _ (structs : List Structure) (m : Mode) (t : CType) (direction : Directio
       some_same a b q = cc
 
   -- and so with those that its pointer has from a base
-  pub sum_based : (e : core.Expression) (d : Bounds) → based_bounds e ≡ Some d → IsBoundedBy structs d (pointing m t v) s → IsBoundedBy structs d (pointing m t w) s
+  pub sum_based : (e : core.Expression) (d : Bounds) → based_bounds e ≡ Some d → IsBoundedBy structs d (pointing c v) s → IsBoundedBy structs d (pointing c w) s
   sum_based e d from h = let base = based_has_base e d from in based_from d base.0 base.1 h
 
 -- of elements of the same size
-pub sum_size : (structs : List Structure) (t : CType) (types : List CType) (e : core.Expression) (direction : Direction) (i : core.Expression) (p : PointerBounds) (b : Option PointerBounds) → AreSumBounds types e direction i p b → p.size ≡ size_of structs t
-    → AreOf structs t b
-sum_size structs t types e direction i p None are size = tt
-sum_size structs t types e direction i p (Some r) (typed.based from) size = size
-sum_size structs t types e direction i p (Some r) (typed.beside from) size = size
-sum_size structs t types e direction i p (Some r) (typed.moved none is moved) size = size
+pub sum_size : (structs : List Structure) (c : CType) (types : List CType) (e : core.Expression) (direction : Direction) (i : core.Expression) (p : PointerBounds) (b : Option PointerBounds) → AreSumBounds types e direction i p b → IsNodeOf structs c p
+    → AreOf structs c b
+sum_size structs c types e direction i p None are is = tt
+sum_size structs c types e direction i p (Some r) (typed.based from) is = record { size = is.size; terminated = is.terminated }
+sum_size structs c types e direction i p (Some r) (typed.beside from) is = record { size = is.size; terminated = is.terminated }
+sum_size structs c types e direction i p (Some r) (typed.moved none at moved) is = record { size = is.size; terminated = is.terminated }
 
 -- ---- arrays
 
@@ -285,8 +301,8 @@ module _ (structs : List Structure) (m : Mode) (t : CType) (n block : ℕ) (x : 
       none zero h le = let z : n * 0 ≡ 0 = grind arith in omega (arith, ints, le, z)
       none (suc size) h le = omega (arith, h)
 
-  pub array_valid : (p : PointerBounds) → p.bounds ≡ row_of n → IsValid structs (Some p.bounds) (pointing m t (At block 0)) s
-  array_valid p is = subst (λ b. IsValid structs (Some b) (pointing m t (At block 0)) s) (sym is) (record { passes = passes; leads = leads })
+  pub array_valid : (p : PointerBounds) → p.bounds ≡ row_of n → IsValid structs (Some p.bounds) (pointing (Pointer m kinds.Array t) (At block 0)) s
+  array_valid p is = subst (λ b. IsValid structs (Some b) (pointing (Pointer m kinds.Array t) (At block 0)) s) (sym is) (record { passes = passes; leads = leads })
     where
       held : (b : Block) × (slice_get s.blocks block ≡ Some b) × (shape b ≡ x)
       held = block_there s.blocks block x found
@@ -314,14 +330,14 @@ module _ (structs : List Structure) (m : Mode) (t : CType) (n block : ℕ) (x : 
       fits : lie_within whole (block_size held.0) ≡ true
       fits = lies whole (block_size held.0) (omega (arith, ints)) (let r = room in let h = high_is in omega (arith, ints, r, h))
 
-      passes : (site : Site) → is_valid (at_node (row_of n) (size_of structs t) site) (At block 0) s ≡ true
-      passes site = valid_to (at_node (row_of n) (size_of structs t) site) block 0 s (record { held = held.0; ends = whole; found = held.1; are = refl; place = grind (arith, nat_tests); fits = fits })
+      passes : (site : Site) → is_valid (at_node (row_of n) (size_of structs t) false site) (At block 0) s ≡ true
+      passes site = valid_to (at_node (row_of n) (size_of structs t) false site) block 0 s (record { held = held.0; ends = whole; found = held.1; are = refl; place = grind (arith, nat_tests); fits = fits })
 
-      leads : (site : Site) (other byte : ℕ) (e : Ends) → At block 0 ≡ At other byte → ends_at (at_node (row_of n) (size_of structs t) site) s.locals other byte ≡ Some e → AreElements structs (shapes s.blocks) t other byte e
+      leads : (site : Site) (other byte : ℕ) (e : Ends) → At block 0 ≡ At other byte → ends_at (at_node (row_of n) (size_of structs t) false site) s.locals other byte ≡ Some e → AreElements structs (shapes s.blocks) t other byte e
       leads site other byte e at are z place step below =
           let block_is : block ≡ other = cc in
           let byte_is : 0 ≡ byte = cc in
-          let ends_is : whole ≡ e = some_same whole e (subst (λ byte. ends_at (at_node (row_of n) (size_of structs t) site) s.locals other byte ≡ Some e) (sym byte_is) are) in
+          let ends_is : whole ≡ e = some_same whole e (subst (λ byte. ends_at (at_node (row_of n) (size_of structs t) false site) s.locals other byte ≡ Some e) (sym byte_is) are) in
           let h : lies_below whole (pos place) ≡ true = subst (λ e. lies_below e (pos place) ≡ true) (sym ends_is) below in
           let parts = both_true (int_le whole.low (pos place)) (int_lt (pos place) whole.high) h in
           let less = lt_from (pos place) whole.high parts.1 in
@@ -340,7 +356,7 @@ module _ (structs : List Structure) (m : Mode) (t : CType) (s : State) (some : 0
   abbrev one_at : ℕ → Ends
   one_at byte = record { low = pos byte +ℤ ((pos 0 +ℤ pos 0) *ℤ pos (size_of structs t)); high = pos byte +ℤ ((pos 0 +ℤ pos 1) *ℤ pos (size_of structs t)); size = size_of structs t }
 
-  one_below : (byte : ℕ) → lies_below (one_at byte) (pos byte) ≡ true
+  pub one_below : (byte : ℕ) → lies_below (one_at byte) (pos byte) ≡ true
   one_below byte =
       let e = one_at byte in
       let low : e.low ≡ pos byte = omega (arith, ints) in
@@ -349,12 +365,6 @@ module _ (structs : List Structure) (m : Mode) (t : CType) (s : State) (some : 0
     where
       lt_to : (a b : ℤ) → (a +ℤ pos 1) ≤ℤ b → int_lt a b ≡ true
       lt_to a b h = grind (arith, ints)
-
-  -- what is valid with the bounds of one element leads to one
-  pub single_typed : (v : Value) → HasValue structs (shapes s.blocks) (Pointer m kinds.Array t) v → IsValid structs (Some one_element) (pointing m t v) s → (site : Site) → HasValue structs (shapes s.blocks) (Pointer m kinds.One t) v
-  single_typed (Number z) typed h site = absurd typed
-  single_typed Null typed h site = tt
-  single_typed (At block byte) typed h site = h.leads site block byte _ refl refl (pos 0) byte (omega (arith, ints)) (one_below byte)
 
 -- a pointer to one value is valid with the bounds of one element
 module _ (structs : List Structure) (m : Mode) (t : CType) (s : State) where
@@ -366,7 +376,7 @@ module _ (structs : List Structure) (m : Mode) (t : CType) (s : State) where
   first_alone byte (pos (suc k)) place size is low high = absurd (omega (arith, ints, is, high))
   first_alone byte (negsuc k) place size is low high = omega (arith, ints, is, low)
 
-  one_leads : (block byte : ℕ) → IsPlace structs (shapes s.blocks) t block byte → (site : Site) (other start : ℕ) (e : Ends) → At block byte ≡ At other start → ends_at (at_node one_element (size_of structs t) site) s.locals other start ≡ Some e
+  one_leads : (block byte : ℕ) → IsPlace structs (shapes s.blocks) t block byte → (site : Site) (other start : ℕ) (e : Ends) → At block byte ≡ At other start → ends_at (at_node one_element (size_of structs t) false site) s.locals other start ≡ Some e
       → AreElements structs (shapes s.blocks) t other start e
   one_leads block byte h site other start e at are z place step below =
       let block_is : block ≡ other = cc in
@@ -385,7 +395,7 @@ module _ (structs : List Structure) (m : Mode) (t : CType) (s : State) where
       some_same : (a b : Ends) → Some a ≡ Some b → a ≡ b
       some_same a b q = cc
 
-  pub one_valid : (v : Value) → HasValue structs (shapes s.blocks) (Pointer m kinds.One t) v → IsValid structs (Some one_element) (pointing m t v) s
+  pub one_valid : (v : Value) → HasValue structs (shapes s.blocks) (Pointer m kinds.One t) v → IsValid structs (Some one_element) (pointing (Pointer m kinds.Array t) v) s
   one_valid (Number z) h = absurd h
   one_valid Null h = record { passes = λ site. refl; leads = λ site block byte e at are. absurd (cc) }
   one_valid (At block byte) h = record { passes = λ site. place_valid structs site s t block byte h; leads = one_leads block byte h }

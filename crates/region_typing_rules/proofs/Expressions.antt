@@ -69,7 +69,7 @@ use Rattle.region_typing_rules.proofs.DeclaredBounds.{declared_formed, int_below
 use Rattle.region_typing_rules.proofs.NewCells.{AreNewCells, new_cells}
 use Rattle.region_typing_rules.proofs.Terms.{term_formed}
 use Rattle.region_typing_rules.specs.Typed as rules
-use Rattle.region_typing_rules.specs.Typed.{Frame, IsBoundedObject, AreNewBounds, IsBaseOf, AreAsked, AreOfResult, HasCallBounds, HasResultBounds, HaveRows, IsAsked, IsAskedAt, IsCallee, IsReturned, pointers_of, term_of, terms_of, HasBounds, AreSumBounds, CountsFrom, HasElements, IsInForce, LeadsToOne, HasType, HaveTypes, HasPlace, IsSimple, IsScalar, IsScalarResult, IsNumberResult}
+use Rattle.region_typing_rules.specs.Typed.{Frame, IsBoundedObject, AreNewBounds, IsBaseOf, AreAsked, AreOfResult, HasCallBounds, HasResultBounds, HaveRows, IsAsked, IsAskedAt, IsCallee, IsReturned, pointers_of, term_of, terms_of, HasBounds, AreSumBounds, CountsFrom, HasElements, IsInForce, LeadsToOne, HasType, HaveTypes, HasPlace, IsSimple, IsScalar, IsScalarResult, IsNumberResult, IsNodeOf}
 use Rattle.region_typing_rules.proofs.Values.{member_row}
 use Rattle.region_typing_rules.proofs.Verdicts.{Promises, passing_promises, needs_promises, anything_promised, Extends}
 use Rattle.region_typing_rules.proofs.Known.{IsKnown, IsKnownResult, IsSizedResult, size_kept, bounds_kept, type_known}
@@ -103,9 +103,13 @@ number_scalar (Pointer m k t) h = absurd (cc)
 
 -- bounds at a node count elements of the type, which have bytes, and their ends speak of variables below this number
 pub record CountElements (structs : List Structure) (vars : ℕ) (t : CType) (p : PointerBounds) : Type 0 where
-  pub size : p.size ≡ size_of structs t
+  pub node : IsNodeOf structs (Pointer modes.Checked kinds.Array t) p
   pub some : 0 < size_of structs t
   pub below : AreEndsBelow vars p.bounds
+
+-- whatever its mode
+at_mode : {structs : List Structure} {t : CType} {p : PointerBounds} (m : Mode) → IsNodeOf structs (Pointer modes.Checked kinds.Array t) p → IsNodeOf structs (Pointer m kinds.Array t) p
+at_mode m h = record { size = h.size; terminated = h.terminated }
 
 -- the bounds do, where there are any
 abbrev pub AreCounted : List Structure → ℕ → CType → Option PointerBounds → Type 0
@@ -206,10 +210,10 @@ moved_below vars c b below =
 sum_counted : (structs : List Structure) (vars : ℕ) (t : CType) (types : List CType) (e : core.Expression) (direction : Direction) (i : core.Expression) (p : PointerBounds) {b : Option PointerBounds} → CountElements structs vars t p → ((d : Bounds) → based_bounds e ≡ Some d → AreEndsBelow vars d)
     → AreSumBounds types e direction i p b → AreCounted structs vars t b
 sum_counted structs vars t types e direction i p h beside rules.unknown = tt
-sum_counted structs vars t types e direction i p h beside (rules.based base) = record { size = h.size; some = h.some; below = h.below }
-sum_counted structs vars t types e direction i p h beside (rules.beside {d = d} from) = record { size = h.size; some = h.some; below = beside d from }
+sum_counted structs vars t types e direction i p h beside (rules.based base) = record { node = record { size = h.node.size; terminated = h.node.terminated }; some = h.some; below = h.below }
+sum_counted structs vars t types e direction i p h beside (rules.beside {d = d} from) = record { node = record { size = h.node.size; terminated = h.node.terminated }; some = h.some; below = beside d from }
 sum_counted structs vars t types e direction i p h beside (rules.moved {c = c} none is moved) =
-    record { size = h.size; some = h.some; below = subst (AreBoundsBelow vars) moved (moved_below vars (against direction c) p.bounds h.below) }
+    record { node = record { size = h.node.size; terminated = h.node.terminated }; some = h.some; below = subst (AreBoundsBelow vars) moved (moved_below vars (against direction c) p.bounds h.below) }
 
 -- the bounds of a sum
 sum_bounded : (types : List CType) (e : core.Expression) (direction : Direction) (i : core.Expression) (p : PointerBounds) (site : Site) → bounds_of e ≡ Some p → AreSumBounds types e direction i p (sum_node types direction e i site)
@@ -413,8 +417,8 @@ module _ (g : Frame) (types : List CType) (s : Scope) where
   loaded t p site scalar h = by (bounds_at g.structs t site) refl
     where
       by : (o : Option PointerBounds) → bounds_at g.structs t site ≡ o → HasType g types s (noted_if o (core.Load t p None)) t
-      by None e = rules.load scalar h (site, sym e)
-      by (Some b) e = rules.load scalar h (site, sym e)
+      by None e = rules.load scalar (rules.at_place h) (site, sym e)
+      by (Some b) e = rules.load scalar (rules.at_place h) (site, sym e)
 
   load_fits : (t : CType) (p : core.Place) (site : Site) → IsScalar t → HasPlace g types s p t → FitsValue t false (noted_if (bounds_at g.structs t site) (core.Load t p None)) (For (OfCell p))
   load_fits t p site scalar h =
@@ -451,7 +455,7 @@ module _ (g : Frame) (types : List CType) (s : Scope) where
     element_known k m t h = of_element (IsKnown s.structs) s.locals k (Pointer m kinds.Array t) knows.file.closed.of_locals h
 
     bounded_fits : (k : ℕ) (m : Mode) (t : CType) (b : Bounds) (site : Site) → slice_get s.locals k ≡ Some (Pointer m kinds.Array t) → (held_at s.flow.held k).bounds ≡ Some b
-        → FitsValue (Pointer m kinds.Array t) false (core.Local k (Some (record { bounds = b; size = size_of s.structs t; site = site }))) (For (OfLocal k))
+        → FitsValue (Pointer m kinds.Array t) false (core.Local k (Some (record { bounds = b; size = size_of s.structs t; terminated = false; site = site }))) (For (OfLocal k))
     bounded_fits k m t b site h e =
         let is = knows.pointers k b e in
         let same : is.element ≡ t = let own = is.own in cc in
@@ -459,12 +463,12 @@ module _ (g : Frame) (types : List CType) (s : Scope) where
         let some : 0 < size_of g.structs t = subst (λ n. 0 < n) size (subst (λ c. 0 < size_of s.structs c) same is.some) in
         let below : AreEndsBelow s.flow.vars b = subst (AreBoundsBelow s.flow.vars) e (held_below s.flow.vars s.flow.held k knows.flow.variables.below).bounds in
         record {
-          has_type = rules.bounded h size is.limited (record { ints = is.ints; base = λ q from. let pointer = is.base q from in (Pointer is.mode pointer.0 is.element, pointer.1) }) (is_in_force k b e);
+          has_type = rules.bounded h (record { size = size; terminated = refl }) is.limited (record { ints = is.ints; base = λ q from. let pointer = is.base q from in (Pointer is.mode pointer.0 is.element, pointer.1) }) (is_in_force k b e);
           is_number = λ x. absurd (cc);
           stands = knows.locals k (Pointer m kinds.Array t) h;
           scalar = refl;
           node = record {
-            own = record { size = size; some = some; below = below };
+            own = record { node = record { size = size; terminated = refl }; some = some; below = below };
             based = λ d from. let same : from_base k b ≡ d = cc in subst (AreEndsBelow s.flow.vars) same (from_base_below s.flow.vars k b below);
           };
         }
@@ -492,20 +496,20 @@ module _ (g : Frame) (types : List CType) (s : Scope) where
     local_fits k (Pointer m kinds.Nt t) array at scalar h site = standing_fits k (Pointer m kinds.Nt t) _ array (held_fits knows.locals (Pointer m kinds.Nt t) k site refl h)
 
     -- a file-level pointer has the bounds that are declared for it
-    object_fits : (k : ℕ) (m : Mode) (u : CType) (b : Bounds) (at : Site) → IsBoundedObject g k m u b → IsKnown s.structs u → FitsNoted (pointer_typed s.structs k (Pointer m kinds.Array u) b at)
+    object_fits : (k : ℕ) (m : Mode) (u : CType) (b : Bounds) (at : Site) → IsBoundedObject g k m kinds.Array u b → IsKnown s.structs u → FitsNoted (pointer_typed s.structs k (Pointer m kinds.Array u) b at)
     object_fits k m u b at is known site =
         let size : size_of s.structs u ≡ size_of g.structs u = size_kept s.structs g.structs u knows.file.structs known in
-        let fits : FitsValue (Pointer m kinds.Array u) false (core.Load (Pointer m kinds.Array u) (core.Direct k 0) (Some (record { bounds = b; size = size_of s.structs u; site = at }))) (For (OfBounded k b)) = record {
-          has_type = rules.bounded_object is size;
+        let fits : FitsValue (Pointer m kinds.Array u) false (core.Load (Pointer m kinds.Array u) (core.Direct k 0) (Some (record { bounds = b; size = size_of s.structs u; terminated = false; site = at }))) (For (OfBounded k b)) = record {
+          has_type = rules.bounded_object is (record { size = size; terminated = refl });
           is_number = λ x. absurd (cc);
           stands = record { mode = m; element = u; own = refl; object = is };
           scalar = refl;
           node = record {
-            own = record { size = size; some = is.some; below = record { lo = subst (IsBelow s.flow.vars) (sym is.constant.lo) tt; hi = subst (IsBelow s.flow.vars) (sym is.constant.hi) tt } };
+            own = record { node = record { size = size; terminated = refl }; some = is.some; below = record { lo = subst (IsBelow s.flow.vars) (sym is.constant.lo) tt; hi = subst (IsBelow s.flow.vars) (sym is.constant.hi) tt } };
             based = λ d e. absurd (cc);
           };
         } in
-        subst (λ o. FitsValue (Pointer m kinds.Array u) false (noted_if o (core.Load (Pointer m kinds.Array u) (core.Direct k 0) (Some (record { bounds = b; size = size_of s.structs u; site = at })))) (For (OfBounded k b))) (sym (no_row m _)) fits
+        subst (λ o. FitsValue (Pointer m kinds.Array u) false (noted_if o (core.Load (Pointer m kinds.Array u) (core.Direct k 0) (Some (record { bounds = b; size = size_of s.structs u; terminated = false; site = at })))) (For (OfBounded k b))) (sym (no_row m _)) fits
 
     bounded_pointer_fits : (k : ℕ) (t : CType) (b : Bounds) (at : Site) → IsBoundedPointer g t b k → IsKnown s.structs t → FitsNoted (pointer_typed s.structs k t b at)
     bounded_pointer_fits k t b at is known =
@@ -518,11 +522,11 @@ module _ (g : Frame) (types : List CType) (s : Scope) where
     name_fits at (Array k t n) h = λ site.
         let size : size_of s.structs t ≡ size_of g.structs t = size_kept s.structs g.structs t knows.file.structs h.1 in
         record {
-          has_type = rules.array h.0.found h.0.some h.0.few h.0.rows refl size;
+          has_type = rules.array h.0.found h.0.some h.0.few h.0.rows refl (record { size = size; terminated = refl });
           is_number = λ x. absurd (cc);
           stands = tt;
           scalar = refl;
-          node = record { own = record { size = size; some = array_sized g t n k h.0; below = record { lo = tt; hi = tt } }; based = λ b e. absurd (cc) };
+          node = record { own = record { node = record { size = size; terminated = refl }; some = array_sized g t n k h.0; below = record { lo = tt; hi = tt } }; based = λ b e. absurd (cc) };
         }
     name_fits at Nothing h = λ site. record { has_type = rules.word refl; is_number = λ x. refl; stands = tt; scalar = refl; node = tt }
 
@@ -536,8 +540,8 @@ module _ (g : Frame) (types : List CType) (s : Scope) where
   member_of (rules.member i h found scalar') k offset t site slot scalar = absurd (cc)
   member_of (rules.element {e = e} {i = i} h elements index) k offset t site slot scalar =
       let place : offset ≡ 0 + offset = omega arith in
-      let here : HasPlace g types s (core.Through e (core.Element i) offset site) t = rules.element_member k h elements index slot scalar in
-      subst (λ o. HasPlace g types s (core.Through e (core.Element i) o site) t) place here
+      let here : HasPlace g types s (core.Through e (core.Element i false) offset site) t = rules.element_member k h elements index slot scalar in
+      subst (λ o. HasPlace g types s (core.Through e (core.Element i false) o site) t) place here
   member_of (rules.element_member j h elements index found scalar') k offset t site slot scalar = absurd (cc)
 
   checked_fits : {p : core.Place} {t : CType} → HasPlace g types s p t → (site : Site) → HasPlace g types s (checked_at p site) t
@@ -562,12 +566,12 @@ module _ (g : Frame) (types : List CType) (s : Scope) where
   address_promises (AStruct number (OfBounded k b)) site span h = tt
 
   -- where a pointer has bounds
-  elements_promise : {A : Type 0} (Q : A → Type 0) (t : CType) (value : core.Expression) (span : Span) (next : Verdict A) → IsRow g.structs s.flow.vars t value → ((p : PointerBounds) → HasElements g.structs value t p → Promises Q next) → Promises Q (with_elements value span next)
-  elements_promise Q t value span next h more = by (bounds_of value) refl h.own
+  elements_promise : {A : Type 0} (Q : A → Type 0) (m : Mode) (t : CType) (value : core.Expression) (span : Span) (next : Verdict A) → IsRow g.structs s.flow.vars t value → ((p : PointerBounds) → HasElements g.structs value (Pointer m kinds.Array t) p → Promises Q next) → Promises Q (with_elements value span next)
+  elements_promise Q m t value span next h more = by (bounds_of value) refl h.own
     where
       by : (o : Option PointerBounds) → bounds_of value ≡ o → AreCounted g.structs s.flow.vars t o → Promises Q (with_elements value span next)
       by None e counted = rw e tt
-      by (Some p) e counted = rw e (more p (record { bounds = e; size = counted.size; some = counted.some }))
+      by (Some p) e counted = rw e (more p (record { bounds = e; node = at_mode m counted.node; some = counted.some }))
 
   pointed_promises : (type : CType) (value : core.Expression) (site : Site) (span : Span) → HasType g types s value type → HasNode g.structs s.flow.vars type value → Promises FitsNoted (pointed_at type value site span)
   pointed_promises Int value site span h node = tt
@@ -575,7 +579,7 @@ module _ (g : Frame) (types : List CType) (s : Scope) where
   pointed_promises (Struct number) value site span h node = tt
   pointed_promises (Pointer m kinds.One t) value site span h node = at_place_fits t (core.Through value core.First 0 site) (rules.pointed h)
   pointed_promises (Pointer m kinds.Array t) value site span h node =
-      elements_promise FitsNoted t value span (Passes (at_place t (first_element value site))) node (λ p elements. at_place_fits t (first_element value site) (rules.element h elements (rules.word refl)))
+      elements_promise FitsNoted m t value span (Passes (at_place t (first_element value site))) node (λ p elements. at_place_fits t (first_element value site) (rules.element h elements (rules.word refl)))
   pointed_promises (Pointer m kinds.Nt t) value site span h node = tt
 
   dereferenced_promises : (a : Typed) (site : Site) (span : Span) → Fits a → Promises FitsNoted (dereferenced a site span)
@@ -615,7 +619,7 @@ module _ (g : Frame) (types : List CType) (s : Scope) where
   sum_fits m t v w direction site p own h row number =
       let counted : CountElements g.structs s.flow.vars t p = subst (AreCounted g.structs s.flow.vars t) own row.own in
       let bounds = sum_bounded s.locals v direction w p site own in
-      plain_fits (Pointer m kinds.Array t) _ refl (rules.sum h (record { bounds = own; size = counted.size; some = counted.some }) number bounds)
+      plain_fits (Pointer m kinds.Array t) _ refl (rules.sum tt h (record { bounds = own; node = at_mode m counted.node; some = counted.some }) number bounds)
       (record { own = sum_counted g.structs s.flow.vars t s.locals v direction w p counted row.based bounds; based = row.based })
 
   summed_promises : (direction : Direction) (a b : Typed) (site : Site) (span : Span) → Fits a → Fits b → is_single_value a ≡ false → lacks_bounds a ≡ false → Promises Fits (summed s direction a b site span)
@@ -747,7 +751,7 @@ module _ (g : Frame) (types : List CType) (s : Scope) where
   element_promises (Pointer m kinds.One t) v w site span h node number = tt
   element_promises (Pointer m kinds.Nt t) v w site span h node number = tt
   element_promises (Pointer m kinds.Array t) v w site span h node number =
-      elements_promise FitsNoted t v span _ node (λ p elements. at_place_fits t (core.Through v (core.Element w) 0 site) (rules.element h elements number))
+      elements_promise FitsNoted m t v span _ node (λ p elements. at_place_fits t (core.Through v (core.Element w false) 0 site) (rules.element h elements number))
 
   indexed_promises : (a b : Typed) (site : Site) (span : Span) → Fits a → Fits b → Promises FitsNoted (indexed a b site span)
   indexed_promises (Value t z v p) (Value u y w q) site span ha hb =
@@ -913,7 +917,7 @@ module _ (g : Frame) (types : List CType) (s : Scope) where
         by None e counted own = let found = rw e at own in absurd (cc)
         by (Some p) e counted own =
             let found : Finds (Some p.bounds) = rw e at own in
-            rules.single h (record { bounds = e; size = counted.size; some = counted.some }) (leads_to_one p.bounds counted.below (one_met s.flow.facts p.bounds found))
+            rules.single h (record { bounds = e; node = at_mode m counted.node; some = counted.some }) (leads_to_one p.bounds counted.below (one_met s.flow.facts p.bounds found))
 
     -- one into an array that a zero ends has no bounds to meet: it is null
     ended_typed : (m : Mode) (t : CType) (value : core.Expression) → IsBare value → meets s.flow value (Some one_element) ≡ true → HasType g types s value (Pointer m kinds.One t)
@@ -928,7 +932,7 @@ module _ (g : Frame) (types : List CType) (s : Scope) where
     kind_typed m t kinds.Array kinds.Array value converts h node met = h
     kind_typed m t kinds.Array kinds.Nt value converts h node met = absurd (cc)
     kind_typed m t kinds.Nt kinds.One value converts h node met = ended_typed m t value node met
-    kind_typed m t kinds.Nt kinds.Array value converts h node met = rules.ended_row h node.own
+    kind_typed m t kinds.Nt kinds.Array value converts h node met = rules.ended_row h
     kind_typed m t kinds.Nt kinds.Nt value converts h node met = h
 
     converted_pointer : (type : CType) (m : Mode) (k : Kind) (t : CType) (value : core.Expression) → pointer_converts type k (Pointer m k t) ≡ true → HasType g types s value type → HasNode g.structs s.flow.vars type value → meets s.flow value (asked_of type (Pointer m k t)) ≡ true → HasType g types s value (Pointer m k t)
@@ -982,7 +986,7 @@ module _ (g : Frame) (types : List CType) (s : Scope) where
     local_number x b type number (rules.widened h) = local_number x b Char refl h
     local_number x b type number (rules.single h elements leads) = absurd (cc)
     local_number x b type number (rules.row h bounds) = absurd (cc)
-    local_number x b type number (rules.ended_row h none) = absurd (cc)
+    local_number x b type number (rules.ended_row h) = absurd (cc)
 
     number_local : (type : CType) (value : core.Expression) → is_number type ≡ true → HasType g types s value type → pointer_local s.locals value ≡ None
     number_local type (core.Local x b) number h = by (slice_get s.locals x) refl
@@ -1171,8 +1175,8 @@ module _ (g : Frame) (types : List CType) (s : Scope) where
         let size = size_kept s.structs g.structs u knows.file.structs known in
         let some' : 0 < size_of g.structs u = subst (λ n. 0 < n) size some in
         record {
-          bounds = rules.by_result e size some' at.limited (at.base ∙ sound.base) at.ints;
-          node = record { own = record { size = size; some = some'; below = ends_below g.structs s knows.flow knows.few d at.ints }; based = λ c q. absurd (cc) };
+          bounds = rules.by_result e (record { size = size; terminated = refl }) some' at.limited (at.base ∙ sound.base) at.ints;
+          node = record { own = record { node = record { size = size; terminated = refl }; some = some'; below = ends_below g.structs s knows.flow knows.few d at.ints }; based = λ c q. absurd (cc) };
         }
 
     call_with : (terms : List (Option Term)) (t : CType) (r : Option Bounds) (ts : List CType) (callee : Callee) (values : core.Arguments) (site : Site) → AreTerms s.locals terms → IsKnown s.structs t → IsSizedResult s.structs (Some t) r → HasResultBounds ts (Some t) r
@@ -1268,7 +1272,7 @@ module _ (g : Frame) (types : List CType) (s : Scope) where
             passing_promises (λ (t : Typed). Unit {0}) FitsNoted (member_at s n (first_element value site) name site span) _ (anything_promised (member_at s n (first_element value site) name site span)) (λ t _. rw e tt)
         by (Some p) e counted =
             passing_promises FitsNoted FitsNoted (member_at s n (first_element value site) name site span) _
-            (member_at_promises n (first_element value site) name site span (rules.element h (record { bounds = e; size = counted.size; some = counted.some }) (rules.word refl)))
+            (member_at_promises n (first_element value site) name site span (rules.element h (record { bounds = e; node = at_mode m counted.node; some = counted.some }) (rules.word refl)))
             (λ t fits. needs_promises FitsNoted (is_some (bounds_of value)) E18 span (Passes t) (λ there. fits))
     pointed_by_promises (Pointer m kinds.Nt t) value name site span h node = tt
 
@@ -1323,7 +1327,7 @@ module _ (g : Frame) (types : List CType) (s : Scope) where
     arithmetic_parts (rules.widened h) = arithmetic_parts h
     arithmetic_parts (rules.single h elements leads) = arithmetic_parts h
     arithmetic_parts (rules.row h bounds) = arithmetic_parts h
-    arithmetic_parts (rules.ended_row h none) = arithmetic_parts h
+    arithmetic_parts (rules.ended_row h) = arithmetic_parts h
 
     factor_typed : (value n : core.Expression) → IsFactor value n → HasType g types s value Int → HasType g types s n Int
     factor_typed value n f h = ⊎_elim (λ is. (arithmetic_parts (subst (λ e. HasType g types s e Int) is h)).0) (λ is. (arithmetic_parts (subst (λ e. HasType g types s e Int) is h)).1) f.is
@@ -1348,17 +1352,17 @@ module _ (g : Frame) (types : List CType) (s : Scope) where
       same_bytes : size_of s.structs t ≡ size_of g.structs t
       same_bytes = sym made.size ∙ made.later_size
 
-      new_bounds : (o : Option Term) → term s.locals count ≡ o → AreNewBounds g.structs s.locals count t (row_counted s.structs t o site)
+      new_bounds : (o : Option Term) → term s.locals count ≡ o → AreNewBounds g.structs s.locals count kinds.Array t (row_counted s.structs t o site)
       new_bounds None is = rules.uncounted
-      new_bounds (Some n) is = subst (λ k. AreNewBounds g.structs s.locals count t (Some (record { bounds = counted n; size = k; site = site }))) (sym same_bytes) (rules.by_term {site = site} is)
+      new_bounds (Some n) is = subst (λ k. AreNewBounds g.structs s.locals count kinds.Array t (Some (record { bounds = counted n; size = k; terminated = false; site = site }))) (sym same_bytes) (rules.by_term {site = site} is)
 
       new_counted : (o : Option Term) → term s.locals count ≡ o → AreCounted g.structs s.flow.vars t (row_counted s.structs t o site)
       new_counted None is = tt
-      new_counted (Some n) is = record { size = same_bytes; some = made.bytes; below = record { lo = tt; hi = int_below s.locals s.flow.vars n.var knows.few (term_formed s.locals count n is).int } }
+      new_counted (Some n) is = record { node = record { size = same_bytes; terminated = refl }; some = made.bytes; below = record { lo = tt; hi = int_below s.locals s.flow.vars n.var knows.few (term_formed s.locals count n is).int } }
 
     -- new memory of elements that have bytes
     pub memory_typed : (t : CType) (count : core.Expression) (site : Site) → HasType g types s count Int → nat_lt 0 (size_of s.structs t) ≡ true
-        → HasType g types s (core.Allocate count (cells_with s.structs t (pos 0)) (row_counted s.structs t (term s.locals count) site)) (Pointer modes.Checked kinds.Array t)
+        → HasType g types s (core.Allocate count (cells_with s.structs t (pos 0)) false (row_counted s.structs t (term s.locals count) site)) (Pointer modes.Checked kinds.Array t)
     memory_typed t count site h bytes =
         let some = ltb-true 0 (size_of s.structs t) bytes in
         let cells = made t count site some in
@@ -1369,7 +1373,7 @@ module _ (g : Frame) (types : List CType) (s : Scope) where
     allocation_promises t count site span h =
         needs_promises Fits (nat_lt 0 (size_of s.structs t)) E13 span _
         (λ bytes.
-        plain_fits (Pointer modes.Checked kinds.Array t) (core.Allocate count (cells_with s.structs t (pos 0)) (row_counted s.structs t (term s.locals count) site)) refl (memory_typed t count site h bytes)
+        plain_fits (Pointer modes.Checked kinds.Array t) (core.Allocate count (cells_with s.structs t (pos 0)) false (row_counted s.structs t (term s.locals count) site)) refl (memory_typed t count site h bytes)
         (record { own = new_counted t count site (ltb-true 0 (size_of s.structs t) bytes) (term s.locals count) refl; based = λ b e. absurd (cc) }))
 
     malloc_promises : (word : MallocWord) (t : CType) (size : Expression) (a : Typed) (site : Site) (span : Span) → Fits a → Promises Fits (malloc_typed word s t size a site span)
@@ -1397,20 +1401,20 @@ module _ (g : Frame) (types : List CType) (s : Scope) where
       one_node = record { own = one_told; based = λ b e. absurd (cc) }
 
     -- the bounds of the pointer that is cast
-    row_elements : (target : CType) (value : core.Expression) → AreCounted g.structs s.flow.vars target (bounds_of value) → is_some (bounds_of value) ≡ true → (p : PointerBounds) × HasElements g.structs value target p
+    row_elements : (target : CType) (value : core.Expression) → AreCounted g.structs s.flow.vars target (bounds_of value) → is_some (bounds_of value) ≡ true → (p : PointerBounds) × HasElements g.structs value (Pointer modes.Checked kinds.Array target) p
     row_elements target value counted there = by (bounds_of value) refl counted there
       where
-        by : (o : Option PointerBounds) → bounds_of value ≡ o → AreCounted g.structs s.flow.vars target o → is_some o ≡ true → (p : PointerBounds) × HasElements g.structs value target p
+        by : (o : Option PointerBounds) → bounds_of value ≡ o → AreCounted g.structs s.flow.vars target o → is_some o ≡ true → (p : PointerBounds) × HasElements g.structs value (Pointer modes.Checked kinds.Array target) p
         by None e c t = absurd (cc)
-        by (Some p) e c t = (p, record { bounds = e; size = c.size; some = c.some })
+        by (Some p) e c t = (p, record { bounds = e; node = c.node; some = c.some })
 
     -- a pointer with bounds as one with others
-    bounded_cast : (target : CType) (value : core.Expression) (p : PointerBounds) (b : Bounds) (site : Site) → HasType g types s value (Pointer modes.Checked kinds.Array target) → HasElements g.structs value target p → size_of s.structs target ≡ size_of g.structs target → IsFormedFor s.structs s.locals (Pointer modes.Checked kinds.Array target) b
-        → has_base b.base value ≡ true → FitsValue (Pointer modes.Checked kinds.Array target) false (core.Cast value (Some (record { bounds = b; size = size_of s.structs target; site = site }))) ForNothing
+    bounded_cast : (target : CType) (value : core.Expression) (p : PointerBounds) (b : Bounds) (site : Site) → HasType g types s value (Pointer modes.Checked kinds.Array target) → HasElements g.structs value (Pointer modes.Checked kinds.Array target) p → size_of s.structs target ≡ size_of g.structs target → IsFormedFor s.structs s.locals (Pointer modes.Checked kinds.Array target) b
+        → has_base b.base value ≡ true → FitsValue (Pointer modes.Checked kinds.Array target) false (core.Cast value (Some (record { bounds = b; size = size_of s.structs target; terminated = false; site = site }))) ForNothing
     bounded_cast target value p b site h elements same formed based =
-        plain_fits (Pointer modes.Checked kinds.Array target) (core.Cast value (Some (record { bounds = b; size = size_of s.structs target; site = site }))) refl
-        (rules.cast h elements knows.locals same formed.limited formed.ints bases)
-        (record { own = record { size = same; some = elements.some; below = below }; based = λ d e. on_base b.base d e })
+        plain_fits (Pointer modes.Checked kinds.Array target) (core.Cast value (Some (record { bounds = b; size = size_of s.structs target; terminated = false; site = site }))) refl
+        (rules.cast h elements tt knows.locals (record { size = same; terminated = refl }) formed.limited formed.ints bases)
+        (record { own = record { node = record { size = same; terminated = refl }; some = elements.some; below = below }; based = λ d e. on_base b.base d e })
       where
         below : AreEndsBelow s.flow.vars b
         below = record { lo = int_below s.locals s.flow.vars b.lo.var knows.few formed.ints.lo; hi = int_below s.locals s.flow.vars b.hi.var knows.few formed.ints.hi }
@@ -1427,8 +1431,8 @@ module _ (g : Frame) (types : List CType) (s : Scope) where
 
     -- a pointer to one element as one with bounds
     row_cast : (target : CType) (value : core.Expression) (same : size_of s.structs target ≡ size_of g.structs target) → 0 < size_of s.structs target → (node : HasBounds g.structs (Pointer modes.Checked kinds.One target) (bounds_of value))
-        → HasElements g.structs value target (at_node one_element (size_of g.structs target) node.0)
-    row_cast target value same some node = record { bounds = node.1; size = refl; some = subst (λ n. 0 < n) same some }
+        → HasElements g.structs value (Pointer modes.Checked kinds.Array target) (at_node one_element (size_of g.structs target) false node.0)
+    row_cast target value same some node = record { bounds = node.1; node = record { size = refl; terminated = refl }; some = subst (λ n. 0 < n) same some }
 
     -- by the kinds of both
     kind_cast : (from to : Kind) (target : CType) (value : core.Expression) (written : WrittenBounds) (site : Site) → kind_converts from to ≡ true → 0 < size_of s.structs target → takes (Pointer modes.Checked to target) written ≡ true → is_some (bounds_of value) ≡ true → has_base (base_in (bounds_in written)) value ≡ true
@@ -1452,7 +1456,7 @@ module _ (g : Frame) (types : List CType) (s : Scope) where
         plain_fits (Pointer modes.Checked kinds.Array target) (core.Cast value None) refl (rules.cast_unbounded h p.1) (record { own = tt; based = λ b e. absurd (cc) })
     kind_cast kinds.One kinds.Array target value (Some (Some b)) site converts some taken there based known formed h node =
         let same = size_kept s.structs g.structs target knows.file.structs known in
-        bounded_cast target value (at_node one_element (size_of g.structs target) node.own.0) b site (rules.row h node.own) (row_cast target value same some node.own) same formed based
+        bounded_cast target value (at_node one_element (size_of g.structs target) false node.own.0) b site (rules.row h node.own) (row_cast target value same some node.own) same formed based
     kind_cast kinds.Array kinds.Array target value (Some (Some b)) site converts some taken there based known formed h node =
         let same = size_kept s.structs g.structs target knows.file.structs known in
         let p = row_elements target value node.own there in

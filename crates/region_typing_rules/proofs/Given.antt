@@ -77,8 +77,10 @@ no_base structs types size q t e there = absurd (cc)
 
 -- the bounds that its type gives a pointer
 noted_given : (structs : List Structure) (m : Mode) (d : Kind) (t : CType) (site : Site) (v : Value) (s : State) → HasValue structs (shapes s.blocks) (Pointer m d t) v
-    → IsGivenIf structs (Pointer m kinds.Array t) (option_map (λ (p : PointerBounds). p.bounds) (bounds_at structs (Pointer m d t) site)) v s
-noted_given structs modes.Checked kinds.One t site v s h = (one_valid structs modes.Checked t s v h, no_base structs (types_of s.locals) (size_of structs t))
+    → IsGivenIf structs (Pointer m d t) (option_map (λ (p : PointerBounds). p.bounds) (bounds_at structs (Pointer m d t) site)) v s
+noted_given structs modes.Checked kinds.One t site v s h =
+    let one = one_valid structs modes.Checked t s v h in
+    (record { passes = one.passes; leads = one.leads }, no_base structs (types_of s.locals) (size_of structs t))
 noted_given structs modes.Checked kinds.Array t site v s h = tt
 noted_given structs modes.Checked kinds.Nt t site v s h = tt
 noted_given structs modes.Tainted d t site v s h = tt
@@ -88,32 +90,25 @@ value_alike : (structs : List Structure) (n : ℕ) (c : CType) (v : Value) (s w 
 value_alike structs n c v s w alike h = subst (λ b. HasValue structs (shapes b) c v) (sym alike.blocks) h
 
 pub own_given : (structs : List Structure) (m : Mode) (d : Kind) (t : CType) (e : core.Expression) (v : Value) (s : State) → HasBounds structs (Pointer m d t) (bounds_of e) → HasValue structs (shapes s.blocks) (Pointer m d t) v
-    → IsGivenIf structs (Pointer m kinds.Array t) (own_bounds e) v s
+    → IsGivenIf structs (Pointer m d t) (own_bounds e) v s
 own_given structs m d t e v s told h =
-    subst (λ o. IsGivenIf structs (Pointer m kinds.Array t) (option_map (λ (p : PointerBounds). p.bounds) o) v s) (sym told.1) (noted_given structs m d t told.0 v s h)
+    subst (λ o. IsGivenIf structs (Pointer m d t) (option_map (λ (p : PointerBounds). p.bounds) o) v s) (sym told.1) (noted_given structs m d t told.0 v s h)
 
 -- where nothing counts from a base
 pub plain_given : (structs : List Structure) (n : ℕ) (m : Mode) (d : Kind) (t : CType) (e : core.Expression) (v : Value) (s : State) → HasBounds structs (Pointer m d t) (bounds_of e) → based_bounds e ≡ None
-    → HasValue structs (shapes s.blocks) (Pointer m d t) v → AreGiven structs n (Pointer m kinds.Array t) e v s
+    → HasValue structs (shapes s.blocks) (Pointer m d t) v → AreGiven structs n (Pointer m d t) e v s
 plain_given structs n m d t e v s told based h w alike =
-    (own_given structs m d t e v w told (value_alike structs n (Pointer m d t) v s w alike h), subst (λ o. IsGivenIf structs (Pointer m kinds.Array t) o v w) (sym based) tt)
+    (own_given structs m d t e v w told (value_alike structs n (Pointer m d t) v s w alike h), subst (λ o. IsGivenIf structs (Pointer m d t) o v w) (sym based) tt)
 
 -- ---- locals
 
 -- a local pointer is its own base
 module _ (structs : List Structure) (m : Mode) (d : Kind) (t : CType) (k : ℕ) (v : Value) (w : State) (l : Local) (there : slice_get w.locals k ≡ Some l) (type : l.type ≡ Pointer m d t) (value : l.value ≡ v) where
   abbrev row : Local
-  row = pointing m t v
+  row = pointing (Pointer m d t) v
 
   made : l ≡ record { type = Pointer m d t; value = v }
   made = ap (λ c. record { type = c; value = l.value }) type ∙ ap (λ v. record { type = Pointer m d t; value = v }) value
-
-  -- of whatever kind
-  to_kind : (b : Bounds) → IsValid structs (Some b) row w → IsValid structs (Some b) l w
-  to_kind b h = subst (λ l. IsValid structs (Some b) l w) (sym made) (record { passes = h.passes; leads = h.leads })
-
-  from_kind : (b : Bounds) → IsValid structs (Some b) l w → IsValid structs (Some b) row w
-  from_kind b h = let k = subst (λ l. IsValid structs (Some b) l w) made h in record { passes = k.passes; leads = k.leads }
 
   type_here : (q : ℕ) (c : CType) → Some k ≡ Some q → slice_get (types_of w.locals) q ≡ Some c → slice_get (types_of w.locals) k ≡ Some (Pointer m d t) → c ≡ Pointer m d t
   type_here q c e is here = let same : k ≡ q = cc in let both = subst (λ x. slice_get (types_of w.locals) x ≡ Some (Pointer m d t)) same here in cc
@@ -123,7 +118,7 @@ module _ (structs : List Structure) (m : Mode) (d : Kind) (t : CType) (k : ℕ) 
     where
       by : (o : Option ℕ) → b.base ≡ o → IsBoundedBy structs (picked (is_some o) b (record b { base = Some k })) row w
       by None none = (
-        from_kind (record b { base = Some k }) (variables_are_bases structs w k l b there none (to_kind b h.0)),
+        subst (λ l. IsValid structs (Some (record b { base = Some k })) l w) made (variables_are_bases structs w k l b there none (subst (λ l. IsValid structs (Some b) l w) (sym made) h.0)),
         λ q c e is. ap (target structs) (type_here q c e is here),
       )
         where
@@ -131,9 +126,25 @@ module _ (structs : List Structure) (m : Mode) (d : Kind) (t : CType) (k : ℕ) 
           target structs c = target_size structs c
       by (Some q) base = h
 
-  pub local_given : (o : Option PointerBounds) → slice_get (types_of w.locals) k ≡ Some (Pointer m d t) → IsGivenIf structs (Pointer m kinds.Array t) (own_bounds (core.Local k o)) v w → AreGivenAt structs (Pointer m kinds.Array t) (core.Local k o) v w
+  pub local_given : (o : Option PointerBounds) → slice_get (types_of w.locals) k ≡ Some (Pointer m d t) → IsGivenIf structs (Pointer m d t) (own_bounds (core.Local k o)) v w → AreGivenAt structs (Pointer m d t) (core.Local k o) v w
   local_given None here h = (tt, tt)
   local_given (Some p) here h = (h, based_given p.bounds here h)
+
+-- ---- conversions
+
+-- a pointer of one kind as one of another, which is valid with all bounds with which the first one is
+module _ (structs : List Structure) (m : Mode) (d d' : Kind) (t : CType) where
+  weaker_if : (v : Value) (w : State) → ((b : Bounds) → IsValid structs (Some b) (pointing (Pointer m d t) v) w → IsValid structs (Some b) (pointing (Pointer m d' t) v) w)
+      → (o : Option Bounds) → IsGivenIf structs (Pointer m d t) o v w → IsGivenIf structs (Pointer m d' t) o v w
+  weaker_if v w weaker None h = tt
+  weaker_if v w weaker (Some b) h = (weaker b h.0, h.1)
+
+  pub given_weaker : (n : ℕ) (e : core.Expression) (v : Value) (s : State)
+      → ((w : State) → IsAlike n s w → (b : Bounds) → IsValid structs (Some b) (pointing (Pointer m d t) v) w → IsValid structs (Some b) (pointing (Pointer m d' t) v) w)
+      → AreGiven structs n (Pointer m d t) e v s → AreGiven structs n (Pointer m d' t) e v s
+  given_weaker n e v s weaker h w alike =
+      let there = h w alike in
+      (weaker_if v w (weaker w alike) (own_bounds e) there.0, weaker_if v w (weaker w alike) (based_bounds e) there.1)
 
 -- ---- declared bounds
 

@@ -44,7 +44,7 @@ use Rattle.region_typing_rules.proofs.StatementStacks.{HaveFew, statements_low}
 use Rattle.region_typing_rules.proofs.Signatures.{named_further, named_last, side_further, Agrees, agrees_equal, scalars_all, result_scalar, IsDeclared}
 use Rattle.region_typing_rules.specs.KnownIsSo.{IsSo, IsWalk}
 use Rattle.region_typing_rules.proofs.Sound.{AreSound, statements_sound}
-use Rattle.region_typing_rules.proofs.Soundness.{EndsAs, has_locals, runs_further, types_held}
+use Rattle.region_typing_rules.proofs.Goes.{EndsAs, has_locals, runs_further, types_held}
 use Rattle.region_typing_rules.proofs.Calls.{AreEntered}
 use Rattle.region_typing_rules.proofs.Parameters.{AreForResult, AreFormed, AreParameters, all_bounds, all_formed, bounds_size, few_parameters, have_rows, none_listed, number_base, number_parameters, parameters_are, parameters_known, result_formed, starred_number}
 use Rattle.region_typing_rules.proofs.KeptParameters.{body_keeps}

@@ -1,5 +1,6 @@
 -- An expression leaves the locals as they are, and blocks are only added.
-use Rattle.std.proofs.Common.{◌≡◌, ℕ, ◌+◌, ◌*◌, Bool, true, false, ℤ, ◌+ℤ◌, List, [], ◌∷◌, length, Option, Some, None, refl, ◌∙◌, subst}
+use Rattle.std.proofs.Common.{◌≡◌, ℕ, zero, suc, ◌+◌, ◌*◌, Bool, true, false, ℤ, ◌+ℤ◌, List, [], ◌∷◌, length, Option, Some, None, refl, ◌∙◌, subst}
+use Rattle.std.specs.Ordering.{int_eq}
 use Rattle.std.specs.Prelude.{◌==◌, ◌||◌, not, nat_lt, slice_get, pos, negsuc}
 use Rattle.flat_bytes.specs.Blocks.{first_offset, is_refused}
 use Rattle.act_words.specs.Acts.{Passed}
@@ -20,11 +21,11 @@ use Rattle.ckc_core.specs.declared.program.PointerBounds.{PointerBounds}
 use Rattle.ckc_core.specs.Bounds.{Ends as EndsOf, ends_at, Pointed, with_ends, is_valid}
 use Rattle.ckc_core.specs.Core as core
 use Rattle.ckc_core.specs.States.{Value, Number, Null, At, Cell, Local, State, Grows, shapes, shape, in_world, cell_at, same_type}
-use Rattle.ckc_core.specs.Steps.{variable_if, Result, given, checked, value_if, value_in, load_at, place_if, pointer_to, truth, same_place, test_given, result_of, arithmetic_of, compared, negated, complemented, low_byte_of, asked, words_of, reply_as, passed, cross, cross_if, call_tainted, takes, enter_if, called, result_given, choose, back, place_at}
-use Rattle.ckc_core.specs.Meaning.{Knot, bounds_of, Setting, audit, cast_to, cast_if, cast_within, element, element_within, number_of, place, Target, reached, site_of, sound_if, summed, value, values}
-use Rattle.ckc_core.specs.Pointers.{new_block, number_given, checked_if, distance, lies_below, lies_up_to, are_within, cell_behind, reaches, pointer_if, pointer_at, ordered_if, ordered, not_null, counter_behind, element_size, made_if, allocated}
+use Rattle.ckc_core.specs.Steps.{variable_if, Result, given, checked, value_if, value_in, load_at, place_if, pointer_to, truth, same_place, test_given, result_of, arithmetic_of, compared, negated, complemented, is_zero, low_byte_of, asked, words_of, reply_as, passed, cross, cross_if, call_tainted, takes, enter_if, called, result_given, choose, back, place_at}
+use Rattle.ckc_core.specs.Meaning.{Knot, bounds_of, Setting, audit, cast_to, cast_if, cast_within, element, element_within, end_kept, length_of, number_of, place, storable, Target, reached, site_of, sound_if, summed, value, values}
+use Rattle.ckc_core.specs.Pointers.{new_block, number_given, bytes_of_block, byte_read, checked_if, counted, counted_from, counted_if, distance, lies_in, lies_up_to, made_elements, read_as, are_within, cell_behind, reaches, pointer_if, pointer_at, ordered_if, ordered, not_null, counter_behind, element_size, made_if, allocated}
 use Rattle.ckc_text.specs.declared.code.Code.{Code}
-use Rattle.ckc_text.specs.declared.code.Code.TheVariants.{C2, C5}
+use Rattle.ckc_text.specs.declared.code.Code.TheVariants.{C2, C3, C5}
 use Rattle.std.proofs.lemmas.List.{map-append}
 use Rattle.region_typing_rules.proofs.Values.{grows_here, grows_on}
 use Rattle.region_typing_rules.specs.KnownIsSo.{WhereGiven}
@@ -133,16 +134,29 @@ module _ (r : State) (s : State) (kept : IsAfter r s) where
   pointer_at_keeps site block (pos byte) = pointer_keeps_if (reaches (slice_get s.blocks block) byte) site block byte
   pointer_at_keeps site block (negsuc byte) = tt
 
-  pub within_keeps : (offset : ℕ) (site : Site) (n : ℤ) (v : Value) (ends : Option EndsOf) → Keeps r (element_within offset site n v ends s)
-  within_keeps offset site n (Number z) ends = tt
-  within_keeps offset site n Null ends = tt
-  within_keeps offset site n (At block byte) None = tt
-  within_keeps offset site n (At block byte) (Some e) =
-      let x = pos byte +ℤ distance directions.Forward e.size n in checked_keeps_if (lies_below e x) C2 site (cell_behind (Some site) block x offset s) (cell_behind_keeps (Some site) block x offset)
+  pub within_keeps : (terminated : Bool) (offset : ℕ) (site : Site) (n : ℤ) (v : Value) (ends : Option EndsOf) → Keeps r (element_within terminated offset site n v ends s)
+  within_keeps terminated offset site n (Number z) ends = tt
+  within_keeps terminated offset site n Null ends = tt
+  within_keeps terminated offset site n (At block byte) None = tt
+  within_keeps terminated offset site n (At block byte) (Some e) =
+      let x = pos byte +ℤ distance directions.Forward e.size n in checked_keeps_if (lies_in terminated e x) C2 site (cell_behind (Some site) block x offset s) (cell_behind_keeps (Some site) block x offset)
 
   pub reached_keeps : (index : core.Index) (offset : ℕ) (site : Site) (t : Target) → Keeps r (reached index offset site t s)
   reached_keeps core.First offset site t = element_keeps offset site t.pointer.value
-  reached_keeps (core.Element number) offset site t = within_keeps offset site t.number t.pointer.value t.pointer.ends
+  reached_keeps (core.Element number terminated) offset site t = within_keeps terminated offset site t.number t.pointer.value t.pointer.ends
+
+  pub end_keeps : (site : Site) (n : ℤ) (v w : Value) (ends : Option EndsOf) → Keeps r (end_kept site n v w ends s)
+  end_keeps site n v (Number z) ends = tt
+  end_keeps site n v Null ends = tt
+  end_keeps site n v (At block byte) None = tt
+  end_keeps site n v (At block byte) (Some e) =
+      checked_keeps_if (is_zero v || not (int_eq (pos byte +ℤ distance directions.Forward e.size n) e.high)) C3 site (Gives tt s) kept
+
+  pub storable_keeps : (p : core.Place) (t : Target) (v : Value) → Keeps r (storable p t v s)
+  storable_keeps (core.Direct object offset) t v = kept
+  storable_keeps (core.Through pointer core.First offset site) t v = kept
+  storable_keeps (core.Through pointer (core.Element number false) offset site) t v = kept
+  storable_keeps (core.Through pointer (core.Element number true) offset site) t v = end_keeps site t.number v t.pointer.value t.pointer.ends
 
   pub summed_keeps : (direction : Direction) (site : Site) (n : ℤ) (v : Value) (ends : Option EndsOf) → Keeps r (summed direction site n v ends s)
   summed_keeps direction site n (Number z) ends = tt
@@ -167,14 +181,16 @@ module _ (r : State) (s : State) (kept : IsAfter r s) where
   ordered_keeps comparison site (At block byte) Null = tt
   ordered_keeps comparison site (At block byte) (At other byte') = ordered_keeps_if (block == other) comparison site byte byte'
 
-  pub made_keeps_if : (test : Bool) (n : ℕ) (element : List Initial) → Keeps r (made_if test n element s)
-  made_keeps_if true n element = kept
-  made_keeps_if false n element =
-      (grows_on (shapes r.blocks) (shapes s.blocks) _ kept.0 (shape (new_block n element) ∷ [], map-append shape s.blocks (new_block n element ∷ [])), kept.1)
+  pub made_keeps_if : (test terminated : Bool) (n : ℕ) (element : List Initial) → Keeps r (made_if test terminated n element s)
+  made_keeps_if true terminated n element = kept
+  made_keeps_if false terminated n element =
+      (grows_on (shapes r.blocks) (shapes s.blocks) _ kept.0 (shape (new_block terminated n element) ∷ [], map-append shape s.blocks (new_block terminated n element ∷ [])), kept.1)
 
-  pub allocated_keeps : (size : ℕ) (element : List Initial) (z : ℤ) → Keeps r (allocated size element z s)
-  allocated_keeps size element (negsuc n) = kept
-  allocated_keeps size element (pos n) = made_keeps_if (is_refused size (counter_behind first_offset s.blocks) (n * element_size element)) n element
+  pub allocated_keeps : (size : ℕ) (terminated : Bool) (element : List Initial) (z : ℤ) → Keeps r (allocated size terminated element z s)
+  allocated_keeps size terminated element (negsuc n) = kept
+  allocated_keeps size terminated element (pos zero) = kept
+  allocated_keeps size terminated element (pos (suc n)) =
+      made_keeps_if (is_refused size (counter_behind first_offset s.blocks) (made_elements terminated (suc n) * element_size element)) terminated (suc n) element
 
   pub cast_keeps_if : (test : Bool) (site : Site) (v : Value) (old new : EndsOf) → Keeps r (cast_if test site v old new s)
   cast_keeps_if true site v old new = checked_keeps_if (are_within old new) C5 site (Gives v s) kept
@@ -238,6 +254,38 @@ module _ (r : State) (s : State) (kept : IsAfter r s) where
   pub result_keeps : (o : Option Value) → Keeps r (result_given o s)
   result_keeps None = tt
   result_keeps (Some v) = kept
+
+-- bytes are counted, each for a tick
+read_keeps : (r : State) (type : CType) (v : Value) (site : Option Site) (n : ℕ) (more : Result Value) (s : State) → IsAfter r s → Keeps r more → Keeps r (read_as type v site n more s)
+read_keeps r Int v site n more s kept h = tt
+read_keeps r (Struct number) v site n more s kept h = tt
+read_keeps r (Pointer mode kind target) v site n more s kept h = tt
+read_keeps r Char Null site n more s kept h = tt
+read_keeps r Char (At block byte) site n more s kept h = tt
+read_keeps r Char (Number z) site n more s kept h = by (is_zero (Number z))
+  where
+    by : (test : Bool) → Keeps r (counted_if test site n more s)
+    by true = kept
+    by false = h
+
+byte_read_keeps : (r : State) (o : Option Cell) (site : Option Site) (n : ℕ) (more : Result Value) (s : State) → IsAfter r s → Keeps r more → Keeps r (byte_read o site n more s)
+byte_read_keeps r None site n more s kept h = tt
+byte_read_keeps r (Some cell) site n more s kept h = read_keeps r cell.type cell.value site n more s kept h
+
+counted_keeps : (r : State) (more budget : ℕ) (site : Option Site) (block byte n : ℕ) (s : State) → IsAfter r s → Keeps r (counted_from more budget site block byte n s)
+counted_keeps r zero budget site block byte n s kept = tt
+counted_keeps r (suc more) budget site block byte n s kept =
+    asked_keeps r (spend_tick budget s.world) s _ kept
+    (λ _ t t_kept. byte_read_keeps r (cell_at t.blocks block byte) site n (counted_from more budget site block (byte + 1) (n + 1) t) t t_kept
+    (counted_keeps r more budget site block (byte + 1) (n + 1) t t_kept))
+
+pub length_keeps : (r s : State) → IsAfter r s → (budget : ℕ) (site : Site) (v : Value) (ends : Option EndsOf) → Keeps r (length_of budget site v ends s)
+length_keeps r s kept budget site (Number z) ends = tt
+length_keeps r s kept budget site Null ends = tt
+length_keeps r s kept budget site (At block byte) None = tt
+length_keeps r s kept budget site (At block byte) (Some e) =
+    checked_keeps_if r s kept (lies_up_to e (pos byte)) C2 site (counted budget (Some site) block byte s)
+    (counted_keeps r (suc (bytes_of_block (slice_get s.blocks block))) budget (Some site) block byte 0 s kept)
 
 -- calls of functions keep the locals of the one that calls, and those and the sandbox only add blocks
 abbrev pub CallsKeep : Knot → Type 0
@@ -343,12 +391,15 @@ module _ (audited : Bool) (g : Setting) (k : Knot) (calls : CallsKeep k) where
           (λ b u u_kept. keeps_on r (not_null site a u) _ (not_null_keeps r u u_kept site a)
           (λ _ w w_kept. keeps_on r (not_null site b w) _ (not_null_keeps r w w_kept site b)
           (λ _ x x_kept. ordered_keeps r x x_kept comparison (Some site) a b))))
-      value_keeps (core.Allocate count element bounds) s kept =
+      value_keeps (core.Allocate count element terminated bounds) s kept =
           keeps_on r _ (audit audited bounds)
-          (keeps_on r (and_then (value audited g k count s) (number_given None)) (allocated g.trusted element)
+          (keeps_on r (and_then (value audited g k count s) (number_given None)) (allocated g.trusted terminated element)
           (keeps_on r (value audited g k count s) (number_given None) (value_keeps count s kept) (λ v t t_kept. number_keeps r t t_kept None v))
-          (λ z t t_kept. allocated_keeps r t t_kept g.trusted element z))
+          (λ z t t_kept. allocated_keeps r t t_kept g.trusted terminated element z))
           (λ v t t_kept. audit_keeps r t t_kept audited bounds v)
+      value_keeps (core.Length pointer site) s kept =
+          keeps_on r (value audited g k pointer s) _ (value_keeps pointer s kept)
+          (λ v t t_kept. length_keeps r t t_kept g.budget site v (with_ends (bounds_of pointer) v t.locals).ends)
       value_keeps (core.Cast pointer bounds) s kept =
           keeps_on r _ (audit audited bounds)
           (keeps_on r (value audited g k pointer s) _ (value_keeps pointer s kept)
@@ -370,5 +421,5 @@ module _ (audited : Bool) (g : Setting) (k : Knot) (calls : CallsKeep k) where
 
       pub index_keeps : (index : core.Index) (s : State) → IsAfter r s → Keeps r (number_of audited g k index s)
       index_keeps core.First s kept = kept
-      index_keeps (core.Element number) s kept =
+      index_keeps (core.Element number terminated) s kept =
           keeps_on r (value audited g k number s) (number_given None) (value_keeps number s kept) (λ v t t_kept. number_keeps r t t_kept None v)

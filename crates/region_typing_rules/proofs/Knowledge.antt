@@ -63,7 +63,7 @@ pub record IsBoundedPointer (g : Frame) (type : CType) (b : Bounds) (number : �
   pub mode : Mode
   pub element : CType
   pub own : type ≡ Pointer mode kinds.Array element
-  pub object : IsBoundedObject g number mode element b
+  pub object : IsBoundedObject g number mode kinds.Array element b
 
 -- an array of the program, and as many values of its type in a row
 pub record IsArray (g : Frame) (type : CType) (length number : ℕ) : Type 0 where

@@ -220,7 +220,7 @@ module _ (structs : List Structure) where
   element_known Char v w site span h = tt
   element_known (Struct n) v w site span h = tt
   element_known (Pointer m kinds.One t) v w site span h = tt
-  element_known (Pointer m kinds.Array t) v w site span h = with_elements_known v span _ (at_place_known t (core.Through v (core.Element w) 0 site) h)
+  element_known (Pointer m kinds.Array t) v w site span h = with_elements_known v span _ (at_place_known t (core.Through v (core.Element w false) 0 site) h)
   element_known (Pointer m kinds.Nt t) v w site span h = tt
 
   indexed_known : (a b : Typed) (site : Site) (span : Span) → Known a → Promises Known (indexed a b site span)

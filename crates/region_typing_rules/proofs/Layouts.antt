@@ -152,7 +152,7 @@ slot_stands number (m ∷ next ∷ members) place end (suc k) slot h =
 
 members_stand : (members : List Member) (number : ℤ) (end : ℕ) → 0 < length (cells_from number 0 members end) → Stands (shape_of (cells_from number 0 members end)) 0 (slots_from members (placed_from 0 (member_sizes members)))
 members_stand [] number end some = absurd (omega arith)
-members_stand (m ∷ members) number end some = record { there = omega arith; each = each; open_ended = refl; unsealed = refl }
+members_stand (m ∷ members) number end some = record { there = omega arith; each = each; inside = λ k slot e. refl; unsealed = refl }
   where
     each : (k : ℕ) (slot : Slot) → slice_get (slots_from (m ∷ members) (placed_from 0 (member_sizes (m ∷ members)))) k ≡ Some slot → type_at (shape_of (cells_from number 0 (m ∷ members) end)) (0 + slot.offset) ≡ Some slot.type
     each k slot h =

@@ -3,6 +3,9 @@ pub mod Values
 pub mod BoundedObjects
 pub mod Validity
 pub mod Sure
+pub mod Goes
+pub mod Accesses
+pub mod Operations
 pub mod Soundness
 pub mod Programs
 pub mod Verdicts
@@ -12,6 +15,7 @@ pub mod Knowledge
 pub mod Sizes
 pub mod KnownTypes
 pub mod Elements
+pub mod EndedRows
 pub mod Allocations
 pub mod Casts
 pub mod Given
@@ -50,6 +54,7 @@ pub mod Weights
 pub mod StatementWeights
 pub mod BodyWeights
 pub mod Keeping
+pub mod LastZeros
 pub mod Moving
 pub mod Terms
 pub mod Alike

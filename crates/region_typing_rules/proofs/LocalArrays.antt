@@ -26,7 +26,7 @@ use Rattle.region_typing_rules.proofs.Verdicts.{Promises, passing_promises, need
 
 -- new memory of so many elements, for an array of the scope
 abbrev pub memory_of : Scope → CType → ℕ → Site → core.Expression
-memory_of g t count site = core.Allocate (core.Number (pos count)) (cells_with g.structs t (pos 0)) (row_counted g.structs t (term g.locals (core.Number (pos count))) site)
+memory_of g t count site = core.Allocate (core.Number (pos count)) (cells_with g.structs t (pos 0)) false (row_counted g.structs t (term g.locals (core.Number (pos count))) site)
 
 -- what is left of its declaration once it has a value
 abbrev pub settled_array : Scope → ℕ → core.Expression → Span → Verdict Walked

@@ -86,7 +86,7 @@ counts s t written size = by (factor_beside s t written size) refl (beside_count
 -- new memory of so many elements
 abbrev pub new_memory : Scope → CType → core.Expression → Site → Typed
 new_memory s t count site =
-    Value (Pointer modes.Checked kinds.Array t) false (core.Allocate count (cells_with s.structs t (pos 0)) (row_counted s.structs t (term s.locals count) site)) ForNothing
+    Value (Pointer modes.Checked kinds.Array t) false (core.Allocate count (cells_with s.structs t (pos 0)) false (row_counted s.structs t (term s.locals count) site)) ForNothing
 
 module _ (Q : Typed → Type 0) (s : Scope) (t : CType) (site : Site) (span : Span) where
   if_promises : (o : Option core.Expression) (size : core.Expression) → IfCount size o → ((count : core.Expression) → IsCount size count → nat_lt 0 (size_of s.structs t) ≡ true → Q (new_memory s t count site)) → Promises Q (allocation_if s t o site span)

@@ -8,12 +8,12 @@ use Rattle.ckc_core.specs.Outcome.{Gives, Ends, Stuck, Unsound, Short, and_then}
 use Rattle.ckc_core.specs.Core as core
 use Rattle.ckc_core.specs.States.{Value, Number, Null, At, Cell, Block, Local, State, Shape, Grows, shape, shapes, in_world, cell_at, stored, with_value, number_at, strides, same_type, has_type}
 use Rattle.ckc_core.specs.Steps.{Result, Flow, Next, Broke, Continued, Returned, given, variable_at, arithmetic_of, asked, back, called, choose, leaves_zero, store_if, store_over, store_at, set_if, set_over, set_local, kept_if, is_char, printed, put, on_next, behind_turn, no_result, fit, parameters_of, answer_if, answer, fits_result, locals_for, crossed, load_at, truth}
-use Rattle.ckc_core.specs.Meaning.{Knot, Setting, site_of, Target, pointed, value, values, place, number_of, target_of, place_from, effect, effects, body_if, body_of, knot}
+use Rattle.ckc_core.specs.Meaning.{Knot, Setting, site_of, Target, pointed, storable, value, values, number_of, target_of, place_from, effect, effects, body_if, body_of, knot}
 use Rattle.bounds_flow_meaning.specs.Holding.{HaveTypes, types_of}
 use Rattle.bounds_flow_meaning.proofs.Numbers.{found_other, same_types, still_types}
 use Rattle.region_typing_rules.proofs.Values.{grows_here, grows_on, map_set}
 use Rattle.region_typing_rules.specs.KnownIsSo.{WhereGiven}
-use Rattle.region_typing_rules.proofs.Keeping.{IsAfter, after_here, Grown, Keeps, keeps_on, CallsKeep, given_keeps, direct_keeps, variable_keeps, reached_keeps, arithmetic_keeps, byte_keeps, cell_keeps, called_keeps, value_keeps, values_keep, place_keeps, index_keeps}
+use Rattle.region_typing_rules.proofs.Keeping.{IsAfter, after_here, Grown, Keeps, keeps_on, CallsKeep, given_keeps, direct_keeps, variable_keeps, reached_keeps, arithmetic_keeps, byte_keeps, cell_keeps, called_keeps, storable_keeps, value_keeps, values_keep, index_keeps}
 
 -- ---- what is assigned
 
@@ -224,19 +224,22 @@ module _ (audited : Bool) (g : Setting) where
         effect_moves (core.Store type p e) s only =
             behind may s (target_of audited g k p s) _ (target_keeps p s)
             (λ q t. behind may t (value audited g k e t) _ (value_here e t)
-            (λ v u. behind may u (place_from p q u) _ (place_keeps_from p q u) (λ at w. kept_moves may w (store_at type (site_of p) at v w) (store_keeps w type (site_of p) at v))))
+            (λ v u. behind may u (place_from p q u) _ (place_keeps_from p q u) (λ at w. behind may w (storable p q v w) _ (storable_keeps w w (after_here w) p q v)
+            (λ _ x. kept_moves may x (store_at type (site_of p) at v x) (store_keeps x type (site_of p) at v)))))
         effect_moves (core.UpdateLocal char x operator e site) s only =
             behind may s (given (slice_get s.locals x) s) _ (given_keeps s s (after_here s) (slice_get s.locals x))
             (λ old t. behind may t (value audited g k e t) _ (value_here e t)
             (λ v u. behind may u (arithmetic_of operator site old v u) _ (arithmetic_keeps u u (after_here u) operator site old v)
             (λ new w. behind may w (kept_if char new w) (set_local x) (kept_if_keeps w char new) (λ last y. set_moves may y x last only))))
         effect_moves (core.Update type p operator e site) s only =
-            behind may s (place audited g k p s) _ (place_keeps audited g k is.calls s p s (after_here s))
-            (λ at t. behind may t (load_at type (Some site) at t) _ (cell_keeps t t (after_here t) type (Some site) (cell_at t.blocks at.0 at.1))
-            (λ old u. behind may u (value audited g k e u) _ (value_here e u)
-            (λ v w. behind may w (arithmetic_of operator site old v w) _ (arithmetic_keeps w w (after_here w) operator site old v)
-            (λ new x. behind may x (kept_if (is_char type) new x) (store_at type (Some site) at) (kept_if_keeps x (is_char type) new)
-            (λ last y. kept_moves may y (store_at type (Some site) at last y) (store_keeps y type (Some site) at last))))))
+            behind may s (target_of audited g k p s) _ (target_keeps p s)
+            (λ q t. behind may t (place_from p q t) _ (place_keeps_from p q t)
+            (λ at u. behind may u (load_at type (Some site) at u) _ (cell_keeps u u (after_here u) type (Some site) (cell_at u.blocks at.0 at.1))
+            (λ old w. behind may w (value audited g k e w) _ (value_here e w)
+            (λ v x. behind may x (arithmetic_of operator site old v x) _ (arithmetic_keeps x x (after_here x) operator site old v)
+            (λ new y. behind may y (kept_if (is_char type) new y) _ (kept_if_keeps y (is_char type) new)
+            (λ last z. behind may z (storable p q last z) _ (storable_keeps z z (after_here z) p q last)
+            (λ _ done. kept_moves may done (store_at type (Some site) at last done) (store_keeps done type (Some site) at last))))))))
         effect_moves (core.Evaluate e) s only = behind may s (value audited g k e s) _ (value_here e s) (λ v t. moved_here may t)
         effect_moves (core.CallAlone callee arguments) s only =
             behind may s (values audited g k arguments s) _ (values_keep audited g k is.calls s arguments s (after_here s))

@@ -341,7 +341,7 @@ module _ (height : ℕ) where
               bytes = omega (arith, bytes, taken v waiting.0);
               room = h.well.room;
             };
-            settled = settled_append w.scope.structs h.settled_ones w.objects v (variable_of x.bounds cells) h.settled (record { some = waiting.0.some; few = waiting.0.few; rows = copies_rows w.scope.structs v.type (count_of v.length) cells here some; sealed = ap is_some (sym waiting.0.same_bounds); bounds = waiting.0.bounds });
+            settled = settled_append w.scope.structs h.settled_ones w.objects v (variable_of x.bounds cells) h.settled (record { some = waiting.0.some; few = waiting.0.few; rows = copies_rows w.scope.structs v.type (count_of v.length) cells here some; sealed = ap is_some (sym waiting.0.same_bounds); unended = refl; bounds = waiting.0.bounds });
             waiting = waiting.1;
             grows = h.grows;
             bytes = omega (arith, bytes, taken v waiting.0);

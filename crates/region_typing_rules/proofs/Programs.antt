@@ -35,7 +35,7 @@ use Rattle.ckc_core.proofs.Audits.{changes_nothing}
 use Rattle.region_typing_rules.proofs.BoundedObjects.{held_at_start, held_same}
 use Rattle.region_typing_rules.proofs.Values.{grows_here, value_grown, value_typed, zero_typed, HaveLocals, values_fit, locals_typed, locals_grown, HoldsValues}
 use Rattle.region_typing_rules.proofs.Worlds.{Crosses, until_crosses}
-use Rattle.region_typing_rules.proofs.Soundness.{shaped, OfType, OfTypes, HasResult, IsReply, IsAnswer, IsResult, EndsAs, IsKept, IsKnot, Goes, Runs, goes_further, runs_both, runs_then}
+use Rattle.region_typing_rules.proofs.Goes.{shaped, OfType, OfTypes, HasResult, IsReply, IsAnswer, IsResult, EndsAs, IsKept, IsKnot, Goes, Runs, goes_further, runs_both, runs_then}
 use Rattle.region_typing_rules.proofs.Safe.{AreSafe, IsSafe, IsSafeProgram, KnotsUpTo, safe_at, safe_there, setting_of}
 use Rattle.region_typing_rules.proofs.Calls.{AreEntered, entered_later}
 use Rattle.bounds_exprs.specs.declared.term.Bounds.{Bounds}
@@ -44,6 +44,7 @@ use Rattle.region_typing_rules.proofs.Keeping.{Grown}
 use Rattle.region_typing_rules.proofs.Moving.{IsMovedTo, all_of_them, effects_move, knots_move}
 use Rattle.region_typing_rules.proofs.Terms.{so_further, so_on}
 use Rattle.region_typing_rules.specs.KnownIsSo.{WhereGiven}
+use Rattle.region_typing_rules.proofs.LastZeros.{zeros_start, short_start}
 
 -- what is so of each where a value is given
 so_all : {A X : Type 0} (P : X → A → State → Type 0) (o : Result A) → ((x : X) → WhereGiven (P x) o) → WhereGiven (λ v s. (x : X) → P x v s) o
@@ -134,7 +135,7 @@ module _ (g : Frame) (budget : ℕ) where
       → Goes g budget n low types s (IsLeft result r ls) (and_then o (back s))
   back_goes n m low types inner result r ls s u (Gives v t) enough locals same h grown =
       let more : Grows (shaped s) (shaped t) = subst (λ b. Grows (shapes b) (shaped t)) same grown in
-      ((answer_back result v t h.0.0, result_back result r v t h.0.1), (more, refl), record { grown = h.1.grown; cells = h.1.cells; locals = locals_grown g.structs (shaped s) (shaped t) more types s.locals locals; world = h.1.world; enough = enough; held = held_same g t (record t { locals = s.locals; depth = s.depth }) refl h.1.held })
+      ((answer_back result v t h.0.0, result_back result r v t h.0.1), (more, refl), record { grown = h.1.grown; cells = h.1.cells; locals = locals_grown g.structs (shaped s) (shaped t) more types s.locals locals; world = h.1.world; enough = enough; held = held_same g t (record t { locals = s.locals; depth = s.depth }) refl h.1.held; zeros = h.1.zeros; short = h.1.short })
     where
       answer_back : (result : Option CType) (v : Option Value) (t : State) → IsAnswer g result v t → IsAnswer g result v (record t { locals = s.locals; depth = s.depth })
       answer_back None None t h = tt
@@ -161,7 +162,7 @@ module _ (g : Frame) (budget : ℕ) where
 
   -- what the sandbox's turn comes to
   crossed_goes : (n low : ℕ) (types : List CType) (s : State) (x : Crossed) → Crosses budget low x → IsKept g budget n low types s → Goes g budget n low types s IsReply (crossed x s)
-  crossed_goes n low types s (Crossed.Returned word w) h kept = (h.0, (grows_here (shaped s), refl), record { grown = kept.grown; cells = kept.cells; locals = kept.locals; world = h.1; enough = kept.enough; held = held_same g s (in_world w s) refl kept.held })
+  crossed_goes n low types s (Crossed.Returned word w) h kept = (h.0, (grows_here (shaped s), refl), record { grown = kept.grown; cells = kept.cells; locals = kept.locals; world = h.1; enough = kept.enough; held = held_same g s (in_world w s) refl kept.held; zeros = kept.zeros; short = kept.short })
   crossed_goes n low types s (Crossed.Called fun words w) h kept = tt
   crossed_goes n low types s (Crossed.Over ending w) h kept = tt
 
@@ -177,7 +178,7 @@ module _ (g : Frame) (budget : ℕ) where
         let it = safe_at g g.program.functions g.bounds g.result_bounds function f bs r functions found known told in
         let ls = locals_for f.locals vs in
         let inside : State = record s { locals = ls; depth = s.depth + 1 } in
-        let inside_kept : IsKept g budget m low f.locals inside = record { grown = kept.grown; cells = kept.cells; locals = locals_typed g.structs (shaped s) f.locals f.parameters vs it.typed.locals h; world = kept.world; enough = enough; held = held_same g s inside refl kept.held } in
+        let inside_kept : IsKept g budget m low f.locals inside = record { grown = kept.grown; cells = kept.cells; locals = locals_typed g.structs (shaped s) f.locals f.parameters vs it.typed.locals h; world = kept.world; enough = enough; held = held_same g s inside refl kept.held; zeros = kept.zeros; short = kept.short } in
         let run = effects true setting (knot true setting m) f.body inside in
         subst (λ o. Goes g budget n low types s (IsResult g budget n f.result r f.locals vs) (body_of true setting (knot true setting m) o vs s)) (sym found)
         (subst (λ yes. Goes g budget n low types s (IsResult g budget n f.result r f.locals vs) (body_if true yes setting (knot true setting m) f vs s)) (sym (values_fit g.structs (shaped s) (parameters_of f) vs h))
@@ -277,6 +278,8 @@ audit_ends program is settings inputs acts words all =
       world = (recursion_from_All IsAct acts all, recursion_from_All IsNumber inputs words, omega arith, omega arith);
       enough = omega arith;
       held = held_at_start g start refl;
+      zeros = zeros_start program.objects types.zeros;
+      short = short_start program.objects types.zeros;
     } in
     let none : parameters_of f.0 ≡ [] = ap (λ k. take k f.0.locals) f.2 in
     run_ends g n n 0 [] start f.0.result _ f.3

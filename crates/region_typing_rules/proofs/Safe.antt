@@ -12,7 +12,7 @@ use Rattle.region_typing_rules.specs.Items.{names}
 use Rattle.region_typing_rules.specs.KnownIsSo.{WhereGiven}
 use Rattle.ckc_core.specs.Steps.{Flow}
 use Rattle.region_typing_rules.proofs.Calls.{AreEntered}
-use Rattle.region_typing_rules.proofs.Soundness.{EndsAs, IsKept, IsKnot, Runs}
+use Rattle.region_typing_rules.proofs.Goes.{EndsAs, IsKept, IsKnot, Runs}
 
 abbrev pub setting_of : Frame → (budget sandbox trusted : ℕ) → Setting
 setting_of g budget sandbox trusted = record { program = g.program; budget = budget; sandbox = sandbox; trusted = trusted }

@@ -41,7 +41,8 @@ use Rattle.region_typing_rules.proofs.Knowledge.{KnowsFile, Knows}
 use Rattle.region_typing_rules.proofs.Growth.{Grows, GrowsTo, alternative_grows, behind_grows, file_known, first_grows, grows_further, head_grows, optional_grows, statement_grows, step_grows, when_grows}
 use Rattle.region_typing_rules.proofs.Expressions.{Fits, FitsCall, call_promises, result_asked, result_type_met, so_converted, typed_promises}
 use Rattle.region_typing_rules.proofs.Statements.{AreIn, IsIn, IsScalarValue, alone_typed, condition_promises, in_loop_known, optional_promises, simple_any, statement_from, statements_from}
-use Rattle.region_typing_rules.proofs.Soundness.{EndsAs, HasResult, IsAnswer, IsKept, IsNext, OfType, Runs, runs_both, runs_further, runs_on, runs_then, returned_goes, simple_runs}
+use Rattle.region_typing_rules.proofs.Goes.{EndsAs, HasResult, IsAnswer, IsKept, IsNext, OfType, Runs, runs_both, runs_further, runs_on, runs_then}
+use Rattle.region_typing_rules.proofs.Soundness.{returned_goes, simple_runs}
 use Rattle.region_typing_rules.proofs.Terms.{so_further}
 use Rattle.region_typing_rules.proofs.Alike.{alike_here, fits_moved}
 use Rattle.region_typing_rules.proofs.Assigns.{IsPlain}

@@ -205,7 +205,7 @@ element_fresh Int v w site span = tt
 element_fresh Char v w site span = tt
 element_fresh (Struct number) v w site span = tt
 element_fresh (Pointer m kinds.One t) v w site span = tt
-element_fresh (Pointer m kinds.Array t) v w site span = elements_fresh t (core.Through v (core.Element w) 0 site) v span
+element_fresh (Pointer m kinds.Array t) v w site span = elements_fresh t (core.Through v (core.Element w false) 0 site) v span
 element_fresh (Pointer m kinds.Nt t) v w site span = tt
 
 indexed_fresh : (a b : Typed) (site : Site) (span : Span) → Promises IsFresh (indexed a b site span)

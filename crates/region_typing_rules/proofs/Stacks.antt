@@ -137,7 +137,8 @@ noted_low b (core.Call callee arguments bounds) = refl
 noted_low b core.NextInput = refl
 noted_low b (core.Sum pointer direction number site bounds) = refl
 noted_low b (core.Order comparison left right site) = refl
-noted_low b (core.Allocate count element bounds) = refl
+noted_low b (core.Allocate count element terminated bounds) = refl
+noted_low b (core.Length pointer site) = refl
 noted_low b (core.Cast pointer bounds) = refl
 
 noted_if_low : (b : Option PointerBounds) (v : core.Expression) → expression_stack (noted_if b v) ≡ expression_stack v
@@ -341,7 +342,7 @@ element_low n Char pointer number site span six hp hn = tt
 element_low n (Struct k) pointer number site span six hp hn = tt
 element_low n (Pointer m kinds.One t) pointer number site span six hp hn = tt
 element_low n (Pointer m kinds.Array t) pointer number site span six hp hn =
-    elements_promise (Low (n + 1)) pointer span _ (at_place_low (n + 1) t (core.Through pointer (core.Element number) 0 site) (omega arith))
+    elements_promise (Low (n + 1)) pointer span _ (at_place_low (n + 1) t (core.Through pointer (core.Element number false) 0 site) (omega arith))
 element_low n (Pointer m kinds.Nt t) pointer number site span six hp hn = tt
 
 indexed_low : (n : ℕ) (a b : Typed) (site : Site) (span : Span) → 6 ≤ n → Low n a → Low n b → Promises (Low (n + 1)) (indexed a b site span)

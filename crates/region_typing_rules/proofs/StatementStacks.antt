@@ -1,8 +1,10 @@
 -- The statements of a core take few words of the stack, by the height of the tree that they come from.
-use Rattle.std.proofs.Common.{ℕ, ◌+◌, ◌*◌, ◌≤◌, true, List, [], ◌∷◌, length, Option, Some, None, subst, arith}
+use Rattle.std.proofs.Common.{ℕ, ◌+◌, ◌*◌, ◌≤◌, true, List, [], ◌∷◌, length, Option, Some, None, subst, arith, false, max}
 use Rattle.std.specs.Prelude.{nat_lt, not, ◌||◌}
-use Rattle.bounds_flow.specs.Flows.{Knowledge}
 use Rattle.std.specs.List.{AllByRecursion}
+use Rattle.ckc_core.specs.Meaning.{bounds_of}
+use Rattle.ckc_core.specs.declared.program.PointerBounds.{PointerBounds}
+use Rattle.bounds_flow.specs.Flows.{Knowledge}
 use Rattle.ckc_text.specs.declared.place.Span.{Span}
 use Rattle.ckc_text.specs.declared.code.Code.TheVariants.{E08, E13, E15, E17, E30}
 use Rattle.ckc_tree.specs.declared.stmt.StoreOperator.{StoreOperator}
@@ -19,7 +21,7 @@ use Rattle.bounds_exprs.specs.declared.term.Bounds.{Bounds}
 use Rattle.ckc_core.specs.declared.program.Direction.{Direction}
 use Rattle.ckc_core.specs.declared.program.Direction.TheVariants as directions
 use Rattle.ckc_core.specs.Core as core
-use Rattle.ckc_core.specs.Stacks.{expression_stack, statement_stack, statements_stack}
+use Rattle.ckc_core.specs.Stacks.{expression_stack, statement_stack, statements_stack, element_stack, index_stack}
 use Rattle.region_typing_rules.specs.Verdicts.{Verdict, Passes}
 use Rattle.region_typing_rules.specs.Scopes.{Scope}
 use Rattle.region_typing_rules.specs.Types.{is_scalar, without_stars, base_type}
@@ -45,51 +47,60 @@ assigned_low Q n (Value type zero value ForArray) span next h more = tt
 assigned_low Q n (Value type zero value (For place)) span next h more = more type place h.1
 assigned_low Q n (AStruct number place) span next h more = tt
 
-store_low : (n : ℕ) (place : Lvalue) (type : CType) (value : core.Expression) → LowPlace n (For place) → IsLow n value → IsLowStatement (n + 2) (store place type value)
+store_low : (n : ℕ) (place : Lvalue) (type : CType) (value : core.Expression) → LowPlace n (For place) → IsLow n value → IsLowStatement (n + 3) (store place type value)
 store_low n (OfLocal k) type value h low = omega arith
 store_low n (OfCell (core.Direct object offset)) type value h low = omega arith
 store_low n (OfCell (core.Through pointer core.First offset site)) type value h low = omega arith
-store_low n (OfCell (core.Through pointer (core.Element number) offset site)) type value h low = omega arith
+store_low n (OfCell (core.Through pointer (core.Element number terminated) offset site)) type value h low = omega arith
 store_low n (OfBounded k b) type value h low = omega arith
 
-update_low : (n : ℕ) (place : Lvalue) (type : CType) (operator : Operator) (value : core.Expression) (site : Site) → LowPlace n (For place) → IsLow n value → IsLowStatement (n + 2) (update place type operator value site)
+element_low : (b : Option PointerBounds) (index : core.Index) (value n : ℕ) → index_stack index ≤ n → value ≤ n → element_stack b index value ≤ n + 3
+element_low b core.First value n h low = omega arith
+element_low b (core.Element number false) value n h low = omega arith
+element_low None (core.Element number true) value n h low = omega arith
+element_low (Some b) (core.Element number true) value n h low = omega arith
+
+update_low : (n : ℕ) (place : Lvalue) (type : CType) (operator : Operator) (value : core.Expression) (site : Site) → LowPlace n (For place) → IsLow n value → IsLowStatement (n + 3) (update place type operator value site)
 update_low n (OfLocal k) type operator value site h low = omega arith
 update_low n (OfCell (core.Direct object offset)) type operator value site h low = omega arith
-update_low n (OfCell (core.Through pointer index offset before)) type operator value site h low = omega arith
+update_low n (OfCell (core.Through pointer index offset before)) type operator value site h low =
+    let place : max (expression_stack pointer) (index_stack index) ≤ n = omega arith in
+    let element = element_low (bounds_of pointer) index (expression_stack value) n (omega (arith, place)) low in
+    omega (arith, element)
 update_low n (OfBounded k b) type operator value site h low = omega arith
 
-set_low : (n : ℕ) (f : Knowledge) (target right : Typed) (span : Span) → 1 ≤ n → Low n target → Low n right → Promises (IsLowStatement (n + 2)) (set_to f target right span)
+set_low : (n : ℕ) (f : Knowledge) (target right : Typed) (span : Span) → 1 ≤ n → Low n target → Low n right → Promises (IsLowStatement (n + 3)) (set_to f target right span)
 set_low n f target right span least ht hr =
-    assigned_low (IsLowStatement (n + 2)) n target span _ ht
-    (λ type place h. converted_low (IsLowStatement (n + 2)) n right type span _ least hr (λ v low. needs_promises (IsLowStatement (n + 2)) (meets_declared f (declared_for place) right type) E17 span _ (λ met. store_low n place type v h low)))
+    assigned_low (IsLowStatement (n + 3)) n target span _ ht
+    (λ type place h. converted_low (IsLowStatement (n + 3)) n right type span _ least hr (λ v low. needs_promises (IsLowStatement (n + 3)) (meets_declared f (declared_for place) right type) E17 span _ (λ met. store_low n place type v h low)))
 
 -- a sum checks itself with six words
-moved_low : (n : ℕ) (f : Knowledge) (place : Lvalue) (type : CType) (sum : core.Expression) (span : Span) → expression_stack sum ≤ n + 1 → Promises (IsLowStatement (n + 2)) (moved f place type sum span)
+moved_low : (n : ℕ) (f : Knowledge) (place : Lvalue) (type : CType) (sum : core.Expression) (span : Span) → expression_stack sum ≤ n + 1 → Promises (IsLowStatement (n + 3)) (moved f place type sum span)
 moved_low n f (OfLocal k) type sum span h = omega arith
 moved_low n f (OfCell p) type sum span h = tt
-moved_low n f (OfBounded k b) type sum span h = needs_promises (IsLowStatement (n + 2)) (meets f sum (Some b)) E17 span _ (λ met. omega arith)
+moved_low n f (OfBounded k b) type sum span h = needs_promises (IsLowStatement (n + 3)) (meets f sum (Some b)) E17 span _ (λ met. omega arith)
 
 updated_as_low : (n : ℕ) (g : Scope) (direction : Direction) (type : CType) (place : Lvalue) (target right : Typed) (site : Site) (span : Span) → 5 ≤ n → LowPlace n (For place) → Low n target → Low n right
-    → Promises (IsLowStatement (n + 2)) (updated_as g direction type place target right site span)
+    → Promises (IsLowStatement (n + 3)) (updated_as g direction type place target right site span)
 updated_as_low n g direction (Pointer mode kind t) place (Value u zero pointer old) right site span five h ht hr =
     let low = ht.0 in
-    number_of_low (IsLowStatement (n + 2)) n right span (λ v. moved g.flow place (Pointer mode kind t) (core.Sum pointer direction v site (sum_node g.locals direction pointer v site)) span) hr
+    number_of_low (IsLowStatement (n + 3)) n right span (λ v. moved g.flow place (Pointer mode kind t) (core.Sum pointer direction v site (sum_node g.locals direction pointer v site)) span) hr
     (λ v low'. moved_low n g.flow place (Pointer mode kind t) (core.Sum pointer direction v site (sum_node g.locals direction pointer v site)) span (omega arith))
 updated_as_low n g direction (Pointer mode kind t) place (AStruct k old) right site span five h ht hr = tt
 updated_as_low n g direction Int place target right site span five h ht hr =
-    two_low (IsLowStatement (n + 2)) n target right span (λ old v. Passes (update place Int (operator_along direction) v site)) ht hr (λ old v low low'. update_low n place Int (operator_along direction) v site h low')
+    two_low (IsLowStatement (n + 3)) n target right span (λ old v. Passes (update place Int (operator_along direction) v site)) ht hr (λ old v low low'. update_low n place Int (operator_along direction) v site h low')
 updated_as_low n g direction Char place target right site span five h ht hr =
-    two_low (IsLowStatement (n + 2)) n target right span (λ old v. Passes (update place Char (operator_along direction) v site)) ht hr (λ old v low low'. update_low n place Char (operator_along direction) v site h low')
+    two_low (IsLowStatement (n + 3)) n target right span (λ old v. Passes (update place Char (operator_along direction) v site)) ht hr (λ old v low low'. update_low n place Char (operator_along direction) v site h low')
 updated_as_low n g direction (Struct k) place target right site span five h ht hr =
-    two_low (IsLowStatement (n + 2)) n target right span (λ old v. Passes (update place (Struct k) (operator_along direction) v site)) ht hr
+    two_low (IsLowStatement (n + 3)) n target right span (λ old v. Passes (update place (Struct k) (operator_along direction) v site)) ht hr
     (λ old v low low'. update_low n place (Struct k) (operator_along direction) v site h low')
 
-updated_low : (n : ℕ) (at : Places) (g : Scope) (direction : Direction) (target right : Typed) (span : Span) → 5 ≤ n → Low n target → Low n right → Promises (IsLowStatement (n + 2)) (updated at g direction target right span)
+updated_low : (n : ℕ) (at : Places) (g : Scope) (direction : Direction) (target right : Typed) (span : Span) → 5 ≤ n → Low n target → Low n right → Promises (IsLowStatement (n + 3)) (updated at g direction target right span)
 updated_low n at g direction target right span five ht hr =
-    assigned_low (IsLowStatement (n + 2)) n target span _ ht
-    (λ type place h. apart_promises (IsLowStatement (n + 2)) target right span _ (updated_as_low n g direction type place target right (site_at at span) span five h ht hr))
+    assigned_low (IsLowStatement (n + 3)) n target span _ ht
+    (λ type place h. apart_promises (IsLowStatement (n + 3)) target right span _ (updated_as_low n g direction type place target right (site_at at span) span five h ht hr))
 
-stored_low : (n : ℕ) (at : Places) (g : Scope) (operator : StoreOperator) (target right : Typed) (span : Span) → 5 ≤ n → Low n target → Low n right → Promises (IsLowStatement (n + 2)) (stored at g operator target right span)
+stored_low : (n : ℕ) (at : Places) (g : Scope) (operator : StoreOperator) (target right : Typed) (span : Span) → 5 ≤ n → Low n target → Low n right → Promises (IsLowStatement (n + 3)) (stored at g operator target right span)
 stored_low n at g stores.Set target right span five ht hr = set_low n g.flow target right span (omega arith) ht hr
 stored_low n at g stores.Add target right span five ht hr = updated_low n at g directions.Forward target right span five ht hr
 stored_low n at g stores.Subtract target right span five ht hr = updated_low n at g directions.Backward target right span five ht hr
@@ -111,18 +122,18 @@ few_later : (a b : Scope) → Grows a b → HaveFew a → HaveFew b
 few_later a b h few = subst (AllByRecursion HasFew) h.functions few
 
 module _ (at : Places) where
-  assignment_low : (s : Scope) → HaveFew s → (a : Assignment) (n : ℕ) → 17 * (assigned_reach a).height + 3 ≤ n → Promises (IsLowStatement n) (assignment at s a)
+  assignment_low : (s : Scope) → HaveFew s → (a : Assignment) (n : ℕ) → 17 * (assigned_reach a).height + 4 ≤ n → Promises (IsLowStatement n) (assignment at s a)
   assignment_low s few (trees.Store operator target value span) n h =
       let one = beside_first (expression_reach target) (expression_reach value) in
       let two = beside_second (expression_reach target) (expression_reach value) in
       let m = 17 * (assigned_reach (trees.Store operator target value span)).height + 1 in
       passing_promises (Low m) (IsLowStatement n) (typed at s target) _ (typed_low s few at target m (omega arith))
       (λ a ha. passing_promises (Low m) (IsLowStatement n) (typed at s value) _ (typed_low s few at value m (omega arith))
-      (λ b hb. promised_so (IsLowStatement (m + 2)) (IsLowStatement n) (stored at s operator a b span) (stored_low m at s operator a b span (omega (arith, some_reach target)) ha hb) (λ x low. omega arith)))
+      (λ b hb. promised_so (IsLowStatement (m + 3)) (IsLowStatement n) (stored at s operator a b span) (stored_low m at s operator a b span (omega (arith, some_reach target)) ha hb) (λ x low. omega arith)))
   assignment_low s few (trees.Step operator side target span) n h =
       let m = 17 * (expression_reach target).height + 1 in
       passing_promises (Low m) (IsLowStatement n) (typed at s target) _ (typed_low s few at target m (omega arith))
-      (λ a ha. promised_so (IsLowStatement (m + 2)) (IsLowStatement n) (updated at s (step_of operator) a one span) (updated_low m at s (step_of operator) a one span (omega (arith, some_reach target)) ha (omega arith, tt)) (λ x low. omega arith))
+      (λ a ha. promised_so (IsLowStatement (m + 3)) (IsLowStatement n) (updated at s (step_of operator) a one span) (updated_low m at s (step_of operator) a one span (omega (arith, some_reach target)) ha (omega arith, tt)) (λ x low. omega arith))
 
   condition_low : (s : Scope) → HaveFew s → (x : Expression) (n : ℕ) → 17 * (expression_reach x).height ≤ n → Promises (IsLow n) (condition at s x)
   condition_low s few x n h = passing_promises (Low n) (IsLow n) (typed at s x) _ (typed_low s few at x n h) (λ t low. scalar_of_low (IsLow n) n t (expression_span x) Passes low (λ v low'. low'))
@@ -134,7 +145,7 @@ module _ (at : Places) where
   abbrev pub BecomesLow : ℕ → Walked → Type 0
   BecomesLow n w = IsLowStatement n w.0
 
-  assigning_low : (s : Scope) → HaveFew s → (a : Assignment) (n : ℕ) → 17 * (assigned_reach a).height + 3 ≤ n → Promises (BecomesLow n) (assigning at s a)
+  assigning_low : (s : Scope) → HaveFew s → (a : Assignment) (n : ℕ) → 17 * (assigned_reach a).height + 4 ≤ n → Promises (BecomesLow n) (assigning at s a)
   assigning_low s few a n h = assigning_promises (IsLowStatement n) (BecomesLow n) at s a (assignment_low s few a n h) (λ x k low. low)
 
   step_low : (s : Scope) → HaveFew s → (o : Option Assignment) (n : ℕ) → 17 * (optional_assignment_reach o).height ≤ n → Promises (BecomesLow n) (optional_step at s o)

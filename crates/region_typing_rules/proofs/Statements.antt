@@ -70,7 +70,7 @@ module _ (g : Frame) (types : List CType) (all_scalar : AllByRecursion IsScalar 
     -- what is asked of a value that goes there is so
     store_typed : (place : Lvalue) (type : CType) (value : core.Expression) → FitsPlace g types s type (For place) → IsScalar type → HasType g types s value type → IsReturned g.structs s value type (declared_for place) → IsHere (store place type value)
     store_typed (OfLocal k) type value h scalar typed asked = rules.set_local h typed
-    store_typed (OfCell p) type value h scalar typed asked = rules.store scalar h typed
+    store_typed (OfCell p) type value h scalar typed asked = rules.store scalar (rules.at_place h) typed
     store_typed (OfBounded k b) type value h scalar typed asked =
         subst (λ t. IsHere (core.Store t (core.Direct k 0) value)) (sym h.own)
         (rules.store_bounded h.object (subst (HasType g types s value) h.own typed) (subst (λ t. IsReturned g.structs s value t (Some b)) h.own asked))
@@ -84,7 +84,7 @@ module _ (g : Frame) (types : List CType) (all_scalar : AllByRecursion IsScalar 
 
     update_typed : (place : Lvalue) (type : CType) (operator : Operator) (value : core.Expression) (site : Site) → FitsPlace g types s type (For place) → is_number type ≡ true → HasType g types s value Int → IsHere (update place type operator value site)
     update_typed (OfLocal k) type operator value site h number typed = rules.update_local h number refl typed
-    update_typed (OfCell p) type operator value site h number typed = rules.update number (updated_typed h site) typed
+    update_typed (OfCell p) type operator value site h number typed = rules.update number (rules.at_place (updated_typed h site)) typed
     update_typed (OfBounded k b) type operator value site h number typed = absurd (let pointer : is_number (Pointer h.mode kinds.Array h.element) ≡ true = subst (λ t. is_number t ≡ true) h.own number in cc)
 
     -- the bounds that are declared for where a value goes speak of no variable

@@ -171,7 +171,8 @@ term_formed types (core.Call callee arguments bounds) t h = absurd (cc)
 term_formed types core.NextInput t h = absurd (cc)
 term_formed types (core.Sum pointer direction number site bounds) t h = absurd (cc)
 term_formed types (core.Order comparison left right site) t h = absurd (cc)
-term_formed types (core.Allocate count element bounds) t h = absurd (cc)
+term_formed types (core.Allocate count element terminated bounds) t h = absurd (cc)
+term_formed types (core.Length pointer site) t h = absurd (cc)
 term_formed types (core.Cast pointer bounds) t h = absurd (cc)
 
 pub formed_below : (types : List CType) (vars : ℕ) (o : Option ℕ) → length types ≤ vars → IsInt types o → IsBelow vars o
@@ -309,5 +310,6 @@ module _ (audited : Bool) (g : Setting) (k : Knot) (calls : CallsKeep k) (types 
   term_so core.NextInput s here = without_term core.NextInput s refl
   term_so (core.Sum pointer direction number site bounds) s here = without_term (core.Sum pointer direction number site bounds) s refl
   term_so (core.Order comparison left right site) s here = without_term (core.Order comparison left right site) s refl
-  term_so (core.Allocate count element bounds) s here = without_term (core.Allocate count element bounds) s refl
+  term_so (core.Allocate count element terminated bounds) s here = without_term (core.Allocate count element terminated bounds) s refl
+  term_so (core.Length pointer site) s here = without_term (core.Length pointer site) s refl
   term_so (core.Cast pointer bounds) s here = without_term (core.Cast pointer bounds) s refl

@@ -32,7 +32,8 @@ use Rattle.region_typing_rules.proofs.Between.{outside_beside, outside_here, tol
 use Rattle.region_typing_rules.specs.Typed.{Frame, HasType, IsScalar}
 use Rattle.region_typing_rules.proofs.Worlds.{Anything, tick_answers}
 use Rattle.region_typing_rules.proofs.Sure.{sure_both, sure_further}
-use Rattle.region_typing_rules.proofs.Soundness.{EndsAs, Goes, IsKept, IsNext, OfType, Runs, asked_runs, lowered_runs, raised_runs, runs_both, runs_on, runs_then, typed_goes}
+use Rattle.region_typing_rules.proofs.Goes.{EndsAs, Goes, IsKept, IsNext, OfType, Runs, asked_runs, lowered_runs, raised_runs, runs_both, runs_on, runs_then}
+use Rattle.region_typing_rules.proofs.Soundness.{typed_goes}
 use Rattle.region_typing_rules.proofs.Declaring.{IsAt, Knots, few_vars, has_of, running, ticking}
 use Rattle.region_typing_rules.proofs.Ways.{below_or_beyond, fits_further, way_further, on_first, on_others, walk_block, walk_head, walk_tracked, block_outside, known_block}
 
@@ -369,5 +370,5 @@ module _ (frame : Frame) (types : List CType) (all_scalar : AllByRecursion IsSca
       loop_on (suc n) low s t knots known moved declared kept =
           turn_on (suc n) low s t knots
           (λ low' u few moved' declared' kept'. raised_runs frame budget (suc n) n low' types Q (effect true here (K n) (core.Loop c x y) u) kept'.enough
-          (loop_on n low' s u (λ m le. knots m (omega (arith, le))) known moved' declared' (record { grown = kept'.grown; cells = kept'.cells; locals = kept'.locals; world = kept'.world; enough = omega (arith, few); held = kept'.held })))
+          (loop_on n low' s u (λ m le. knots m (omega (arith, le))) known moved' declared' (record { grown = kept'.grown; cells = kept'.cells; locals = kept'.locals; world = kept'.world; enough = omega (arith, few); held = kept'.held; zeros = kept'.zeros; short = kept'.short })))
           known moved declared kept

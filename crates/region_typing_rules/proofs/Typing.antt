@@ -1,5 +1,5 @@
 -- The core of a program that breaks no rule has types.
-use Rattle.std.proofs.Common.{◌≡◌, ℕ, ◌*◌, ◌<◌, ◌≤◌, Bool, true, false, List, [], map, take, length, ◌∷◌, Option, Some, None, refl, ap, ◌∙◌, subst, arith}
+use Rattle.std.proofs.Common.{◌≡◌, ℕ, ◌*◌, ◌<◌, ◌≤◌, Bool, true, false, List, [], map, take, length, ◌∷◌, Option, Some, None, refl, ap, ◌∙◌, subst, arith, sym}
 use Rattle.std.specs.Prelude.{is_some, slice_get, Result, Ok, Err, All}
 use Rattle.std.proofs.lemmas.List.Elements.{All-from_recursion}
 use Rattle.std.specs.List.{AllByRecursion, list_any}
@@ -23,19 +23,20 @@ use Rattle.ckc_core.specs.Programs.{Variable, Import, parted}
 use Rattle.ckc_core.specs.Core as core
 use Rattle.ckc_core.specs.Core.{Core}
 use Rattle.region_typing_rules.specs.Verdicts.{Verdict, Passes, Stops, passing}
-use Rattle.region_typing_rules.specs.Scopes.{function_named}
+use Rattle.region_typing_rules.specs.Scopes.{function_named, FileVariable}
 use Rattle.region_typing_rules.specs.Expressions.{Places, side_number}
 use Rattle.region_typing_rules.specs.Items.{Walk, walked, start}
 use Rattle.region_typing_rules.specs.Cores.{body_of, core_of}
 use Rattle.region_typing_rules.proofs.Sides.{trusted_functions, trusted_bounds, trusted_results, sides_of, sides_parted}
-use Rattle.region_typing_rules.specs.Typed.{IsTyped}
+use Rattle.region_typing_rules.specs.Typed.{IsTyped, EndsInZero}
 use Rattle.region_typing_rules.proofs.Safe.{IsSafeProgram, functions_typed, safe_there}
 use Rattle.region_typing_rules.specs.Lowerable.{IsRoomy, IsSmall, IsSmallCore}
 use Rattle.region_typing_rules.specs.NeverStuck.{HasCore}
 use Rattle.region_typing_rules.proofs.Verdicts.{Promises}
 use Rattle.region_typing_rules.proofs.Signatures.{bytes_equal, trusted_there, named_self}
-use Rattle.region_typing_rules.proofs.Walks.{IsWell, bounds_declared, body_suits, functions_safe, objects_typed, functions_small, imports_small, frame}
+use Rattle.region_typing_rules.proofs.Walks.{IsWell, bounds_declared, body_suits, functions_safe, objects_typed, functions_small, imports_small, frame, AreSettled}
 use Rattle.region_typing_rules.proofs.Items.{IsNamedMain, main_name, Passed, items_promise}
+use Rattle.pointer_modes.specs.Types.{Structure}
 
 -- a program whose names have a meaning has a `main`
 main_there : (t : Tree) → naming_fault t ≡ None → has_main t ≡ true
@@ -47,6 +48,14 @@ main_there t h = by (has_main t) (all_mentioned (tree_mentions t) at_file_level)
     by false (Err fault) e e' = let now = rw e' at h in absurd (cc)
 
 -- a function that takes none of its locals has no parameters
+-- no zero ends a variable
+objects_unended : (structs : List Structure) (variables : List FileVariable) (objects : List Variable) → AreSettled structs variables objects → AllByRecursion EndsInZero objects
+objects_unended structs [] [] settled = tt
+objects_unended structs [] (o ∷ objects) settled = absurd settled
+objects_unended structs (v ∷ variables) [] settled = tt
+objects_unended structs (v ∷ variables) (o ∷ objects) settled =
+    (λ ended. absurd (let no : true ≡ false = sym ended ∙ settled.0.unended in cc), objects_unended structs variables objects settled.1)
+
 no_parameters : (f : core.Function) → f.parameters ≤ length f.locals → take f.parameters f.locals ≡ [] → f.parameters ≡ 0
 no_parameters f few none = omega (arith, length-take-le f.parameters f.locals few, ap length none)
 
@@ -68,6 +77,7 @@ safe_walk height entry a w h =
         result_bounds = trusted_results w.scope.functions;
         object_bounds = bounds_declared w.scope.variables;
         objects = objects_typed height entry w well h.follows.settled w.objects well.start;
+        zeros = objects_unended w.scope.structs w.scope.variables w.objects h.follows.settled;
         functions = functions_typed (frame height entry w well h.follows.settled) (trusted_functions w.bodies w.scope.functions) (trusted_bounds w.scope.functions) (trusted_results w.scope.functions) functions;
         main = (body_of w.bodies m, found, no_parameters (body_of w.bodies m) it.safe.typed.parameters (suits.parameters ∙ main.none), suits.result ∙ main.int);
       };

@@ -49,7 +49,7 @@ element_lies byte size bytes h =
 
 module _ (structs : List Structure) (site : Site) (s : State) where
   abbrev one_bounds : CType → PointerBounds
-  one_bounds target = record { bounds = record { base = None; lo = constant (pos 0); hi = constant (pos 1) }; size = size_of structs target; site = site }
+  one_bounds target = record { bounds = record { base = None; lo = constant (pos 0); hi = constant (pos 1) }; size = size_of structs target; terminated = false; site = site }
 
   -- a place at which a value stands is valid, and so are the ends of the value
   pub place_valid : (target : CType) (block byte : ℕ) → IsPlace structs (shapes s.blocks) target block byte → is_valid (one_bounds target) (At block byte) s ≡ true

@@ -1,10 +1,11 @@
 -- Values, cells and places of their types, in blocks that are only added.
-use Rattle.std.proofs.Common.{◌≡◌, ℕ, zero, suc, ◌+◌, ◌<◌, ◌≤◌, true, false, not, pos, negsuc, List, [], ◌∷◌, ◌++◌, map, take, length, Option, Some, None, refl, sym, ap, ◌∙◌, subst, arith, append_assoc, append-nil}
-use Rattle.std.specs.Prelude.{◌||◌, slice_get, slice_set, option_map}
+use Rattle.std.proofs.Common.{◌≡◌, ℕ, zero, suc, ◌+◌, ◌<◌, ◌≤◌, true, false, not, pos, negsuc, List, [], ◌∷◌, ◌++◌, map, take, length, Option, Some, None, refl, sym, ap, ◌∙◌, subst, arith, append_assoc, append-nil, Bool}
+use Rattle.std.specs.Prelude.{◌||◌, slice_get, slice_set, option_map, ◌==◌, ◌&&◌}
 use Rattle.std.specs.List.{AllByRecursion}
 use Rattle.std.specs.Option.{option_and_then}
 use Rattle.std.proofs.lemmas.Bool.{and_from}
 use Rattle.std.proofs.lemmas.Bool.Decides.{nat_tests}
+use Rattle.std.proofs.lemmas.List.{length-map}
 use Rattle.std.proofs.lemmas.Option.{same_Some, slice_get-map}
 use Rattle.pointer_modes.specs.declared.ctype.Mode.{Mode}
 use Rattle.pointer_modes.specs.declared.ctype.Mode.TheVariants as modes
@@ -14,11 +15,11 @@ use Rattle.pointer_modes.specs.Types.{CType, Int, Char, Struct, Pointer, Member,
 use Rattle.pointer_modes.specs.Layout.{aligned_up, scalar_size, member_sizes, sizes_of, placed_from, end_from, size_of}
 use Rattle.pointer_modes.proofs.Layouts.{widths, size_behind}
 use Rattle.ckc_core.specs.States.{Value, Number, Null, At, Cell, Block, Local, Shape, Grows, same_mode, same_kind, same_type, has_type, zero_of, strides, number_at, cell_in, cell_at, stored, shape, shapes, type_at}
-use Rattle.ckc_core.specs.Steps.{fit, is_zero, is_last, leaves_zero, locals_for}
+use Rattle.ckc_core.specs.Steps.{fit, is_zero, leaves_zero, locals_for}
 use Rattle.ckc_core.proofs.Elements.{of_element}
 use Rattle.region_typing_rules.specs.Types.{is_number}
-use Rattle.bounds_flow_meaning.proofs.Rows.{place_grown}
-use Rattle.bounds_flow_meaning.specs.Rows.{Slot, slots, slots_from, Stands, HasRow, IsPlace}
+use Rattle.bounds_flow_meaning.proofs.Rows.{place_grown, ended_grown}
+use Rattle.bounds_flow_meaning.specs.Rows.{Slot, slots, slots_from, Stands, HasRow, IsPlace, is_zero_at, ends_at_number}
 use Rattle.region_typing_rules.specs.Typed.{HasValue, IsScalar}
 
 -- ---- types
@@ -74,7 +75,7 @@ grows_on a b c first second = (first.0 ++ second.0, second.1 ∙ (ap (λ x. x ++
 
 -- ---- cells
 
--- the cell that begins at a byte of a block that no zero ends, and its number
+-- the cell that begins at a byte of a block, and its number
 pub record HasCell (blocks : List Block) (block byte : ℕ) (type : CType) : Type 0 where
   pub held : Block
   pub number : ℕ
@@ -83,15 +84,14 @@ pub record HasCell (blocks : List Block) (block byte : ℕ) (type : CType) : Typ
   pub numbered : number_at (strides held.cells) byte ≡ Some number
   pub found : slice_get held.cells number ≡ Some cell
   pub typed : cell.type ≡ type
-  pub open_ended : held.zero_ended ≡ false
 
-pub cell_there : (blocks : List Block) (block byte : ℕ) (s : Shape) (t : CType) → slice_get (shapes blocks) block ≡ Some s → type_at s byte ≡ Some t → s.zero_ended ≡ false → HasCell blocks block byte t
-cell_there blocks block byte s t found typed ended =
+pub cell_there : (blocks : List Block) (block byte : ℕ) (s : Shape) (t : CType) → slice_get (shapes blocks) block ≡ Some s → type_at s byte ≡ Some t → HasCell blocks block byte t
+cell_there blocks block byte s t found typed =
     let b = mapped_from shape blocks block s found in
     let here : type_at (shape b.0) byte ≡ Some t = subst (λ x. type_at x byte ≡ Some t) (sym b.2) typed in
     let n = behind_some (λ number. slice_get (shape b.0).types number) (number_at (strides b.0.cells) byte) t here in
     let c = mapped_from (λ (x : Cell). x.type) b.0.cells n.0 t n.2 in
-    record { held = b.0; number = n.0; cell = c.0; there = b.1; numbered = n.1; found = c.1; typed = c.2; open_ended = ap (λ (x : Shape). x.zero_ended) b.2 ∙ ended }
+    record { held = b.0; number = n.0; cell = c.0; there = b.1; numbered = n.1; found = c.1; typed = c.2 }
 
 module _ (blocks : List Block) (block byte : ℕ) (t : CType) (c : HasCell blocks block byte t) where
   pub at_cell : cell_at blocks block byte ≡ Some c.cell
@@ -99,9 +99,34 @@ module _ (blocks : List Block) (block byte : ℕ) (t : CType) (c : HasCell block
       ap (λ (o : Option Block). option_and_then (λ b. cell_in b byte) o) c.there
       ∙ (ap (λ (o : Option ℕ). option_and_then (λ number. slice_get c.held.cells number) o) c.numbered ∙ c.found)
 
-  -- no zero has to stay there
-  pub zero_left : (v : Value) → leaves_zero (slice_get blocks block) byte v ≡ true
-  zero_left v = ap (λ (o : Option Block). leaves_zero o byte v) c.there ∙ ap (λ ended. not ended || (is_zero v || not (is_last c.held byte))) c.open_ended
+  -- no zero has to stay there, or the value is one
+  pub zero_left : (s : Shape) → slice_get (shapes blocks) block ≡ Some s → is_zero_at s byte ≡ false → (v : Value) → leaves_zero (slice_get blocks block) byte v ≡ true
+  zero_left s found within v =
+      rw (c.there, c.numbered) (by c.held.zero_ended (suc c.number == length c.held.cells) (is_zero v) inside)
+    where
+      same : shape c.held ≡ s
+      same = same_Some (shape c.held) s (sym (mapped_there shape blocks block c.held c.there) ∙ found)
+
+      many : length (map (λ (x : Cell). x.type) c.held.cells) ≡ length c.held.cells
+      many = length-map c.held.cells (λ (x : Cell). x.type)
+
+      inside : (c.held.zero_ended && (suc c.number == length c.held.cells)) ≡ false
+      inside =
+          ap (λ k. c.held.zero_ended && (suc c.number == k)) (sym many)
+          ∙ (ap (λ o. c.held.zero_ended && ends_at_number o (length (shape c.held).types)) (sym c.numbered) ∙ subst (λ x. is_zero_at x byte ≡ false) (sym same) within)
+
+      by : (ended last none : Bool) → (ended && last) ≡ false → (not ended || (none || not last)) ≡ true
+      by false last none h = refl
+      by true false true h = refl
+      by true false false h = refl
+      by true true none h = absurd (cc)
+
+  pub zero_stored : (v : Value) → is_zero v ≡ true → leaves_zero (slice_get blocks block) byte v ≡ true
+  zero_stored v zero_value = rw (c.there, zero_value) (by c.held.zero_ended)
+    where
+      by : (ended : Bool) → (not ended || true) ≡ true
+      by true = refl
+      by false = refl
 
   -- the block with another value in the cell
   abbrev pub new_cell : Value → Cell
@@ -157,14 +182,20 @@ module _ (structs : List Structure) where
   -- ---- places
 
   -- a scalar that stands at a byte
-  pub scalar_stands : (s : Shape) (byte : ℕ) (t : CType) → IsScalar t → type_at s byte ≡ Some t → s.zero_ended ≡ false → s.is_sealed ≡ false → Stands s byte (slots structs t)
-  scalar_stands s byte t scalar typed ended unsealed = subst (λ row. Stands s byte row) (sym (scalar_slots t scalar)) (record { there = omega arith; each = each; open_ended = ended; unsealed = unsealed })
+  pub scalar_stands : (s : Shape) (byte : ℕ) (t : CType) → IsScalar t → type_at s byte ≡ Some t → is_zero_at s byte ≡ false → s.is_sealed ≡ false → Stands s byte (slots structs t)
+  scalar_stands s byte t scalar typed ended unsealed = subst (λ row. Stands s byte row) (sym (scalar_slots t scalar)) (record { there = omega arith; each = each; inside = within; unsealed = unsealed })
     where
       each : (k : ℕ) (slot : Slot) → slice_get (record { type = t; offset = 0 } ∷ []) k ≡ Some slot → type_at s (byte + slot.offset) ≡ Some slot.type
       each zero slot h =
           let same : byte ≡ byte + 0 = omega arith in
           subst (λ (x : Slot). type_at s (byte + x.offset) ≡ Some x.type) (same_Some (record { type = t; offset = 0 }) slot h) (subst (λ k. type_at s k ≡ Some t) same typed)
       each (suc k) slot h = absurd (cc)
+
+      within : (k : ℕ) (slot : Slot) → slice_get (record { type = t; offset = 0 } ∷ []) k ≡ Some slot → is_zero_at s (byte + slot.offset) ≡ false
+      within zero slot h =
+          let same : byte ≡ byte + 0 = omega arith in
+          subst (λ (x : Slot). is_zero_at s (byte + x.offset) ≡ false) (same_Some (record { type = t; offset = 0 }) slot h) (subst (λ k. is_zero_at s k ≡ false) same ended)
+      within (suc k) slot h = absurd (cc)
 
   -- ---- the bytes that a value takes
 
@@ -208,7 +239,7 @@ module _ (structs : List Structure) where
       let typed = h.stands.each k (record { type = t; offset = offset }) found in
       let within = member_within n k offset t scalar found in
       let room = h.room in
-      record { stands = scalar_stands s (first + offset) t scalar typed h.stands.open_ended h.stands.unsealed; room = omega (arith, within, room) }
+      record { stands = scalar_stands s (first + offset) t scalar typed (h.stands.inside k (record { type = t; offset = offset }) found) h.stands.unsealed; room = omega (arith, within, room) }
 
   -- and at a place
   pub member_place : (b : List Shape) (n block first k offset : ℕ) (t : CType) → IsScalar t → IsPlace structs b (Struct n) block first → slice_get (slots structs (Struct n)) k ≡ Some (record { type = t; offset = offset }) → IsPlace structs b t block (first + offset)
@@ -223,12 +254,18 @@ module _ (structs : List Structure) where
   place_has_cell blocks t block byte slot h first =
       let start = first_at_zero t slot first in
       let same : byte + slot.offset ≡ byte = omega (arith, start) in
-      cell_there blocks block byte h.shape slot.type h.found (subst (λ k. type_at h.shape k ≡ Some slot.type) same (h.row.stands.each 0 slot first)) h.row.stands.open_ended
+      cell_there blocks block byte h.shape slot.type h.found (subst (λ k. type_at h.shape k ≡ Some slot.type) same (h.row.stands.each 0 slot first))
 
   -- a cell of a scalar type
   pub scalar_cell : (blocks : List Block) (t : CType) (block byte : ℕ) → IsScalar t → IsPlace structs (shapes blocks) t block byte → HasCell blocks block byte t
   scalar_cell blocks t block byte scalar h =
       place_has_cell blocks t block byte (record { type = t; offset = 0 }) h (ap (λ (row : List Slot). slice_get row 0) (scalar_slots t scalar))
+
+  -- it isn't the zero that ends a block
+  pub place_inside : (b : List Shape) (t : CType) (block byte : ℕ) → IsScalar t → (h : IsPlace structs b t block byte) → is_zero_at h.shape byte ≡ false
+  place_inside b t block byte scalar h =
+      let same : byte + 0 ≡ byte = omega arith in
+      subst (λ k. is_zero_at h.shape k ≡ false) same (h.row.stands.inside 0 (record { type = t; offset = 0 }) (ap (λ (row : List Slot). slice_get row 0) (scalar_slots t scalar)))
 
   -- at each place a cell begins
   pub some_cell : (blocks : List Block) (t : CType) (block byte : ℕ) → IsPlace structs (shapes blocks) t block byte → (c : Cell) × (cell_at blocks block byte ≡ Some c)
@@ -251,7 +288,7 @@ module _ (structs : List Structure) where
   value_grown a b more (Pointer m k t) Null h = tt
   value_grown a b more (Pointer m kinds.One t) (At block byte) h = place_grown structs a b more t block byte h
   value_grown a b more (Pointer m kinds.Array t) (At block byte) h = tt
-  value_grown a b more (Pointer m kinds.Nt t) (At block byte) h = tt
+  value_grown a b more (Pointer m kinds.Nt t) (At block byte) h = (h.0, ended_grown structs a b more t block byte false h.1)
 
   module _ (b : List Shape) where
     -- ---- values

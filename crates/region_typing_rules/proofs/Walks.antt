@@ -84,6 +84,7 @@ pub record IsSettled (structs : List Structure) (v : FileVariable) (object : Var
   pub few : count_of v.length ≤ 8192
   pub rows : AreRows structs (shape (object_block (open_variable object.cells))) v.type (count_of v.length)
   pub sealed : object.is_sealed ≡ is_some v.bounds
+  pub unended : object.zero_ended ≡ false
   pub bounds : HaveFileBounds structs v v.bounds
 
 -- and so are those of each variable
@@ -137,7 +138,7 @@ settled_later a b [] [] ext h = tt
 settled_later a b [] (o ∷ objects) ext h = absurd h
 settled_later a b (v ∷ variables) [] ext h = absurd h
 settled_later a b (v ∷ variables) (o ∷ objects) ext h = (
-  record { some = h.0.some; few = h.0.few; rows = rows_kept a b (shape (object_block (open_variable o.cells))) v.type (count_of v.length) ext h.0.rows; sealed = h.0.sealed; bounds = file_bounds_later a b v v.bounds ext h.0.bounds },
+  record { some = h.0.some; few = h.0.few; rows = rows_kept a b (shape (object_block (open_variable o.cells))) v.type (count_of v.length) ext h.0.rows; sealed = h.0.sealed; unended = h.0.unended; bounds = file_bounds_later a b v v.bounds ext h.0.bounds },
   settled_later a b variables objects ext h.1,
 )
 
@@ -161,8 +162,10 @@ settled_there structs (x ∷ variables) (o ∷ objects) zero v h e = let same : 
 settled_there structs (x ∷ variables) (o ∷ objects) (suc k) v h e = settled_there structs variables objects k v h.1 e
 
 -- a variable that is open is its cells
-open_is : (object : Variable) → object.is_sealed ≡ false → open_variable object.cells ≡ object
-open_is object h = ap (λ sealed. record { cells = object.cells; is_sealed = sealed }) (sym h)
+open_is : (object : Variable) → object.zero_ended ≡ false → object.is_sealed ≡ false → open_variable object.cells ≡ object
+open_is object unended h =
+    ap (λ ended. record { cells = object.cells; zero_ended = ended; is_sealed = false }) (sym unended)
+    ∙ ap (λ sealed. record { cells = object.cells; zero_ended = object.zero_ended; is_sealed = sealed }) (sym h)
 
 -- the object of a variable is there
 module _ (g : Frame) (number : ℕ) (v : FileVariable) (object : Variable) (found : slice_get g.program.objects number ≡ Some object) (settled : IsSettled g.structs v object)
@@ -173,7 +176,7 @@ module _ (g : Frame) (number : ℕ) (v : FileVariable) (object : Variable) (foun
       subst (λ byte. HasRow g.structs (shape (object_block (open_variable object.cells))) byte v.type) first (settled.rows 0 settled.some)
 
   opened : v.bounds ≡ None → open_variable object.cells ≡ object
-  opened none = open_is object (settled.sealed ∙ ap is_some none)
+  opened none = open_is object settled.unended (settled.sealed ∙ ap is_some none)
 
   single_there : (o : Option Bounds) → v.bounds ≡ o → v.length ≡ None → IsSingle g v.type o number
   single_there None none single =
@@ -191,6 +194,7 @@ module _ (g : Frame) (number : ℕ) (v : FileVariable) (object : Variable) (foun
           found = found;
           declared = told ∙ ap Some is;
           sealed = settled.sealed ∙ ap is_some is;
+          unended = settled.unended;
           pointer = row.stands.each 0 (record { type = Pointer f.mode kinds.Array f.element; offset = 0 }) refl;
           some = f.some;
           limited = f.limited;

@@ -92,7 +92,8 @@ noted_light b (core.Call callee arguments bounds) = refl
 noted_light b core.NextInput = refl
 noted_light b (core.Sum pointer direction number site bounds) = refl
 noted_light b (core.Order comparison left right site) = refl
-noted_light b (core.Allocate count element bounds) = refl
+noted_light b (core.Allocate count element terminated bounds) = refl
+noted_light b (core.Length pointer site) = refl
 noted_light b (core.Cast pointer bounds) = refl
 
 noted_if_light : (b : Option PointerBounds) (v : core.Expression) → expression_weight (noted_if b v) ≡ expression_weight v
@@ -295,7 +296,7 @@ element_light n m Char pointer number site span hp hn = tt
 element_light n m (Struct k) pointer number site span hp hn = tt
 element_light n m (Pointer mode kinds.One t) pointer number site span hp hn = tt
 element_light n m (Pointer mode kinds.Array t) pointer number site span hp hn =
-    elements_promise (Light (n + m + 2)) pointer span _ (at_place_light (n + m + 2) t (core.Through pointer (core.Element number) 0 site) (omega arith))
+    elements_promise (Light (n + m + 2)) pointer span _ (at_place_light (n + m + 2) t (core.Through pointer (core.Element number false) 0 site) (omega arith))
 element_light n m (Pointer mode kinds.Nt t) pointer number site span hp hn = tt
 
 indexed_light : (n m : ℕ) (a b : Typed) (site : Site) (span : Span) → Light n a → Light m b → Promises (Light (n + m + 2)) (indexed a b site span)

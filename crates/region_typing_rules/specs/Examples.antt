@@ -103,7 +103,7 @@ place = record { place = at 0 }
 
 -- the bounds of a `ptr<int>` there
 abbrev one_int : Site → Option PointerBounds
-one_int site = Some (record { bounds = record { base = None; lo = constant (pos 0); hi = constant (pos 1) }; size = 4; site = site })
+one_int site = Some (record { bounds = record { base = None; lo = constant (pos 0); hi = constant (pos 1) }; size = 4; terminated = false; site = site })
 
 -- int g = 1; int main(void) { ptr<int> p = &g; *p = 41; return g + 1; }
 abbrev pub first_run : Type 0

@@ -105,7 +105,7 @@ bounds_at structs Char site = None
 bounds_at structs (Struct number) site = None
 bounds_at structs (Pointer mode kind target) site =
     bounds_by mode kind
-    (record { bounds = record { base = None; lo = constant_term (pos 0); hi = constant_term (pos 1) }; size = size_of structs target; site = site })
+    (record { bounds = record { base = None; lo = constant_term (pos 0); hi = constant_term (pos 1) }; size = size_of structs target; terminated = false; site = site })
 
 -- a value with bounds at its node
 abbrev pub noted : Option PointerBounds → core.Expression → core.Expression
@@ -127,7 +127,8 @@ noted b (core.Call callee arguments bounds) = core.Call callee arguments b
 noted b core.NextInput = core.NextInput
 noted b (core.Sum pointer direction number site bounds) = core.Sum pointer direction number site b
 noted b (core.Order comparison left right site) = core.Order comparison left right site
-noted b (core.Allocate count element bounds) = core.Allocate count element b
+noted b (core.Allocate count element terminated bounds) = core.Allocate count element terminated b
+noted b (core.Length pointer site) = core.Length pointer site
 noted b (core.Cast pointer bounds) = core.Cast pointer b
 
 -- bounds that its type gives a value; where it gives none, the node has those that it was built with
@@ -154,7 +155,7 @@ or_based (Some b) based = Some b
 abbrev pub at_site : Site → Option PointerBounds → Option Bounds → Option PointerBounds
 at_site site None bounds = None
 at_site site (Some p) None = None
-at_site site (Some p) (Some b) = Some (record { bounds = b; size = p.size; site = site })
+at_site site (Some p) (Some b) = Some (record { bounds = b; size = p.size; terminated = p.terminated; site = site })
 
 -- the bounds of a sum: those without a base where there are any, and else those from a base
 abbrev pub sum_node : List CType → Direction → core.Expression → core.Expression → Site → Option PointerBounds
@@ -182,7 +183,7 @@ at_place (Struct number) place = AStruct number (OfCell place)
 
 -- the bounds in force of a pointer, at its node
 abbrev pub in_force : List Structure → Kind → CType → Option Bounds → Site → Option PointerBounds
-in_force structs kinds.Array target (Some b) site = Some (record { bounds = b; size = size_of structs target; site = site })
+in_force structs kinds.Array target (Some b) site = Some (record { bounds = b; size = size_of structs target; terminated = false; site = site })
 in_force structs kinds.Array target None site = None
 in_force structs kinds.One target bounds site = None
 in_force structs kinds.Nt target bounds site = None
@@ -208,7 +209,7 @@ local_typed structs f local (Struct number) array site = AStruct number (OfLocal
 abbrev pub array_typed : List Structure → ℕ → CType → ℕ → Site → Typed
 array_typed structs object type length site =
     Value (Pointer modes.Checked kinds.Array type) false
-    (core.AddressOf (core.Direct object 0) (Some (record { bounds = row_of length; size = size_of structs type; site = site }))) ForArray
+    (core.AddressOf (core.Direct object 0) (Some (record { bounds = row_of length; size = size_of structs type; terminated = false; site = site }))) ForArray
 
 -- a file-level pointer with the bounds that are declared for it; no other type has any
 abbrev pub pointer_typed : List Structure → ℕ → CType → Bounds → Site → Typed
@@ -273,7 +274,7 @@ with_elements value span next = needs (is_some (bounds_of value)) E18 span next
 
 -- the element at which a pointer with bounds stands
 abbrev pub first_element : core.Expression → Site → core.Place
-first_element value site = core.Through value (core.Element (core.Number (pos 0))) 0 site
+first_element value site = core.Through value (core.Element (core.Number (pos 0)) false) 0 site
 
 -- a pointer is asked for its bounds behind the member
 abbrev pub pointed_by : Scope → CType → core.Expression → ℕ → Site → Span → Verdict Typed
@@ -445,7 +446,7 @@ beside operator (AStruct number place) s = s
 
 abbrev pub element_at : CType → core.Expression → core.Expression → Site → Span → Verdict Typed
 element_at (Pointer mode kinds.Array target) pointer number site span =
-    with_elements pointer span (Passes (at_place target (core.Through pointer (core.Element number) 0 site)))
+    with_elements pointer span (Passes (at_place target (core.Through pointer (core.Element number false) 0 site)))
 element_at _ pointer number site span = breaks E19 span
 
 -- operand-is-pointer with a number for an index (E13), no element of a `ptr` (E19), and pointer-has-bounds (E18)
@@ -552,7 +553,7 @@ result_at terms (Some b) = ends_filled_in terms b
 -- bounds of a call: those that are declared for its result, or those of its type
 abbrev row_bounds : List Structure → Mode → CType → Option Bounds → Site → Option PointerBounds
 row_bounds structs mode target None site = bounds_at structs (Pointer mode kinds.Array target) site
-row_bounds structs mode target (Some b) site = Some (record { bounds = b; size = size_of structs target; site = site })
+row_bounds structs mode target (Some b) site = Some (record { bounds = b; size = size_of structs target; terminated = false; site = site })
 
 abbrev pub call_bounds : List Structure → CType → Option Bounds → Site → Option PointerBounds
 call_bounds structs (Pointer mode kinds.Array target) bounds site = row_bounds structs mode target bounds site
@@ -708,6 +709,7 @@ row_counted structs t None site = None
 row_counted structs t (Some n) site = Some (record {
   bounds = record { base = None; lo = constant_term (pos 0); hi = n };
   size = size_of structs t;
+  terminated = false;
   site = site;
 })
 
@@ -716,7 +718,7 @@ abbrev pub allocation : Scope → CType → core.Expression → Site → Span �
 allocation s t count site span =
     needs (nat_lt 0 (size_of s.structs t)) E13 span
     (plain (Pointer modes.Checked kinds.Array t)
-    (core.Allocate count (cells_with s.structs t (pos 0)) (row_counted s.structs t (term s.locals count) site)))
+    (core.Allocate count (cells_with s.structs t (pos 0)) false (row_counted s.structs t (term s.locals count) site)))
 
 abbrev pub allocation_if : Scope → CType → Option core.Expression → Site → Span → Verdict Typed
 allocation_if s t None site span = breaks E13 span

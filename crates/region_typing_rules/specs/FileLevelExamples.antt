@@ -47,7 +47,7 @@ declared =
     × (bounds_of (e.Range (name 1) (name 1) here) ≡ breaks E16 here)
     × (object_bounds scope (declared_as (Some (record { kind = array_kinds.Checked; length = 3; span = here })) (e.Count (e.Number 3 here) here)) Int
     ≡ breaks E16 here)
-    × (variable_of (Some three) [] ≡ record { cells = []; is_sealed = true }) × (variable_of None [] ≡ open_variable [])
+    × (variable_of (Some three) [] ≡ record { cells = []; zero_ended = false; is_sealed = true }) × (variable_of None [] ≡ open_variable [])
 
 -- ---- names
 

@@ -278,7 +278,7 @@ room_for_first w g (d ∷ ds) = room_for w g.base g.span d
 
 -- a variable with its cells: no place leads to a pointer for which bounds are declared
 abbrev pub variable_of : Option Bounds → List Initial → Variable
-variable_of bounds cells = record { cells = cells; is_sealed = is_some bounds }
+variable_of bounds cells = record { cells = cells; zero_ended = false; is_sealed = is_some bounds }
 
 -- the initialisers are judged behind the children of all. variable-has-cells: a struct is declared, and has members (E10); those
 -- of a source whose names have a meaning are

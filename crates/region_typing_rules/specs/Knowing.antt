@@ -163,7 +163,7 @@ known_source vars (Some b) = picked (are_below vars b) (sources.Known b) sources
 abbrev pub source : (vars : ℕ) → Kind → (declared : Option Bounds) → core.Expression → Source
 source vars kinds.Array declared value = picked (is_null value) sources.Null (known_source vars (given_bounds declared value))
 source vars kinds.One declared value = picked (is_null value) sources.Null sources.Lost
-source vars kinds.Nt declared value = picked (is_null value) sources.Null sources.Lost
+source vars kinds.Nt declared value = picked (is_null value) sources.Null (known_source vars (given_bounds declared value))
 
 -- the constant, where a pointer is assigned itself plus a constant
 abbrev pub moved_from : ℕ → Option Behind → Option ℤ

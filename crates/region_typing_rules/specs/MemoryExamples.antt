@@ -93,7 +93,7 @@ abbrev pub from_to : Option ℕ → Term → Term → Bounds
 from_to base lo hi = record { base = base; lo = lo; hi = hi }
 
 abbrev pub at_node : Bounds → Option PointerBounds
-at_node b = Some (record { bounds = b; size = 4; site = site })
+at_node b = Some (record { bounds = b; size = 4; terminated = false; site = site })
 
 abbrev pub three : Bounds
 three = from_to None (term None 0) (term None 3)
@@ -161,7 +161,7 @@ becomes d = passing (declarator (λ byte. record { line = 1; col = 1 }) with_one
 -- null, and then new memory of so many elements
 abbrev three_made : core.Statement
 three_made =
-    let memory = core.Allocate (number 3) (record { type = Int; stride = 4; number = pos 0 } ∷ []) (at_node three) in
+    let memory = core.Allocate (number 3) (record { type = Int; stride = 4; number = pos 0 } ∷ []) false (at_node three) in
     both (core.SetLocal 2 core.Null) (core.SetLocal 2 memory)
 
 -- an array has a length that isn't too large, and neither bounds nor a value of its own. Its name stands for no place

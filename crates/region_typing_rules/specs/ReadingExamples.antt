@@ -36,7 +36,7 @@ abbrev upto_n : Bounds
 upto_n = record { base = None; lo = record { var = None; plus = pos 0 }; hi = record { var = Some 0; plus = pos 0 } }
 
 abbrev p : core.Expression
-p = core.Local 3 (Some (record { bounds = upto_n; size = 4; site = site }))
+p = core.Local 3 (Some (record { bounds = upto_n; size = 4; terminated = false; site = site }))
 
 abbrev number : ℕ → core.Expression
 number k = core.Number (pos k)

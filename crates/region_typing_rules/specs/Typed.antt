@@ -1,5 +1,5 @@
 -- What it is that a core has types: a rule for each form, by the types of what it is made of.
-use Rattle.std.specs.Prelude.{◌≡◌, ◌⊎◌, ℕ, ◌*◌, ◌<◌, ◌≤◌, Bool, true, false, List, [], ◌∷◌, length, take, replicate, pos}
+use Rattle.std.specs.Prelude.{◌≡◌, ◌⊎◌, ℕ, suc, ◌^◌, ◌*◌, ◌<◌, ◌≤◌, Bool, true, false, List, [], ◌∷◌, length, take, replicate, pos}
 use Rattle.std.specs.Prelude.{Option, Some, None, slice_get}
 use Rattle.std.specs.List.{AllByRecursion}
 use Rattle.std.proofs.Common.{ℤ}
@@ -13,9 +13,9 @@ use Rattle.pointer_modes.specs.Layout.{size_of}
 use Rattle.bounds_exprs.specs.declared.term.Bounds.{Bounds}
 use Rattle.bounds_exprs.specs.declared.term.Term.{Term}
 use Rattle.bounds_exprs.specs.Changes.{ends_filled_in, moved_by}
-use Rattle.bounds_flow_meaning.specs.Holding.{AreInts, IsValid, HasSize, at_node, target_size, types_of}
+use Rattle.bounds_flow_meaning.specs.Holding.{AreInts, IsValid, HasSize, at_node, target_size, types_of, is_ended}
 use Rattle.bounds_flow_meaning.specs.Sums.{counted}
-use Rattle.bounds_flow_meaning.specs.Rows.{slots, HasRow, IsPlace, AreCellsOf}
+use Rattle.bounds_flow_meaning.specs.Rows.{slots, HasRow, IsOneCell, IsPlace, AreCellsOf, IsEndedPlace}
 use Rattle.ckc_core.specs.declared.program.Site.{Site}
 use Rattle.act_words.specs.declared.operator.Operator.{Operator}
 use Rattle.act_words.specs.declared.operator.Comparison.{Comparison}
@@ -28,7 +28,7 @@ use Rattle.ckc_core.specs.Core.{Parted, Function, Expression, Arguments, Place, 
 use Rattle.ckc_core.specs.declared.program.Direction.{Direction}
 use Rattle.ckc_core.specs.States.{Value, Number, Null, At, Local, State, Shape, shape, type_at, has_type, initial_value, object_block}
 use Rattle.ckc_core.specs.Meaning.{bounds_of}
-use Rattle.ckc_core.specs.Steps.{is_char}
+use Rattle.ckc_core.specs.Steps.{is_char, is_zero}
 use Rattle.ckc_core.specs.Pointers.{element_size}
 use Rattle.region_typing_rules.specs.Types.{is_number, is_scalar}
 use Rattle.region_typing_rules.specs.Scopes.{Scope}
@@ -53,8 +53,17 @@ pub record Frame : Type 0 where
 abbrev pub HasBounds : List Structure → CType → Option PointerBounds → Type 0
 HasBounds structs t b = (site : Site) × (b ≡ bounds_at structs t site)
 
--- A value of a type: a number in its range, null, or a place. At the place of a `ptr` stands what it points to; of a pointer with
--- bounds, its bounds say more.
+-- so many numbers of a type stand in a block of this shape, and a zero behind them, to which pointers may lead
+pub record IsEndedRow (structs : List Structure) (s : Shape) (type : CType) (n : ℕ) : Type 0 where
+  pub number : is_number type ≡ true
+  pub ended : s.zero_ended ≡ true
+  pub unsealed : s.is_sealed ≡ false
+  pub types : s.types ≡ replicate (suc n) type
+  pub strides : s.strides ≡ replicate (suc n) (size_of structs type)
+  pub some : 1 ≤ size_of structs type
+
+-- A value of a type: a number in its range, null, or a place. At the place of a `ptr` stands what it points to, and at that of a
+-- null-terminated pointer a number in a row that a zero ends; of a pointer with bounds, its bounds say more.
 abbrev pub HasValue : List Structure → List Shape → CType → Value → Type 0
 HasValue structs blocks Int (Number z) = has_type Int (Number z) ≡ true
 HasValue structs blocks Int Null = ⊥
@@ -67,7 +76,7 @@ HasValue structs blocks (Pointer mode kind target) (Number z) = ⊥
 HasValue structs blocks (Pointer mode kind target) Null = Unit {0}
 HasValue structs blocks (Pointer mode kinds.One target) (At block byte) = IsPlace structs blocks target block byte
 HasValue structs blocks (Pointer mode kinds.Array target) (At block byte) = Unit {0}
-HasValue structs blocks (Pointer mode kinds.Nt target) (At block byte) = Unit {0}
+HasValue structs blocks (Pointer mode kinds.Nt target) (At block byte) = (is_number target ≡ true) × IsEndedPlace structs blocks target block byte false
 
 -- a cell before the run, which leads nowhere
 abbrev pub IsInitial : List Structure → Initial → Type 0
@@ -115,12 +124,13 @@ pub record AreConstant (b : Bounds) : Type 0 where
   pub hi : b.hi.var ≡ None
 
 -- a file-level pointer with the bounds that are declared for it, to which no other place leads
-pub record IsBoundedObject (g : Frame) (object : ℕ) (mode : Mode) (t : CType) (b : Bounds) : Type 0 where
+pub record IsBoundedObject (g : Frame) (object : ℕ) (mode : Mode) (kind : Kind) (t : CType) (b : Bounds) : Type 0 where
   pub variable : Variable
   pub found : slice_get g.program.objects object ≡ Some variable
   pub declared : slice_get g.object_bounds object ≡ Some (Some b)
   pub sealed : variable.is_sealed ≡ true
-  pub pointer : type_at (shape (object_block variable)) 0 ≡ Some (Pointer mode kinds.Array t)
+  pub unended : variable.zero_ended ≡ false
+  pub pointer : type_at (shape (object_block variable)) 0 ≡ Some (Pointer mode kind t)
   pub some : 0 < size_of g.structs t
   pub limited : AreLimited b
   pub constant : AreConstant b
@@ -178,12 +188,30 @@ AreAsked structs here terms pointers (core.More e rest) [] = Unit {0}
 AreAsked structs here terms pointers (core.More e rest) (b ∷ bounds) =
     IsAskedAt structs here terms pointers e b × AreAsked structs here terms pointers rest bounds
 
+-- a pointer of this kind counts the elements of an array
+abbrev pub Counts : Kind → Type 0
+Counts kinds.One = ⊥
+Counts kinds.Array = Unit {0}
+Counts kinds.Nt = Unit {0}
+
+-- a pointer that counts elements is one of the same kind, or one to an array
+abbrev pub CountsAs : Kind → Kind → Type 0
+CountsAs kinds.Array kinds.Array = Unit {0}
+CountsAs kinds.Nt kinds.Array = Unit {0}
+CountsAs kinds.Nt kinds.Nt = Unit {0}
+CountsAs _ _ = ⊥
+
+-- bounds at a node of a pointer of the type
+pub record IsNodeOf (structs : List Structure) (type : CType) (p : PointerBounds) : Type 0 where
+  pub size : p.size ≡ target_size structs type
+  pub terminated : p.terminated ≡ is_ended type
+
 -- the bounds of a call are those of its type, or those that are declared for its result, over what stands for the parameters
 pub data HasCallBounds (structs : List Structure) (locals : List CType) (terms : List (Option Term)) :
     CType → Option Bounds → Option PointerBounds → Type 0 where
   by_type : {t : CType} {declared : Option Bounds} {b : Option PointerBounds} → HasBounds structs t b → HasCallBounds structs locals terms t declared b
   by_result : {mode : Mode} {target : CType} {declared : Bounds} {p : PointerBounds} → ends_filled_in terms declared ≡ Some p.bounds
-      → p.size ≡ size_of structs target → 0 < size_of structs target → AreLimited p.bounds → p.bounds.base ≡ None → AreInts locals p.bounds
+      → IsNodeOf structs (Pointer mode kinds.Array target) p → 0 < size_of structs target → AreLimited p.bounds → p.bounds.base ≡ None → AreInts locals p.bounds
       → HasCallBounds structs locals terms (Pointer mode kinds.Array target) (Some declared) (Some p)
 
 -- so many values of the type stand in a row from the beginning of a block of this shape on
@@ -197,9 +225,9 @@ pub data AreSumBounds (types : List CType) (e : Expression) (direction : Directi
   unknown : AreSumBounds types e direction i p None
   based : {base : ℕ} {site : Site} → p.bounds.base ≡ Some base → AreSumBounds types e direction i p (Some (record p { site = site }))
   beside : {d : Bounds} {site : Site} → based_bounds e ≡ Some d
-      → AreSumBounds types e direction i p (Some (record { bounds = d; size = p.size; site = site }))
+      → AreSumBounds types e direction i p (Some (record { bounds = d; size = p.size; terminated = p.terminated; site = site }))
   moved : {c : ℤ} {q : Bounds} {site : Site} → p.bounds.base ≡ None → constant types i ≡ Some c → moved_by (against direction c) p.bounds ≡ Some q
-      → AreSumBounds types e direction i p (Some (record { bounds = q; size = p.size; site = site }))
+      → AreSumBounds types e direction i p (Some (record { bounds = q; size = p.size; terminated = p.terminated; site = site }))
 
 -- the cells of an element of new memory: values of the type stand in a row of them, and they begin with zeros
 pub record IsNewElement (structs : List Structure) (t : CType) (element : List Initial) : Type 0 where
@@ -210,11 +238,18 @@ pub record IsNewElement (structs : List Structure) (t : CType) (element : List I
   pub initial : AllByRecursion (IsInitial structs) element
   pub roomy : AllByRecursion IsRoomy element
 
+-- an element of new memory that a zero ends: a number, which begins as 0
+pub record IsNewNumber (structs : List Structure) (t : CType) (element : List Initial) : Type 0 where
+  pub number : is_number t ≡ true
+  pub cell : IsOneCell structs t element
+  pub initial : AllByRecursion (IsInitial structs) element
+  pub roomy : AllByRecursion IsRoomy element
+
 -- The bounds of new memory: they are unknown, or those of as many elements as the term of their number.
-pub data AreNewBounds (structs : List Structure) (types : List CType) (count : Expression) (t : CType) : Option PointerBounds → Type 0 where
-  uncounted : AreNewBounds structs types count t None
+pub data AreNewBounds (structs : List Structure) (types : List CType) (count : Expression) (kind : Kind) (t : CType) : Option PointerBounds → Type 0 where
+  uncounted : AreNewBounds structs types count kind t None
   by_term : {n : Term} {site : Site} → term types count ≡ Some n
-      → AreNewBounds structs types count t (Some (at_node (counted n) (size_of structs t) site))
+      → AreNewBounds structs types count kind t (Some (at_node (counted n) (size_of structs t) (is_ended (Pointer modes.Checked kind t)) site))
 
 -- bounds name `int` locals, and count from a local or from none
 pub record AreNamed (types : List CType) (b : Bounds) : Type 0 where
@@ -239,11 +274,11 @@ pub record IsBaseOf (locals : List CType) (e : Expression) (k : ℕ) : Type 0 wh
   pub target : CType
   pub pointer : slice_get locals k ≡ Some (Pointer mode kind target)
 
--- a pointer has these bounds at its node, of elements of the type
+-- a pointer of a type has these bounds at its node, of elements that have bytes
 pub record HasElements (structs : List Structure) (e : Expression) (type : CType) (p : PointerBounds) : Type 0 where
   pub bounds : bounds_of e ≡ Some p
-  pub size : p.size ≡ size_of structs type
-  pub some : 0 < size_of structs type
+  pub node : IsNodeOf structs type p
+  pub some : 0 < target_size structs type
 
 -- ---- expressions
 
@@ -256,35 +291,39 @@ mutual
     local : {here : Scope} {k : ℕ} {t : CType} {b : Option PointerBounds} → slice_get here.locals k ≡ Some t → HasBounds g.structs t b
         → HasType g locals here (core.Local k b) t
     -- a pointer with the bounds that are in force
-    bounded : {here : Scope} {k : ℕ} {mode : Mode} {t : CType} {p : PointerBounds} → slice_get here.locals k ≡ Some (Pointer mode kinds.Array t)
-        → p.size ≡ size_of g.structs t → AreLimited p.bounds → AreNamed here.locals p.bounds → IsInForce g.structs here k p.bounds
-        → HasType g locals here (core.Local k (Some p)) (Pointer mode kinds.Array t)
+    bounded : {here : Scope} {k : ℕ} {mode : Mode} {kind : Kind} {t : CType} {p : PointerBounds} → slice_get here.locals k ≡ Some (Pointer mode kind t)
+        → IsNodeOf g.structs (Pointer mode kind t) p → AreLimited p.bounds → AreNamed here.locals p.bounds → IsInForce g.structs here k p.bounds
+        → HasType g locals here (core.Local k (Some p)) (Pointer mode kind t)
     -- each char is an int
     widened : {here : Scope} {e : Expression} → HasType g locals here e Char → HasType g locals here e Int
     -- a pointer to the element at which a pointer with bounds stands
-    single : {here : Scope} {e : Expression} {mode : Mode} {t : CType} {p : PointerBounds} → HasType g locals here e (Pointer mode kinds.Array t)
-        → HasElements g.structs e t p → LeadsToOne g.structs here p.bounds → HasType g locals here e (Pointer mode kinds.One t)
+    single : {here : Scope} {e : Expression} {mode : Mode} {kind : Kind} {t : CType} {p : PointerBounds} → HasType g locals here e (Pointer mode kind t)
+        → HasElements g.structs e (Pointer mode kind t) p → LeadsToOne g.structs here p.bounds → HasType g locals here e (Pointer mode kinds.One t)
     -- a pointer to one element as one with bounds, and one into an array that a zero ends
     row : {here : Scope} {e : Expression} {mode : Mode} {t : CType} → HasType g locals here e (Pointer mode kinds.One t)
         → HasBounds g.structs (Pointer mode kinds.One t) (bounds_of e) → HasType g locals here e (Pointer mode kinds.Array t)
-    ended_row : {here : Scope} {e : Expression} {mode : Mode} {t : CType} → HasType g locals here e (Pointer mode kinds.Nt t) → bounds_of e ≡ None
+    ended_row : {here : Scope} {e : Expression} {mode : Mode} {t : CType} → HasType g locals here e (Pointer mode kinds.Nt t)
         → HasType g locals here e (Pointer mode kinds.Array t)
-    load : {here : Scope} {t : CType} {p : Place} {b : Option PointerBounds} → is_scalar t ≡ true → HasPlace g locals here p t → HasBounds g.structs t b
+    load : {here : Scope} {t : CType} {p : Place} {b : Option PointerBounds} → is_scalar t ≡ true → HasAccess g locals here p t → HasBounds g.structs t b
         → HasType g locals here (core.Load t p b) t
     -- a file-level pointer with the bounds that are declared for it
-    bounded_object : {here : Scope} {object : ℕ} {mode : Mode} {t : CType} {p : PointerBounds} → IsBoundedObject g object mode t p.bounds
-        → p.size ≡ size_of g.structs t
-        → HasType g locals here (core.Load (Pointer mode kinds.Array t) (core.Direct object 0) (Some p)) (Pointer mode kinds.Array t)
+    bounded_object : {here : Scope} {object : ℕ} {mode : Mode} {kind : Kind} {t : CType} {p : PointerBounds} → IsBoundedObject g object mode kind t p.bounds
+        → IsNodeOf g.structs (Pointer mode kind t) p
+        → HasType g locals here (core.Load (Pointer mode kind t) (core.Direct object 0) (Some p)) (Pointer mode kind t)
     address_of : {here : Scope} {mode : Mode} {t : CType} {p : Place} {b : Option PointerBounds} → HasPlace g locals here p t
         → HasBounds g.structs (Pointer mode kinds.One t) b → HasType g locals here (core.AddressOf p b) (Pointer mode kinds.One t)
     -- an array of 1 to 8,192 elements
     array : {here : Scope} {object n : ℕ} {t : CType} {p : PointerBounds} {v : Variable} → slice_get g.program.objects object ≡ Some v
-        → 0 < n → n ≤ 8192 → AreRows g.structs (shape (object_block v)) t n → p.bounds ≡ row_of n → p.size ≡ size_of g.structs t
+        → 0 < n → n ≤ 8192 → AreRows g.structs (shape (object_block v)) t n → p.bounds ≡ row_of n → IsNodeOf g.structs (Pointer modes.Checked kinds.Array t) p
         → HasType g locals here (core.AddressOf (core.Direct object 0) (Some p)) (Pointer modes.Checked kinds.Array t)
-    sum : {here : Scope} {e i : Expression} {mode : Mode} {t : CType} {direction : Direction} {site : Site} {p : PointerBounds} {b : Option PointerBounds}
-        → HasType g locals here e (Pointer mode kinds.Array t) → HasElements g.structs e t p → HasType g locals here i Int
+    -- a string, or an array that a zero ends, of at most 8,191 elements before it
+    ended_array : {here : Scope} {object n : ℕ} {t : CType} {p : PointerBounds} {v : Variable} → slice_get g.program.objects object ≡ Some v
+        → n ≤ 8191 → IsEndedRow g.structs (shape (object_block v)) t n → p.bounds ≡ row_of n → IsNodeOf g.structs (Pointer modes.Checked kinds.Nt t) p
+        → HasType g locals here (core.AddressOf (core.Direct object 0) (Some p)) (Pointer modes.Checked kinds.Nt t)
+    sum : {here : Scope} {e i : Expression} {mode : Mode} {kind : Kind} {t : CType} {direction : Direction} {site : Site} {p : PointerBounds} {b : Option PointerBounds}
+        → Counts kind → HasType g locals here e (Pointer mode kind t) → HasElements g.structs e (Pointer mode kind t) p → HasType g locals here i Int
         → AreSumBounds here.locals e direction i p b
-        → HasType g locals here (core.Sum e direction i site b) (Pointer mode kinds.Array t)
+        → HasType g locals here (core.Sum e direction i site b) (Pointer mode kind t)
     negate : {here : Scope} {e : Expression} {site : Site} → HasType g locals here e Int → HasType g locals here (core.Negate e site) Int
     complement : {here : Scope} {e : Expression} → HasType g locals here e Int → HasType g locals here (core.Complement e) Int
     inverse : {here : Scope} {e : Expression} {t : CType} → HasType g locals here e t → HasType g locals here (core.Not e) Int
@@ -295,8 +334,8 @@ mutual
     same : {here : Scope} {mode mode' : Mode} {kind kind' : Kind} {t t' : CType} {a b : Expression} → HasType g locals here a (Pointer mode kind t)
         → HasType g locals here b (Pointer mode' kind' t') → HasType g locals here (core.Same a b) Int
     -- two pointers that count from one local pointer
-    order : {here : Scope} {comparison : Comparison} {a b : Expression} {mode mode' : Mode} {t t' : CType} {k : ℕ} {site : Site}
-        → HasType g locals here a (Pointer mode kinds.Array t) → CountsFrom a k → HasType g locals here b (Pointer mode' kinds.Array t') → CountsFrom b k
+    order : {here : Scope} {comparison : Comparison} {a b : Expression} {mode mode' : Mode} {kind kind' : Kind} {t t' : CType} {k : ℕ} {site : Site}
+        → HasType g locals here a (Pointer mode kind t) → CountsFrom a k → HasType g locals here b (Pointer mode' kind' t') → CountsFrom b k
         → HasType g locals here (core.Order comparison a b site) Int
     -- the right operand stands where the left one came out so
     both : {here : Scope} {a b : Expression} {t t' : CType} → HasType g locals here a t → HasType g locals (when a true here) b t'
@@ -311,19 +350,26 @@ mutual
     next_input : {here : Scope} → HasType g locals here core.NextInput Int
     -- new memory, or null
     allocate : {here : Scope} {count : Expression} {t : CType} {element : List Initial} {b : Option PointerBounds} → HasType g locals here count Int
-        → IsNewElement g.structs t element → AreNewBounds g.structs here.locals count t b
-        → HasType g locals here (core.Allocate count element b) (Pointer modes.Checked kinds.Array t)
+        → IsNewElement g.structs t element → AreNewBounds g.structs here.locals count kinds.Array t b
+        → HasType g locals here (core.Allocate count element false b) (Pointer modes.Checked kinds.Array t)
+    -- the same with a zero behind it
+    allocate_ended : {here : Scope} {count : Expression} {t : CType} {element : List Initial} {b : Option PointerBounds} → HasType g locals here count Int
+        → IsNewNumber g.structs t element → AreNewBounds g.structs here.locals count kinds.Nt t b
+        → HasType g locals here (core.Allocate count element true b) (Pointer modes.Checked kinds.Nt t)
+    -- how many bytes stand before the first zero
+    byte_count : {here : Scope} {mode : Mode} {e : Expression} {p : PointerBounds} {site : Site} → HasType g locals here e (Pointer mode kinds.Nt Char)
+        → HasElements g.structs e (Pointer mode kinds.Nt Char) p → HasType g locals here (core.Length e site) Int
     -- a pointer with other bounds, which count from no base or from one of its own
-    cast : {here : Scope} {e : Expression} {mode : Mode} {t : CType} {p q : PointerBounds} → HasType g locals here e (Pointer mode kinds.Array t)
-        → HasElements g.structs e t p → AreLocalsOf locals here → q.size ≡ size_of g.structs t → AreLimited q.bounds → AreInts here.locals q.bounds
-        → ((k : ℕ) → q.bounds.base ≡ Some k → IsBaseOf here.locals e k) → HasType g locals here (core.Cast e (Some q)) (Pointer mode kinds.Array t)
+    cast : {here : Scope} {e : Expression} {mode : Mode} {kind kind' : Kind} {t : CType} {p q : PointerBounds} → HasType g locals here e (Pointer mode kind t)
+        → HasElements g.structs e (Pointer mode kind t) p → CountsAs kind kind' → AreLocalsOf locals here → IsNodeOf g.structs (Pointer mode kind' t) q → AreLimited q.bounds → AreInts here.locals q.bounds
+        → ((k : ℕ) → q.bounds.base ≡ Some k → IsBaseOf here.locals e k) → HasType g locals here (core.Cast e (Some q)) (Pointer mode kind' t)
     -- one to the element at which it stands
-    cast_single : {here : Scope} {e : Expression} {t : CType} {p : PointerBounds} {b : Option PointerBounds}
-        → HasType g locals here e (Pointer modes.Checked kinds.Array t) → HasElements g.structs e t p → AreLocalsOf locals here
+    cast_single : {here : Scope} {e : Expression} {kind : Kind} {t : CType} {p : PointerBounds} {b : Option PointerBounds}
+        → HasType g locals here e (Pointer modes.Checked kind t) → HasElements g.structs e (Pointer modes.Checked kind t) p → AreLocalsOf locals here
         → HasBounds g.structs (Pointer modes.Checked kinds.One t) b → HasType g locals here (core.Cast e b) (Pointer modes.Checked kinds.One t)
     -- one without bounds
-    cast_unbounded : {here : Scope} {e : Expression} {mode : Mode} {t : CType} {p : PointerBounds}
-        → HasType g locals here e (Pointer mode kinds.Array t) → HasElements g.structs e t p
+    cast_unbounded : {here : Scope} {e : Expression} {mode : Mode} {kind : Kind} {t : CType} {p : PointerBounds}
+        → HasType g locals here e (Pointer mode kind t) → HasElements g.structs e (Pointer mode kind t) p
         → HasType g locals here (core.Cast e None) (Pointer mode kinds.Array t)
 
   -- arguments, and the types of the parameters
@@ -342,13 +388,20 @@ mutual
         → HasType g locals here e (Pointer mode kinds.One (Struct n))
         → slice_get (slots g.structs (Struct n)) k ≡ Some (record { type = t; offset = offset }) → is_scalar t ≡ true
         → HasPlace g locals here (core.Through e core.First offset site) t
-    element : {here : Scope} {mode : Mode} {e i : Expression} {t : CType} {p : PointerBounds} {site : Site}
-        → HasType g locals here e (Pointer mode kinds.Array t) → HasElements g.structs e t p → HasType g locals here i Int
-        → HasPlace g locals here (core.Through e (core.Element i) 0 site) t
-    element_member : {here : Scope} {mode : Mode} {e i : Expression} {n offset : ℕ} {t : CType} {p : PointerBounds} {site : Site} (k : ℕ)
-        → HasType g locals here e (Pointer mode kinds.Array (Struct n)) → HasElements g.structs e (Struct n) p → HasType g locals here i Int
+    element : {here : Scope} {mode : Mode} {kind : Kind} {e i : Expression} {t : CType} {p : PointerBounds} {site : Site}
+        → HasType g locals here e (Pointer mode kind t) → HasElements g.structs e (Pointer mode kind t) p → HasType g locals here i Int
+        → HasPlace g locals here (core.Through e (core.Element i false) 0 site) t
+    element_member : {here : Scope} {mode : Mode} {kind : Kind} {e i : Expression} {n offset : ℕ} {t : CType} {p : PointerBounds} {site : Site} (k : ℕ)
+        → HasType g locals here e (Pointer mode kind (Struct n)) → HasElements g.structs e (Pointer mode kind (Struct n)) p → HasType g locals here i Int
         → slice_get (slots g.structs (Struct n)) k ≡ Some (record { type = t; offset = offset }) → is_scalar t ≡ true
-        → HasPlace g locals here (core.Through e (core.Element i) offset site) t
+        → HasPlace g locals here (core.Through e (core.Element i false) offset site) t
+
+  -- where a cell is read or written: a place, or an element of a null-terminated pointer, which may be the zero at its upper end
+  pub data HasAccess (g : Frame) (locals : List CType) : Scope → Place → CType → Type 0 where
+    at_place : {here : Scope} {p : Place} {t : CType} → HasPlace g locals here p t → HasAccess g locals here p t
+    ended : {here : Scope} {mode : Mode} {e i : Expression} {t : CType} {p : PointerBounds} {site : Site}
+        → HasType g locals here e (Pointer mode kinds.Nt t) → HasElements g.structs e (Pointer mode kinds.Nt t) p → HasType g locals here i Int
+        → HasAccess g locals here (core.Through e (core.Element i true) 0 site) t
 
 -- ---- statements
 
@@ -356,15 +409,15 @@ mutual
 pub data IsSimple (g : Frame) (locals : List CType) (here : Scope) : Statement → Type 0 where
   nothing : IsSimple g locals here core.Nothing
   set_local : {k : ℕ} {t : CType} {e : Expression} → slice_get locals k ≡ Some t → HasType g locals here e t → IsSimple g locals here (core.SetLocal k e)
-  store : {t : CType} {p : Place} {e : Expression} → is_scalar t ≡ true → HasPlace g locals here p t → HasType g locals here e t
+  store : {t : CType} {p : Place} {e : Expression} → is_scalar t ≡ true → HasAccess g locals here p t → HasType g locals here e t
       → IsSimple g locals here (core.Store t p e)
   -- a file-level pointer is asked for the bounds that are declared for it
-  store_bounded : {object : ℕ} {mode : Mode} {t : CType} {b : Bounds} {e : Expression} → IsBoundedObject g object mode t b
+  store_bounded : {object : ℕ} {mode : Mode} {t : CType} {b : Bounds} {e : Expression} → IsBoundedObject g object mode kinds.Array t b
       → HasType g locals here e (Pointer mode kinds.Array t) → IsAsked g.structs here e b
       → IsSimple g locals here (core.Store (Pointer mode kinds.Array t) (core.Direct object 0) e)
   update_local : {char : Bool} {k : ℕ} {t : CType} {operator : Operator} {e : Expression} {site : Site} → slice_get locals k ≡ Some t
       → is_number t ≡ true → is_char t ≡ char → HasType g locals here e Int → IsSimple g locals here (core.UpdateLocal char k operator e site)
-  update : {t : CType} {p : Place} {operator : Operator} {e : Expression} {site : Site} → is_number t ≡ true → HasPlace g locals here p t
+  update : {t : CType} {p : Place} {operator : Operator} {e : Expression} {site : Site} → is_number t ≡ true → HasAccess g locals here p t
       → HasType g locals here e Int → IsSimple g locals here (core.Update t p operator e site)
   evaluate : {e : Expression} {t : CType} → HasType g locals here e t → IsSimple g locals here (core.Evaluate e)
   call_alone : {callee : Callee} {ts : List CType} {bs : List (Option Bounds)} {r : Option Bounds} {arguments : Arguments} → IsCallee g callee ts bs None r
@@ -421,12 +474,22 @@ pub record IsFunction (g : Frame) (f : Function) : Type 0 where
   pub body : AreStatements g f.locals f.result bounds false f.body
 
 -- a program of two sides with its structs has types, and a `main` without parameters that gives a number
+-- a variable has few cells, and the last one begins as 0
+pub record IsEnded (v : Variable) : Type 0 where
+  pub few : length v.cells ≤ 2 ^ 31
+  pub zero : (k : ℕ) (i : Initial) → slice_get v.cells k ≡ Some i → suc k ≡ length v.cells → is_zero (initial_value i.type i.number) ≡ true
+
+-- the same of one that a zero ends
+abbrev pub EndsInZero : Variable → Type 0
+EndsInZero v = v.zero_ended ≡ true → IsEnded v
+
 pub record IsTyped (program : Parted) : Type 0 where
   pub structs : List Structure
   pub bounds : List (List (Option Bounds))
   pub result_bounds : List (Option Bounds)
   pub object_bounds : List (Option Bounds)
   pub objects : AllByRecursion (λ (v : Variable). AllByRecursion (IsInitial structs) v.cells) program.objects
+  pub zeros : AllByRecursion EndsInZero program.objects
   pub functions : AllByRecursion (IsFunction (record {
     program = program;
     structs = structs;

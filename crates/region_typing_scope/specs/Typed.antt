@@ -22,7 +22,7 @@ use Rattle.region_typing_scope.specs.declared.typed.Typed.TheVariants as forms
 abbrev pub base_place : code_base.Base → core.Place
 base_place (bases.Object object) = core.Direct object 0
 base_place (bases.Behind pointer site) = core.Through (expression pointer.value) core.First 0 site
-base_place (bases.Element pointer number site) = core.Through (expression pointer.value) (core.Element (expression number.value)) 0 site
+base_place (bases.Element pointer number site) = core.Through (expression pointer.value) (core.Element (expression number.value) false) 0 site
 
 -- where a struct stands
 abbrev pub struct_place : code_place.StructPlace → Lvalue

@@ -59,6 +59,7 @@ pub fn bounds_at(structs: &Structs, t: &CType, site: Site) -> Option<PointerBoun
             let bounds = PointerBounds {
                 bounds: row_of(1),
                 size: structs.size_of(target),
+                terminated: false,
                 site,
             };
             bounds_by(*mode, *kind, bounds)
@@ -95,6 +96,7 @@ pub fn in_force(
             Some(bounds) => Some(PointerBounds {
                 bounds,
                 size: structs.size_of(target),
+                terminated: false,
                 site,
             }),
         },
@@ -128,9 +130,15 @@ fn noted(value: Expr, bounds: Option<PointerBounds>) -> Expr
             site,
             bounds,
         },
-        Expr::Allocate { count, element, .. } => Expr::Allocate {
+        Expr::Allocate {
             count,
             element,
+            terminated,
+            ..
+        } => Expr::Allocate {
+            count,
+            element,
+            terminated,
             bounds,
         },
         Expr::Cast { pointer, .. } => Expr::Cast { pointer, bounds },
@@ -257,6 +265,7 @@ pub fn array(
     let bounds = PointerBounds {
         bounds: row_of(length),
         size: structs.size_of(&element),
+        terminated: false,
         site,
     };
     let element = context.boxed(element)?;
@@ -278,13 +287,16 @@ pub fn sum_node(
 ) -> Option<PointerBounds>
     ensures { result ≡ sum_node_of (map ctype_of locals.now) direction (expression pointer.now) (expression number.now) site }
 {
-    let size = bounds_of(pointer)?.size;
+    let own = bounds_of(pointer)?;
     let moved = sum_bounds(direction, constant(locals, number), own_bounds(pointer));
-    match moved {
-        Some(bounds) => Some(PointerBounds { bounds, size, site }),
-        None => {
-            let bounds = based_bounds(pointer)?;
-            Some(PointerBounds { bounds, size, site })
-        }
-    }
+    let bounds = match moved {
+        Some(bounds) => bounds,
+        None => based_bounds(pointer)?,
+    };
+    Some(PointerBounds {
+        bounds,
+        size: own.size,
+        terminated: own.terminated,
+        site,
+    })
 }

@@ -143,7 +143,10 @@ pub fn first_cell(base: Base) -> CellPlace
             site,
         } => CellPlace::Through {
             pointer,
-            index: Index::Element(number),
+            index: Index::Element {
+                number,
+                terminated: false,
+            },
             offset: 0,
             site,
         },

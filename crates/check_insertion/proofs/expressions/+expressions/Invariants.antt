@@ -59,6 +59,9 @@ decreases-order l = 4 * max (size-Expr l.left.now) (size-Expr l.right.now) + 2
 abbrev pub decreases-allocate : goal.decreases-allocate
 decreases-allocate l = 4 * size-Expr l.count.now + 2
 
+abbrev pub decreases-length : goal.decreases-length
+decreases-length l = 4 * size-Expr l.pointer.now + 2
+
 abbrev pub decreases-cast : goal.decreases-cast
 decreases-cast l = 4 * size-Expr l.pointer.now + 2
 

@@ -10,7 +10,7 @@ use Rattle.lowering.proofs.statement_code.emit_store.Goals as goal
 pub returns : goal.returns
 returns c =
     IfOk-weaker c.emit_behind_value.result _ _ (λ _ e.
-    store_emitted (ctype c.args.ctype.now) (place c.args.cell.now) (expression c.args.value.now) c.args.targets.scratch c.args.ops.now.items c.emit_before_value.new.ops.items c.emit_expression.new.ops.items c.emit_behind_value.new.ops.items
+    store_emitted (ctype c.args.ctype.now) (place c.args.cell.now) (expression c.args.value.now) c.args.end c.args.targets.scratch c.args.ops.now.items c.emit_before_value.new.ops.items c.emit_expression.new.ops.items c.emit_behind_value.new.ops.items
     c.in_ok-emit_before_value.ensures c.in_ok-emit_expression.ensures e)
     c.emit_behind_value.ensures
 

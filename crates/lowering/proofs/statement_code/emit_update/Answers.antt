@@ -1,25 +1,23 @@
-use Rattle.std.proofs.Common.{length, refl, arith}
+use Rattle.std.proofs.Common.{sym, ap, ◌∙◌}
 use Rattle.std.proofs.lemmas.Result.{IfOk-weaker}
 use Rattle.pointer_modes.specs.Types.{ctype}
-use Rattle.check_insertion.specs.Erased.{expression, place}
-use Rattle.lowering.specs.Code.{place_size, place_code}
-use Rattle.lowering.specs.Views.{targets_of}
-use Rattle.lowering.proofs.Sizes.{length_place}
-use Rattle.lowering.proofs.Emitting.{place_after, update_emitted}
+use Rattle.ckc_core.specs.Steps.{is_char}
+use Rattle.check_insertion.specs.Erased.{Through, expression, place, index}
+use Rattle.lowering.specs.Code.{byte_size, expression_size}
+use Rattle.lowering.proofs.Emitting.{update_by_shape, room_by_shape}
 use Rattle.lowering.proofs.statement_code.emit_update.Goals as goal
 
 pub returns : goal.returns
 returns c =
-    IfOk-weaker c.emit_result.result _ _ (λ _ e.
-    update_emitted (targets_of c.args.targets) (ctype c.args.ctype.now) (place c.args.cell.now) (expression c.args.value.now) c.args.operator c.args.site c.operator_op-op.result c.load_op.result c.store_op.result c.has_one_byte.result
-    c.args.ops.now.items c.emit_place.new.ops.items c.put_two.new.ops.items c.emit_expression.new.ops.items c.emit_result.new.ops.items
-    c.operator_op-op.ensures c.load_op.ensures c.has_one_byte.ensures c.store_op.ensures c.in_ok-emit_place.ensures c.in_ok-put_two.ensures c.in_ok-emit_expression.ensures e)
-    c.emit_result.ensures
+    IfOk-weaker c.emit_ended.result _ _ (λ _ e.
+    update_by_shape c.args.slot (ctype c.args.ctype.now) (place c.args.cell.now) (expression c.in-Through.pointer.value) (index c.in-Through.index) (expression c.in-Element.number.value) c.in-Element.size c.in-Through.offset c.as_slice.result.now (expression c.args.value.now) c.args.operator c.args.site c.args.end c.in-Some.reading
+    (ap place c.in-Through.is ∙ ap (Through (expression c.in-Through.pointer.value) (index c.in-Through.index) c.in-Through.offset) (sym c.as_slice.ensures.value)) (ap index c.in-Element.is) c.in-Some.is c.operator_op.result c.has_one_byte.result
+    c.args.ops.now.items c.emit_before_value.new.ops.items c.emit_old_value.new.ops.items c.emit_expression.new.ops.items c.emit_kept_result.new.ops.items c.emit_ended.new.ops.items
+    c.operator_op.ensures c.has_one_byte.ensures c.in_ok-emit_before_value.ensures c.in_ok-emit_old_value.ensures c.in_ok-emit_expression.ensures c.in_ok-emit_kept_result.ensures e)
+    c.emit_ended.ensures
 
 pub emit_expression-requires-clause-room : goal.emit_expression-requires-clause-room
 emit_expression-requires-clause-room c =
-    let old = c.args.ops.now.items in
-    let cell = place c.args.cell.now in
-    let there = place_after old c.emit_place.new.ops.items (place_code c.args.targets.scratch (length old) cell) (place_size cell) (length_place c.args.targets.scratch (length old) cell) c.in_ok-emit_place.ensures in
-    let loaded = place_after c.emit_place.new.ops.items c.put_two.new.ops.items _ 2 refl c.in_ok-put_two.ensures in
-    omega (arith, c.requires.room, there, loaded)
+    room_by_shape c.args.slot (ctype c.args.ctype.now) (place c.args.cell.now) (expression c.in-Through.pointer.value) (index c.in-Through.index) (expression c.in-Element.number.value) c.in-Element.size c.in-Through.offset c.as_slice.result.now c.args.end c.in-Some.reading
+    (ap place c.in-Through.is ∙ ap (Through (expression c.in-Through.pointer.value) (index c.in-Through.index) c.in-Through.offset) (sym c.as_slice.ensures.value)) (ap index c.in-Element.is) c.in-Some.is (expression_size (expression c.args.value.now)) (byte_size (is_char (ctype c.args.ctype.now)))
+    c.args.ops.now.items c.emit_before_value.new.ops.items c.emit_old_value.new.ops.items c.in_ok-emit_before_value.ensures c.in_ok-emit_old_value.ensures c.requires.room
