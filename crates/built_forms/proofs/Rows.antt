@@ -14,7 +14,6 @@ use Rattle.ckc_text.specs.declared.place.Span.{Span}
 use Rattle.ckc_tree.specs.Expressions.{expression, expressions}
 use Rattle.ckc_tree.specs.Statements.{statement, statements}
 use Rattle.ckc_tree.specs.Items.{statement_list}
-use Rattle.ckc_names_rules.specs.Given.{strlen}
 use Rattle.built_forms.specs.Built.{built_expression, built_expressions, built_statement, built_statements}
 
 -- ---- tests of lists
@@ -50,13 +49,12 @@ arguments_of_row n end_of-Expr = refl
 arguments_of_row n (more_of-Expr first rest) = ap (λ b. built_expression (expression first) && b) (arguments_of_row _ rest)
 
 -- whether a call is built
-pub call_built : (x : Expr) (callee : Identifier) (arguments : Vec Expr Global) (span : Span) (slice : List Expr) (r : Bool) → x ≡ exprs.Call callee arguments span → slice ≡ arguments.items → not (bytes_eq callee.name strlen) ≡ true → r ≡ list_all (λ y. built_expression (expression y)) slice → r ≡ built_expression (expression x)
-call_built x callee arguments span slice r is same other all =
+pub call_built : (x : Expr) (callee : Identifier) (arguments : Vec Expr Global) (span : Span) (slice : List Expr) (r : Bool) → x ≡ exprs.Call callee arguments span → slice ≡ arguments.items → r ≡ list_all (λ y. built_expression (expression y)) slice → r ≡ built_expression (expression x)
+call_built x callee arguments span slice r is same all =
     let row = arguments_row (exprs.Call callee arguments span) in
     all
     ∙ ap (list_all (λ y. built_expression (expression y))) same
     ∙ sym (arguments_of_row row.0 row.1 ∙ ap (list_all (λ y. built_expression (expression y))) (items_hidden-the_row-Expr-0 arguments))
-    ∙ sym (ap (λ b. b && built_expressions (expressions row.1)) other)
     ∙ ap (λ y. built_expression (expression y)) (sym is)
 
 abbrev statements_row : Stmt → (n : Count) × Row_of-Stmt n

@@ -1,20 +1,12 @@
 -- Which trees have only forms that are built.
-use Rattle.std.specs.Prelude.{Bool, true, false, not, ◌&&◌, ◌==◌, bytes_eq, Option, Some, None, is_none}
+use Rattle.std.specs.Prelude.{Bool, true, false, not, ◌&&◌, ◌==◌, Option, Some, None, is_none}
 use Rattle.std.specs.List.{list_all}
-use Rattle.ckc_names_rules.specs.Given.{strlen}
 use Rattle.ckc_tree.specs.declared.item.FunctionKind.{FunctionKind}
 use Rattle.ckc_tree.specs.declared.item.FunctionKind.TheVariants as function_kinds
 use Rattle.ckc_tree.specs.declared.expr.MallocWord.{MallocWord}
 use Rattle.ckc_tree.specs.declared.expr.MallocWord.TheVariants as malloc_words
-use Rattle.ckc_tree.specs.declared.expr.CallocWord.{CallocWord}
-use Rattle.ckc_tree.specs.declared.expr.CallocWord.TheVariants as calloc_words
 use Rattle.ckc_tree.specs.declared.type_form.PointerMode.{PointerMode}
 use Rattle.ckc_tree.specs.declared.type_form.PointerMode.TheVariants as modes
-use Rattle.ckc_tree.specs.declared.type_form.PointerKind.{PointerKind}
-use Rattle.ckc_tree.specs.declared.type_form.PointerKind.TheVariants as kinds
-use Rattle.ckc_tree.specs.declared.stmt.ArrayKind.{ArrayKind}
-use Rattle.ckc_tree.specs.declared.stmt.ArrayKind.TheVariants as arrays
-use Rattle.ckc_tree.specs.declared.stmt.ArrayForm.{ArrayForm}
 use Rattle.ckc_tree.specs.Types.{TypeTree, IntType, CharType, StructType, PointerType}
 use Rattle.ckc_tree.specs.Expressions as e
 use Rattle.ckc_tree.specs.Expressions.{Expression, Expressions, Bounds}
@@ -29,17 +21,12 @@ abbrev pub is_checked_mode : PointerMode → Bool
 is_checked_mode modes.Checked = true
 is_checked_mode modes.Tainted = false
 
-abbrev pub is_built_kind : PointerKind → Bool
-is_built_kind kinds.One = true
-is_built_kind kinds.Array = true
-is_built_kind kinds.NullTerminated = false
-
--- of the pointer words, `ptr` and `array_ptr` are built; stars are, too
+-- the checked pointer words are built; stars are, too
 abbrev pub built_type : TypeTree → Bool
 built_type (IntType span) = true
 built_type (CharType span) = true
 built_type (StructType tag span) = true
-built_type (PointerType word element stars span) = is_checked_mode word.mode && (is_built_kind word.kind && built_type element)
+built_type (PointerType word element stars span) = is_checked_mode word.mode && built_type element
 
 -- what crosses to the sandbox
 abbrev pub is_number_type : TypeTree → Bool
@@ -50,28 +37,24 @@ is_number_type (PointerType word element stars span) = false
 
 -- ---- expressions
 
--- of the words for new memory, `malloc` and `calloc` are built: those that give tainted memory, or memory that a zero ends, aren't
+-- of the words for new memory, those that give tainted memory aren't built
 abbrev pub is_built_malloc : MallocWord → Bool
 is_built_malloc malloc_words.Malloc = true
 is_built_malloc malloc_words.TMalloc = false
 
-abbrev pub is_built_calloc : CallocWord → Bool
-is_built_calloc calloc_words.Calloc = true
-is_built_calloc calloc_words.NtCalloc = false
-
 abbrev mutual
-  -- strings aren't built, nor is `strlen`
+  -- strings aren't built
   pub built_expression : Expression → Bool
   built_expression (e.Number value span) = true
   built_expression (e.Character value span) = true
   built_expression (e.Text bytes span) = false
   built_expression (e.Name name) = true
-  built_expression (e.Call callee arguments span) = not (bytes_eq callee.name strlen) && built_expressions arguments
+  built_expression (e.Call callee arguments span) = built_expressions arguments
   built_expression (e.SizeOf type span) = built_type type.base
   built_expression (e.Cast word type operand span) = built_type type.base && built_expression operand
   built_expression (e.BoundedCast word type operand bounds span) = built_type type.base && (built_expression operand && built_bounds bounds)
   built_expression (e.Malloc word type size span) = is_built_malloc word && (built_type type.base && built_expression size)
-  built_expression (e.Calloc word type count size span) = is_built_calloc word && (built_type type.base && (built_expression count && built_expression size))
+  built_expression (e.Calloc word type count size span) = built_type type.base && (built_expression count && built_expression size)
   built_expression (e.Index base index span) = built_expression base && built_expression index
   built_expression (e.Dot base member span) = built_expression base
   built_expression (e.Arrow base member span) = built_expression base
@@ -99,16 +82,9 @@ abbrev pub built_initializer : Initializer → Bool
 built_initializer (s.Value value) = built_expression value
 built_initializer (s.Constants constants span) = true
 
-abbrev pub is_checked_array : ArrayKind → Bool
-is_checked_array arrays.Checked = true
-is_checked_array arrays.NullTerminated = false
-
-abbrev pub built_array : ArrayForm → Bool
-built_array a = is_checked_array a.kind
-
 -- a variable may be an array, and may have bounds
 abbrev pub built_declarator : Declarator → Bool
-built_declarator d = optional built_array d.array && (optional built_bounds d.bounds && optional built_initializer d.initializer)
+built_declarator d = optional built_bounds d.bounds && optional built_initializer d.initializer
 
 abbrev pub built_declaration : Declaration → Bool
 built_declaration d = built_type d.base && list_all built_declarator d.declarators

@@ -6,9 +6,8 @@ ghost use Rattle.ckc_tree.specs.Types.{type_tree};
 ghost use Rattle.ckc_tree.specs.Expressions.{bounds, expression};
 ghost use Rattle.built_forms.specs.Built as built;
 
-use ckc_names_rules::given::STRLEN;
-use ckc_tree::expr::{BoundsText, CallocWord, Expr, MallocWord};
-use ckc_tree::type_form::{PointerKind, PointerMode, TypeForm};
+use ckc_tree::expr::{BoundsText, Expr, MallocWord};
+use ckc_tree::type_form::{PointerMode, TypeForm};
 
 /// Whether a type has only forms that are built.
 pub fn built_type(base: &TypeForm) -> bool
@@ -16,9 +15,7 @@ pub fn built_type(base: &TypeForm) -> bool
 {
     match base {
         TypeForm::Int { .. } | TypeForm::Char { .. } | TypeForm::Struct { .. } => true,
-        TypeForm::Pointer { word, element, .. } => {
-            is_checked(word.mode) && is_built_kind(word.kind) && built_type(element)
-        }
+        TypeForm::Pointer { word, element, .. } => is_checked(word.mode) && built_type(element),
     }
 }
 
@@ -28,15 +25,6 @@ fn is_checked(mode: PointerMode) -> bool
     match mode {
         PointerMode::Checked => true,
         PointerMode::Tainted => false,
-    }
-}
-
-fn is_built_kind(kind: PointerKind) -> bool
-    ensures { result ≡ built.is_built_kind kind }
-{
-    match kind {
-        PointerKind::One | PointerKind::Array => true,
-        PointerKind::NullTerminated => false,
     }
 }
 
@@ -59,15 +47,6 @@ fn is_built_malloc(word: MallocWord) -> bool
     }
 }
 
-fn is_built_calloc(word: CallocWord) -> bool
-    ensures { result ≡ built.is_built_calloc word }
-{
-    match word {
-        CallocWord::Calloc => true,
-        CallocWord::NtCalloc => false,
-    }
-}
-
 /// Whether an expression has only forms that are built.
 #[cycle(expressions)]
 pub fn built_expression(written: &Expr) -> bool
@@ -76,11 +55,7 @@ pub fn built_expression(written: &Expr) -> bool
     match written {
         Expr::Number { .. } | Expr::Character { .. } | Expr::Name { .. } => true,
         Expr::Text { .. } => false,
-        Expr::Call {
-            callee,
-            arguments,
-            ..
-        } => callee.name.as_bytes() != STRLEN.as_slice() && built_arguments(arguments.as_slice()),
+        Expr::Call { arguments, .. } => built_arguments(arguments.as_slice()),
         Expr::SizeOf { type_name, .. } => built_type(&type_name.base),
         Expr::Cast {
             type_name,
@@ -100,17 +75,11 @@ pub fn built_expression(written: &Expr) -> bool
             ..
         } => is_built_malloc(*word) && built_type(&type_name.base) && built_expression(size),
         Expr::Calloc {
-            word,
             type_name,
             count,
             size,
             ..
-        } => {
-            is_built_calloc(*word)
-                && built_type(&type_name.base)
-                && built_expression(count)
-                && built_expression(size)
-        }
+        } => built_type(&type_name.base) && built_expression(count) && built_expression(size),
         Expr::Index { base, index, .. } => built_expression(base) && built_expression(index),
         Expr::Dot { base, .. } | Expr::Arrow { base, .. } => built_expression(base),
         Expr::Unary { operand, .. } => built_expression(operand),

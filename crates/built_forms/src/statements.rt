@@ -9,9 +9,7 @@ ghost use Rattle.built_forms.specs.Built as built;
 
 use crate::expressions::{built_bounds, built_expression, built_type};
 use ckc_tree::expr::{BoundsText, Expr};
-use ckc_tree::stmt::{
-    ArrayForm, ArrayKind, Assignment, Declaration, Declarator, ForInitial, Initializer, Stmt,
-};
+use ckc_tree::stmt::{Assignment, Declaration, Declarator, ForInitial, Initializer, Stmt};
 
 fn built_initializer(written: &Initializer) -> bool
     ensures { result ≡ built.built_initializer (initializer written.now) }
@@ -41,25 +39,11 @@ pub fn built_optional_bounds(written: &Option<BoundsText>) -> bool
     }
 }
 
-fn built_array(written: &Option<ArrayForm>) -> bool
-    ensures { result ≡ built.optional built.built_array written.now }
-{
-    match written {
-        None => true,
-        Some(array) => match array.kind {
-            ArrayKind::Checked => true,
-            ArrayKind::NullTerminated => false,
-        },
-    }
-}
-
-// Whether a variable has only forms that are built: no null-terminated array, and it may have bounds.
+// Whether a variable has only forms that are built; it may have bounds.
 fn built_declarator(written: &Declarator) -> bool
     ensures { result ≡ built.built_declarator (declarator written.now) }
 {
-    built_array(&written.array)
-        && built_optional_bounds(&written.bounds)
-        && built_optional_initializer(&written.initializer)
+    built_optional_bounds(&written.bounds) && built_optional_initializer(&written.initializer)
 }
 
 /// Whether variables have only forms that are built.

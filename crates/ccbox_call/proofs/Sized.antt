@@ -43,7 +43,7 @@ use Rattle.region_typing_rules.specs.Readings.{against, from_base, based_bounds}
 use Rattle.region_typing_rules.specs.Verdicts.{picked}
 use Rattle.region_typing_rules.specs.Scopes.{Scope}
 use Rattle.region_typing_rules.specs.Typed as typed
-use Rattle.region_typing_rules.specs.Typed.{Frame, AreConstant, AreNamed, AreNewBounds, IsBaseOf, IsNewElement, IsNewNumber, HasAccess, HasBounds, HasCallBounds, HasElements, AreSumBounds, HasType, HaveTypes, HasPlace, terms_of, IsSimple, IsStatement, AreStatements}
+use Rattle.region_typing_rules.specs.Typed.{Frame, AreConstant, AreNamed, AreNewBounds, IsBaseOf, IsNewElement, IsNewNumber, HasAccess, HasBounds, HasCallBounds, HasCellBounds, HasElements, AreSumBounds, HasType, HaveTypes, HasPlace, terms_of, IsSimple, IsStatement, AreStatements}
 
 -- ---- the bounds at nodes
 
@@ -181,7 +181,7 @@ beside_readable _ d (typed.byte_count e elements) based = absurd (cc)
 beside_readable {here = here} _ d (typed.cast {q = q} e elements counts within size limited ints bases) based =
     subst (AreReadable here.locals) (cast_based q.bounds d based) (cast_readable here.locals q limited ints bases)
 beside_readable _ d (typed.cast_single {b = b} e elements within told) based = absurd (cc)
-beside_readable _ d (typed.cast_unbounded e elements) based = absurd (cc)
+beside_readable _ d (typed.cast_unbounded e elements counts) based = absurd (cc)
 
 sum_read : (types : List CType) (e : core.Expression) (direction : Direction) (i : core.Expression) (p : PointerBounds) (b : Option PointerBounds)
     → AreReadable types p.bounds → ((d : Bounds) → based_bounds e ≡ Some d → AreReadable types d) → AreSumBounds types e direction i p b → AreRead types b
@@ -190,10 +190,16 @@ sum_read types e direction i p b h beside (typed.based base) = h
 sum_read types e direction i p b h beside (typed.beside {d = d} based) = beside d based
 sum_read types e direction i p b h beside (typed.moved {c = c} {q = q} none is moved) = moved_readable types (against direction c) p.bounds q h.named moved
 
+-- the bounds of a value in a cell
+cell_read : (types : List CType) (structs : List Structure) (t : CType) (b : Option PointerBounds) → HasCellBounds structs t b → AreRead types b
+cell_read types structs t _ typed.unbounded = tt
+cell_read types structs t b (typed.by_type told) = noted_read types structs t b told
+cell_read types structs _ _ typed.at_end = constant_readable types (pos 0) (pos 0) refl refl
+
 -- the bounds of a call are those of its type, or those of its result
 call_read : (structs : List Structure) (locals : List CType) (terms : List (Option Term)) (t : CType) (declared : Option Bounds) (b : Option PointerBounds) → HasCallBounds structs locals terms t declared b → AreRead locals b
 call_read structs locals terms t declared b (typed.by_type told) = noted_read locals structs t b told
-call_read structs locals terms _ _ _ (typed.by_result at size some limited none ints) =
+call_read structs locals terms _ _ _ (typed.by_result at counts size some limited none ints) =
     record { within = record { low = limited.low; high = limited.high }; named = record { ints = ints; base = λ q from. absurd (cc) } }
 
 -- the bounds that are declared for a file-level pointer
@@ -217,7 +223,7 @@ bounds_read _ (typed.widened e) = bounds_read _ e
 bounds_read _ (typed.single e elements leads) = bounds_read _ e
 bounds_read _ (typed.row e bounds) = bounds_read _ e
 bounds_read _ (typed.ended_row e) = bounds_read _ e
-bounds_read {g = g} {here = here} {t = t} (core.Load type p b) (typed.load scalar place told) = noted_read here.locals g.structs t b told
+bounds_read {g = g} {here = here} {t = t} (core.Load type p b) (typed.load scalar place told) = cell_read here.locals g.structs t b told
 bounds_read {here = here} _ (typed.bounded_object is size) = object_readable here.locals is.limited is.constant
 bounds_read {g = g} {here = here} (core.AddressOf p b) (typed.address_of {mode = m} {t = t} place told) = noted_read here.locals g.structs (Pointer m kinds.One t) b told
 bounds_read {here = here} _ (typed.array {n = n} {p = p} found some few rows bounds size) =
@@ -243,7 +249,7 @@ bounds_read {g = g} {here = here} (core.Allocate count element true b) (typed.al
 bounds_read _ (typed.byte_count e elements) = tt
 bounds_read {here = here} _ (typed.cast {q = q} e elements counts within size limited ints bases) = cast_readable here.locals q limited ints bases
 bounds_read {g = g} {here = here} (core.Cast e b) (typed.cast_single {t = t} pointer elements within told) = noted_read here.locals g.structs (Pointer modes.Checked kinds.One t) b told
-bounds_read _ (typed.cast_unbounded e elements) = tt
+bounds_read _ (typed.cast_unbounded e elements counts) = tt
 
 -- ---- checks
 
@@ -406,7 +412,7 @@ mutual
       (sized_expression n held e pointer, some_bytes here.locals n e _ p elements (bounds_read e pointer), casts here.locals n e _ p elements (bounds_read e pointer) locals held within (Some q) (cast_readable here.locals q limited ints bases))
   sized_expression n {g = g} {locals = locals} held {here = here} (core.Cast e b) (typed.cast_single {t = t} {p = p} pointer elements within told) =
       (sized_expression n held e pointer, some_bytes here.locals n e _ p elements (bounds_read e pointer), casts here.locals n e _ p elements (bounds_read e pointer) locals held within b (noted_read here.locals g.structs (Pointer modes.Checked kinds.One t) b told))
-  sized_expression n held {here = here} (core.Cast e None) (typed.cast_unbounded {t = t} {p = p} pointer elements) =
+  sized_expression n held {here = here} (core.Cast e None) (typed.cast_unbounded {t = t} {p = p} pointer elements counts) =
       (sized_expression n held e pointer, some_bytes here.locals n e _ p elements (bounds_read e pointer), All-nil (IsSmall n 7))
 
   sized_arguments : (n : ℕ) {g : Frame} {locals : List CType} (held : length locals ≤ n) {here : Scope} {ts : List CType} (es : core.Arguments) → HaveTypes g locals here es ts → SizedArguments n (arguments_of es)
@@ -450,7 +456,7 @@ sized_simple : (n : ℕ) {g : Frame} {locals : List CType} (held : length locals
 sized_simple n held _ typed.nothing = tt
 sized_simple n held _ (typed.set_local found e) = sized_expression n held _ e
 sized_simple n held _ (typed.store scalar p e) = (sized_access n held _ p, sized_expression n held _ e, ends_within _ p)
-sized_simple n held _ (typed.store_bounded is e asked) = (tt, sized_expression n held _ e, tt)
+sized_simple n held _ (typed.store_bounded counts is e asked) = (tt, sized_expression n held _ e, tt)
 sized_simple n held _ (typed.update_local found number char e) = sized_expression n held _ e
 sized_simple n held _ (typed.update number p e) = (sized_access n held _ p, sized_expression n held _ e, ends_within _ p)
 sized_simple n held _ (typed.evaluate e) = sized_expression n held _ e

@@ -4,7 +4,7 @@ ghost use Rattle.std.specs.Prelude.{◌≡◌};
 ghost use Rattle.ckc_names_rules.specs.Given.{given_in};
 
 use crate::name_list::NameList;
-use ckc_names_rules::given::{Given, MAIN, NEXT_INPUT, NULL, PRINT_INT, PUTCHAR};
+use ckc_names_rules::given::{Given, MAIN, NEXT_INPUT, NULL, PRINT_INT, PUTCHAR, STRLEN};
 
 /// The numbers of these names among those of a program.
 pub fn given_names(names: &NameList) -> Given
@@ -15,6 +15,7 @@ pub fn given_names(names: &NameList) -> Given
         next_input: names.find(NEXT_INPUT.as_slice()),
         print_int: names.find(PRINT_INT.as_slice()),
         putchar: names.find(PUTCHAR.as_slice()),
+        strlen: names.find(STRLEN.as_slice()),
         main: names.find(MAIN.as_slice()),
     }
 }

@@ -29,7 +29,7 @@ number_in names name = position_or_len (bytes_eq name) names
 
 -- the numbers of these names, whether a program says them or not
 abbrev pub given_by : (List ℕ → ℕ) → Given
-given_by of = record { null = of null; next_input = of next_input; print_int = of print_int; putchar = of putchar; main = of main }
+given_by of = record { null = of null; next_input = of next_input; print_int = of print_int; putchar = of putchar; strlen = of strlen; main = of main }
 
 abbrev pub given_in : List (List ℕ) → Given
 given_in names = given_by (number_in names)

@@ -26,5 +26,6 @@ pub struct Given {
     pub next_input: usize,
     pub print_int: usize,
     pub putchar: usize,
+    pub strlen: usize,
     pub main: usize,
 }

@@ -19,20 +19,22 @@ use Rattle.region_typing.specs.Items.{judged_initializer}
 use Rattle.ckc_names_rules.specs.declared.given.Given.{Given}
 use Rattle.region_typing_rules.specs.Cells.{cells_with}
 use Rattle.region_typing_rules.specs.Items as rules
-use Rattle.region_typing_rules.specs.Items.{negative, is_zero, are_zeros, signed_constant, number_or_break, object_cells, zeros_of, cells_listed, cells_or_break, listed_cells, unsigned_number, signed_number, small_constants}
+use Rattle.region_typing_rules.specs.Statements.{before_end}
+use Rattle.region_typing_rules.specs.Items.{negative, is_zero, are_zeros, signed_constant, number_or_break, closed, object_cells, zeros_of, cells_listed, cells_or_break, listed_cells, unsigned_number, signed_number, small_constants}
 use Rattle.region_typing.specs.Initials.{constant_cells, judged_as, judged_cells, kept_as, elements_of, listed, number_listed, number_more, numbers_listed, judged_numbers, Constants}
 
 -- ---- cells by what is judged
 
-written_cells_judged : (given : Given) (structs : List Structure) (t : CType) (value : Expression) (u : Typed) (span : Span) → object_cells given structs t None (rules.Written value u) span ≡ judged_cells structs t None (judged_as given (rules.Written value u)) span
-written_cells_judged given structs Int value u span = refl
-written_cells_judged given structs Char value u span = by (signed_constant given value)
+written_cells_judged : (given : Given) (structs : List Structure) (t : CType) (ended : Bool) (value : Expression) (u : Typed) (span : Span)
+    → object_cells given structs t None ended (rules.Written value u) span ≡ judged_cells structs t None ended (judged_as given (rules.Written value u)) span
+written_cells_judged given structs Int ended value u span = refl
+written_cells_judged given structs Char ended value u span = by (signed_constant given value)
   where
     by : (number : Option ℤ) → number_or_break number span (λ n. cells_with structs Char (low_byte n)) ≡ constant_cells structs Char (is_zero u) number span
     by None = refl
     by (Some number) = refl
-written_cells_judged given structs (Struct number) value u span = refl
-written_cells_judged given structs (Pointer mode kind target) value u span = by (is_zero u)
+written_cells_judged given structs (Struct number) ended value u span = refl
+written_cells_judged given structs (Pointer mode kind target) ended value u span = by (is_zero u)
   where
     by : (zero : Bool) → needs zero E13 span (Passes (cells_with structs (Pointer mode kind target) (pos 0))) ≡ constant_cells structs (Pointer mode kind target) zero (signed_constant given value) span
     by true = refl
@@ -83,13 +85,14 @@ list_judged structs (Pointer mode kind target) n cs span =
     ∙ ap (λ v. needs (are_zeros cs) E13 span v) (or_break (nat_le (length zs) n) cells span)
     ∙ needed_first (are_zeros cs) (nat_le (length zs) n) cells span
 
-pub cells_judged : (given : Given) (structs : List Structure) (t : CType) (count : Option ℕ) (w : rules.Walked) (span : Span) → object_cells given structs t count w span ≡ judged_cells structs t count (judged_as given w) span
-cells_judged given structs t None rules.Missing span = refl
-cells_judged given structs t None (rules.Written value u) span = written_cells_judged given structs t value u span
-cells_judged given structs t None (rules.Constants cs) span = refl
-cells_judged given structs t (Some n) rules.Missing span = refl
-cells_judged given structs t (Some n) (rules.Written value u) span = refl
-cells_judged given structs t (Some n) (rules.Constants cs) span = list_judged structs t n cs span
+pub cells_judged : (given : Given) (structs : List Structure) (t : CType) (count : Option ℕ) (ended : Bool) (w : rules.Walked) (span : Span) → object_cells given structs t count ended w span ≡ judged_cells structs t count ended (judged_as given w) span
+cells_judged given structs t None ended rules.Missing span = refl
+cells_judged given structs t None ended (rules.Written value u) span = written_cells_judged given structs t ended value u span
+cells_judged given structs t None ended (rules.Constants cs) span = refl
+cells_judged given structs t (Some n) ended rules.Missing span = refl
+cells_judged given structs t (Some n) ended (rules.Written value u) span = refl
+cells_judged given structs t (Some n) ended (rules.Constants cs) span =
+    ap (λ listed. passing listed (λ cells. Passes (closed ended structs t cells))) (list_judged structs t (before_end ended n) cs span)
 
 -- ---- the constants of a list
 

@@ -14,7 +14,7 @@ use Rattle.region_typing_rules.specs.Scopes.{Scope}
 use Rattle.region_typing_rules.specs.Types.{type_named}
 use Rattle.region_typing_rules.specs.Expressions.{Places}
 use Rattle.region_typing_rules.specs.DeclaredBounds.{declared_bounds}
-use Rattle.region_typing_rules.specs.Items.{Parameter, Walk, is_struct, member_types, among_parameters, written_as, parameter_types, scalar_members, item, items}
+use Rattle.region_typing_rules.specs.Items.{Parameter, Walk, is_struct, member_types, among_parameters, declared_as, parameter_types, scalar_members, item, items}
 use Rattle.region_typing.specs.declared.globals.WalkedVariable as code
 use Rattle.region_typing.specs.Items.{one_member, one_parameter, one_variable, judged_variable, judged_variables, JudgedVariable}
 
@@ -38,7 +38,7 @@ bounded_on false code span v w h f next = refl
 
 pub parameter_by_step : (g : Scope) (all : List i.Member) (p : i.Member) (ps : List i.Member) (done : List Parameter) → parameter_types g all (p ∷ ps) done ≡ passing (one_parameter g all p done) (λ d. parameter_types g all ps d)
 parameter_by_step g all p ps done =
-    bounded_on (nat_lt (length done) 16) E08 (type_span p.type.base) (type_named g p.type) (λ t. declared_bounds (among_parameters g all) t (length done) p.bounds) (λ b. written_as p.bounds b)
+    bounded_on (nat_lt (length done) 16) E08 (type_span p.type.base) (type_named g p.type) (λ t. declared_bounds (among_parameters g all) t (length done) p.bounds) (λ b. declared_as p.bounds b)
     (λ t b. done ++ record { name = p.name.number; type = t; bounds = b } ∷ []) (λ d. parameter_types g all ps d)
 
 -- no member is a struct

@@ -2,18 +2,18 @@
 use Rattle.std.proofs.Common.{◌≡◌, ℕ, ◌==◌, Bool, true, false, nat_lt, List, [], ◌∷◌, ◌++◌, length, map, Option, refl, ap, sym, ◌∙◌}
 use Rattle.std.proofs.lemmas.List.{map-append}
 use Rattle.ckc_text.specs.declared.place.Span.{Span}
-use Rattle.ckc_text.specs.declared.code.Code.TheVariants.{E10, E15}
+use Rattle.ckc_text.specs.declared.code.Code.TheVariants.{E10, E13, E15}
 use Rattle.ckc_tree.specs.Types.{TypeTree, type_span}
 use Rattle.ckc_tree.specs.Items as i
 use Rattle.ckc_tree.specs.Statements.{Declarator}
-use Rattle.bounds_exprs.specs.declared.term.Bounds.{Bounds}
 use Rattle.pointer_modes.specs.Types.{CType}
 use Rattle.ckc_core.specs.Programs.{Initial}
 use Rattle.region_typing_rules.specs.Verdicts.{Stop, Broken, Verdict, Passes, Stops, passing, needs}
-use Rattle.region_typing_rules.specs.Types.{base_type, without_stars}
+use Rattle.region_typing_rules.specs.Scopes.{WrittenBounds}
+use Rattle.region_typing_rules.specs.Types.{base_type, may_lead_to, without_stars}
 use Rattle.region_typing_rules.specs.Expressions.{Places}
 use Rattle.ckc_names_rules.specs.declared.given.Given.{Given}
-use Rattle.region_typing_rules.specs.Statements.{length_of}
+use Rattle.region_typing_rules.specs.Statements.{length_of, is_ended_array, array_kind, array_element}
 use Rattle.region_typing_rules.specs.Items as rules
 use Rattle.region_typing_rules.specs.Items.{Walk, WalkedVariable, object_bounds, variable_of, with_variable, room_for, room_for_first, initializer, variables, with_objects, global, in_checked_region}
 use Rattle.region_typing.specs.declared.globals.WalkedVariable as code
@@ -24,19 +24,19 @@ use Rattle.region_typing_statements.proofs.Verdicts.{same_behind, in_parts}
 use Rattle.region_typing.proofs.Constants.{cells_judged}
 
 abbrev as_judged : Given → WalkedVariable → JudgedVariable
-as_judged given v = record { type = v.type; length = v.length; bounds = v.bounds; initial = judged_as given v.initial }
+as_judged given v = record { type = v.type; length = v.length; ended = v.ended; bounds = v.bounds; initial = judged_as given v.initial }
 
 -- with a variable more, where it has cells
-abbrev with_cells : Option Bounds → Span → Walk → List Initial → (Walk → Verdict Walk) → Verdict Walk
-with_cells b span w cells next = needs (nat_lt 0 (length cells)) E10 span (next (record w { objects = w.objects ++ variable_of b cells ∷ [] }))
+abbrev with_cells : (ended : Bool) → WrittenBounds → Span → Walk → List Initial → (Walk → Verdict Walk) → Verdict Walk
+with_cells ended b span w cells next = needs (nat_lt 0 (length cells)) E10 span (next (record w { objects = w.objects ++ variable_of ended b cells ∷ [] }))
 
-one_by_one : (b : Option Bounds) (v : Verdict (List Initial)) (span : Span) (w : Walk) (next : Walk → Verdict Walk)
-    → passing v (λ cells. with_cells b span w cells next) ≡ passing (passing v (λ cells. with_cells b span w cells Passes)) next
-one_by_one b (Stops stop) span w next = refl
-one_by_one b (Passes cells) span w next = by (nat_lt 0 (length cells))
+one_by_one : (ended : Bool) (b : WrittenBounds) (v : Verdict (List Initial)) (span : Span) (w : Walk) (next : Walk → Verdict Walk)
+    → passing v (λ cells. with_cells ended b span w cells next) ≡ passing (passing v (λ cells. with_cells ended b span w cells Passes)) next
+one_by_one ended b (Stops stop) span w next = refl
+one_by_one ended b (Passes cells) span w next = by (nat_lt 0 (length cells))
   where
-    by : (c : Bool) → needs c E10 span (next (record w { objects = w.objects ++ variable_of b cells ∷ [] }))
-        ≡ passing (needs c E10 span (Passes (record w { objects = w.objects ++ variable_of b cells ∷ [] }))) next
+    by : (c : Bool) → needs c E10 span (next (record w { objects = w.objects ++ variable_of ended b cells ∷ [] }))
+        ≡ passing (needs c E10 span (Passes (record w { objects = w.objects ++ variable_of ended b cells ∷ [] }))) next
     by true = refl
     by false = refl
 
@@ -44,10 +44,11 @@ objects_judged : (w : Walk) (span : Span) (vs : List WalkedVariable) → with_ob
 objects_judged w span [] = refl
 objects_judged w span (v ∷ vs) =
     let rest = judged_objects span (map (as_judged w.scope.given) vs) in
-    ap (λ cells_are. passing cells_are (λ cells. with_cells v.bounds span w cells (λ x. with_objects x span vs))) (cells_judged w.scope.given w.scope.structs v.type v.length v.initial span)
-    ∙ same_behind (judged_cells w.scope.structs v.type v.length (judged_as w.scope.given v.initial) span) _ (λ cells. with_cells v.bounds span w cells rest)
-    (λ cells. ap (λ x. needs (nat_lt 0 (length cells)) E10 span x) (objects_judged (record w { objects = w.objects ++ variable_of v.bounds cells ∷ [] }) span vs))
-    ∙ one_by_one v.bounds (judged_cells w.scope.structs v.type v.length (judged_as w.scope.given v.initial) span) span w rest
+    let judged_here = judged_cells w.scope.structs v.type v.length v.ended (judged_as w.scope.given v.initial) span in
+    ap (λ cells_are. passing cells_are (λ cells. with_cells v.ended v.bounds span w cells (λ x. with_objects x span vs))) (cells_judged w.scope.given w.scope.structs v.type v.length v.ended v.initial span)
+    ∙ same_behind judged_here _ (λ cells. with_cells v.ended v.bounds span w cells rest)
+    (λ cells. ap (λ x. needs (nat_lt 0 (length cells)) E10 span x) (objects_judged (record w { objects = w.objects ++ variable_of v.ended v.bounds cells ∷ [] }) span vs))
+    ∙ one_by_one v.ended v.bounds judged_here span w rest
 
 in_turn : {A B C D : Type 0} (v : Verdict A) (f : A → Verdict B) (g : A → B → C) (next : C → Verdict D) → passing (passing v (λ a. passing (f a) (λ b. Passes (g a b)))) next ≡ passing v (λ a. passing (f a) (λ b. next (g a b)))
 in_turn (Stops stop) f g next = refl
@@ -56,6 +57,14 @@ in_turn (Passes a) f g next = by (f a)
     by : (w : _) → passing (passing w (λ b. Passes (g a b))) next ≡ passing w (λ b. next (g a b))
     by (Passes b) = refl
     by (Stops stop) = refl
+
+-- what comes behind the elements of an array
+behind_element : {A B : Type 0} (ended : Bool) (t : CType) (base : TypeTree) (v : Verdict A) (next : A → Verdict B) → passing (array_element ended t base v) next ≡ array_element ended t base (passing v next)
+behind_element ended t base v next = by (may_lead_to (array_kind ended) t)
+  where
+    by : (b : Bool) → passing (needs b E13 (type_span base) v) next ≡ needs b E13 (type_span base) (passing v next)
+    by true = refl
+    by false = refl
 
 judged_next : {B : Type 0} (given : Given) (v : Verdict rules.Walked) (next : rules.Walked → Verdict B) (next' : _ → Verdict B) → ((x : rules.Walked) → next x ≡ next' (judged_as given x)) → passing v next ≡ passing (passing v (λ x. Passes (judged_as given x))) next'
 judged_next given (Passes x) next next' same = same x
@@ -67,26 +76,30 @@ variables_judged at w base t span [] done next next' same = same (w, done)
 variables_judged at w base t span (d ∷ ds) done next next' same =
     let room = room_for w base span d in
     let starless = without_stars base d.stars t in
-    let given = λ (u : CType) (b : Option Bounds). judged_initializer at (with_variable d.name.number u (length_of d) b w.scope) d.initializer in
-    let begun = λ (taken : ℕ) (u : CType) (b : Option Bounds) (x : rules.Walked).
-    variables at (with_one d.name.number u (length_of d) b taken w) base t span ds (done ++ record { type = u; length = length_of d; bounds = b; initial = x } ∷ []) in
-    let bounded = λ (taken : ℕ) (u : CType) (b : Option Bounds). passing (initializer at (with_variable d.name.number u (length_of d) b w.scope) d.initializer) (begun taken u b) in
-    let of_type = λ (taken : ℕ) (u : CType). passing (object_bounds w.scope d u) (bounded taken u) in
+    let e = is_ended_array d in
+    let given = λ (u : CType) (b : WrittenBounds). judged_initializer at (with_variable d.name.number u (length_of d) e b w.scope) d.initializer in
+    let begun = λ (taken : ℕ) (u : CType) (b : WrittenBounds) (x : rules.Walked).
+    variables at (with_one d.name.number u (length_of d) e b taken w) base t span ds (done ++ record { type = u; length = length_of d; ended = e; bounds = b; initial = x } ∷ []) in
+    let bounded = λ (taken : ℕ) (u : CType) (b : WrittenBounds). passing (initializer at (with_variable d.name.number u (length_of d) e b w.scope) d.initializer) (begun taken u b) in
+    let of_type = λ (taken : ℕ) (u : CType). array_element e u base (passing (object_bounds w.scope d u) (bounded taken u)) in
     let behind = λ (y : Walk × JudgedVariable). passing (judged_variables at base t span ds (y.0, map (as_judged w.scope.given) done ++ y.1 ∷ [])) next' in
-    let judged : ℕ → CType → Option Bounds → Judged → Walk × JudgedVariable = λ taken u b j. (with_one d.name.number u (length_of d) b taken w, record { type = u; length = length_of d; bounds = b; initial = j }) in
+    let judged : ℕ → CType → WrittenBounds → Judged → Walk × JudgedVariable = λ taken u b j. (with_one d.name.number u (length_of d) e b taken w, record { type = u; length = length_of d; ended = e; bounds = b; initial = j }) in
+    let then = λ (taken : ℕ) (u : CType). array_element e u base (passing (object_bounds w.scope d u) (λ b. passing (given u b) (λ j. behind (judged taken u b j)))) in
     in_parts room (λ taken. passing starless (of_type taken)) next
-    ∙ same_behind room _ (λ taken. passing starless (λ u. passing (object_bounds w.scope d u) (λ b. passing (given u b) (λ j. behind (judged taken u b j)))))
+    ∙ same_behind room _ (λ taken. passing starless (then taken))
     (λ taken. in_parts starless (of_type taken) next
-    ∙ same_behind starless _ (λ u. passing (object_bounds w.scope d u) (λ b. passing (given u b) (λ j. behind (judged taken u b j))))
-    (λ u. in_parts (object_bounds w.scope d u) (bounded taken u) next
+    ∙ same_behind starless _ (then taken)
+    (λ u. behind_element e u base (passing (object_bounds w.scope d u) (bounded taken u)) next
+    ∙ ap (λ v. array_element e u base v) (in_parts (object_bounds w.scope d u) (bounded taken u) next
     ∙ same_behind (object_bounds w.scope d u) _ (λ b. passing (given u b) (λ j. behind (judged taken u b j)))
-    (λ b. in_parts (initializer at (with_variable d.name.number u (length_of d) b w.scope) d.initializer) (begun taken u b) next
-    ∙ judged_next w.scope.given (initializer at (with_variable d.name.number u (length_of d) b w.scope) d.initializer) _ (λ j. behind (judged taken u b j))
-    (λ x. variables_judged at (with_one d.name.number u (length_of d) b taken w) base t span ds (done ++ record { type = u; length = length_of d; bounds = b; initial = x } ∷ []) next next' same
-    ∙ ap (λ vs. passing (judged_variables at base t span ds (with_one d.name.number u (length_of d) b taken w, vs)) next') (map-append (as_judged w.scope.given) done (record { type = u; length = length_of d; bounds = b; initial = x } ∷ []))))))
-    ∙ sym (same_behind room _ _ (λ taken. in_parts starless (λ u. passing (object_bounds w.scope d u) (λ b. passing (given u b) (λ j. Passes (judged taken u b j)))) behind
-    ∙ same_behind starless _ _ (λ u. in_turn (object_bounds w.scope d u) (given u) (judged taken u) behind)))
-    ∙ sym (in_parts room (λ taken. passing starless (λ u. passing (object_bounds w.scope d u) (λ b. passing (given u b) (λ j. Passes (judged taken u b j))))) behind)
+    (λ b. in_parts (initializer at (with_variable d.name.number u (length_of d) e b w.scope) d.initializer) (begun taken u b) next
+    ∙ judged_next w.scope.given (initializer at (with_variable d.name.number u (length_of d) e b w.scope) d.initializer) _ (λ j. behind (judged taken u b j))
+    (λ x. variables_judged at (with_one d.name.number u (length_of d) e b taken w) base t span ds (done ++ record { type = u; length = length_of d; ended = e; bounds = b; initial = x } ∷ []) next next' same
+    ∙ ap (λ vs. passing (judged_variables at base t span ds (with_one d.name.number u (length_of d) e b taken w, vs)) next') (map-append (as_judged w.scope.given) done (record { type = u; length = length_of d; ended = e; bounds = b; initial = x } ∷ [])))))))
+    ∙ sym (same_behind room _ _ (λ taken. in_parts starless (λ u. array_element e u base (passing (object_bounds w.scope d u) (λ b. passing (given u b) (λ j. Passes (judged taken u b j))))) behind
+    ∙ same_behind starless _ _ (λ u. behind_element e u base (passing (object_bounds w.scope d u) (λ b. passing (given u b) (λ j. Passes (judged taken u b j)))) behind
+    ∙ ap (λ v. array_element e u base v) (in_turn (object_bounds w.scope d u) (given u) (judged taken u) behind))))
+    ∙ sym (in_parts room (λ taken. passing starless (λ u. array_element e u base (passing (object_bounds w.scope d u) (λ b. passing (given u b) (λ j. Passes (judged taken u b j)))))) behind)
     ∙ sym (in_parts (one_variable at w base t span d) (λ y. judged_variables at base t span ds (y.0, map (as_judged w.scope.given) done ++ y.1 ∷ [])) next')
 
 -- a declaration of variables, by what is judged
@@ -109,17 +122,33 @@ stars_break at base span d t taken old stop room breaks = by (d.stars == 0) refl
 
 -- what is made of a variable, behind its room and its type
 module _ (at : Places) (base : TypeTree) (span : Span) (d : Declarator) (t : CType) (taken : ℕ) (old : Walk) (room : room_for old base span d ≡ Passes taken) (starless : (d.stars == 0) ≡ true) where
-  -- bounds that break a rule
-  pub bounds_break : (stop : Stop) → object_bounds old.scope d t ≡ Stops stop → one_variable at old base t span d ≡ Stops stop
-  bounds_break stop breaks = rw (room, starless, breaks) refl
+  abbrev leads : Bool
+  leads = may_lead_to (array_kind (is_ended_array d)) t
 
-  module _ (b : Option Bounds) (new : Walk) (is : new ≡ with_one d.name.number t (length_of d) b taken old) (bounded : object_bounds old.scope d t ≡ Passes b) where
-    variable_walked : one_variable at old base t span d ≡ passing (judged_initializer at new.scope d.initializer) (λ j. Passes (new, record { type = t; length = length_of d; bounds = b; initial = j }))
+  -- elements that no zero may end
+  pub element_breaks : (stop : Stop) → needs {A = Unit {0}} leads E13 (type_span base) (Passes tt) ≡ Stops stop → one_variable at old base t span d ≡ Stops stop
+  element_breaks stop breaks = by leads refl breaks
+    where
+      by : (b : Bool) → leads ≡ b → needs {A = Unit {0}} b E13 (type_span base) (Passes tt) ≡ Stops stop → one_variable at old base t span d ≡ Stops stop
+      by true e breaks = absurd (cc)
+      by false e breaks =
+          let there : Stop = Broken (record { code = E13; span = type_span base }) in
+          let same : there ≡ stop = cc in
+          rw (room, starless, e) (ap Stops same)
+
+  -- bounds that break a rule
+  pub bounds_break : leads ≡ true → (stop : Stop) → object_bounds old.scope d t ≡ Stops stop → one_variable at old base t span d ≡ Stops stop
+  bounds_break fits stop breaks = rw (room, starless, fits, breaks) refl
+
+  module _ (b : WrittenBounds) (new : Walk) (is : new ≡ with_one d.name.number t (length_of d) (is_ended_array d) b taken old) (fits : leads ≡ true) (bounded : object_bounds old.scope d t ≡ Passes b) where
+    variable_walked : one_variable at old base t span d
+        ≡ passing (judged_initializer at new.scope d.initializer) (λ j. Passes (new, record { type = t; length = length_of d; ended = is_ended_array d; bounds = b; initial = j }))
     variable_walked =
-        rw (room, starless, bounded) (ap (λ (v : Walk). passing (judged_initializer at v.scope d.initializer) (λ j. Passes (v, record { type = t; length = length_of d; bounds = b; initial = j }))) (sym is))
+        rw (room, starless, fits, bounded)
+        (ap (λ (v : Walk). passing (judged_initializer at v.scope d.initializer) (λ j. Passes (v, record { type = t; length = length_of d; ended = is_ended_array d; bounds = b; initial = j }))) (sym is))
 
     -- a variable more
-    pub one_more_variable : (x : code.WalkedVariable) (j : code_judged.Judged) → x ≡ record { count = length_of d; bounds = b; initial = j } → judged_initializer at new.scope d.initializer ≡ Passes (judged j)
+    pub one_more_variable : (x : code.WalkedVariable) (j : code_judged.Judged) → x ≡ record { count = length_of d; ended = is_ended_array d; bounds = b; initial = j } → judged_initializer at new.scope d.initializer ≡ Passes (judged j)
         → one_variable at old base t span d ≡ Passes (new, judged_variable t x)
     one_more_variable x j x_is rest = variable_walked ∙ rw (rest, x_is) refl
 

@@ -2,19 +2,18 @@
 use Rattle.std.proofs.Common.{◌≡◌, ℕ, true, not, ◌&&◌, ◌||◌, nat_lt, List, [], ◌∷◌, ◌++◌, length, is_some, Option, Some, None, ap}
 use Rattle.ckc_text.specs.declared.place.Span.{Span}
 use Rattle.ckc_text.specs.declared.code.Code.TheVariants.{E08, E10, E13, E15, E27}
-use Rattle.ckc_tree.specs.Types.{TypeTree}
+use Rattle.ckc_tree.specs.Types.{TypeTree, type_span}
 use Rattle.ckc_tree.specs.Items as i
 use Rattle.ckc_tree.specs.Items.{Item}
 use Rattle.ckc_tree.specs.Statements.{Declarator}
-use Rattle.bounds_exprs.specs.declared.term.Bounds.{Bounds}
 use Rattle.pointer_modes.specs.Types as types
 use Rattle.pointer_modes.specs.Types.{CType}
 use Rattle.ckc_core.specs.Programs.{Initial}
 use Rattle.region_typing_rules.specs.Verdicts.{Verdict, Passes, picked}
 use Rattle.region_typing_rules.specs.Scopes.{Scope, Signature, WrittenBounds, function_named}
-use Rattle.region_typing_rules.specs.Types.{base_type, without_stars}
+use Rattle.region_typing_rules.specs.Types.{base_type, may_lead_to, without_stars}
 use Rattle.region_typing_rules.specs.Expressions.{Places, is_tainted}
-use Rattle.region_typing_rules.specs.Statements.{length_of, is_unchecked, statements}
+use Rattle.region_typing_rules.specs.Statements.{length_of, is_ended_array, array_kind, is_unchecked, statements}
 use Rattle.region_typing_rules.specs.Items.{Parameter, Walk, WalkedVariable, is_struct, member_types, scalar_members, with_struct, member_names, structure, object_bounds, variable_of, with_variable, room_for, room_for_first, initializer, variables, object_cells, with_objects, global, listed, parameter_types, result_type, agrees, all_scalar, scalar_result, with_function, inside, function_body, is_defined, function_rules, signature_of, function, is_off, item, bounds_of_result, first_changed_in, without_change}
 use Rattle.region_typing_rules.proofs.Verdicts.{Promises, passing_promises, needs_promises, anything_promised}
 use Rattle.region_typing.specs.Items.{Outside}
@@ -40,15 +39,18 @@ variables_outside at w base t span [] done o = o
 variables_outside at w base t span (d ∷ ds) done o =
     passing_promises (λ (n : ℕ). Unit {0}) OutsideBoth (room_for w base span d) _ (anything_promised (room_for w base span d))
     (λ taken _. passing_promises (λ (u : CType). Unit {0}) OutsideBoth (without_stars base d.stars t) _ (anything_promised (without_stars base d.stars t))
-    (λ u _. passing_promises (λ (b : Option Bounds). Unit {0}) OutsideBoth (object_bounds w.scope d u) _ (anything_promised (object_bounds w.scope d u))
-    (λ b _. passing_promises (λ _. Unit {0}) OutsideBoth (initializer at (with_variable d.name.number u (length_of d) b w.scope) d.initializer) _ (anything_promised (initializer at (with_variable d.name.number u (length_of d) b w.scope) d.initializer))
-    (λ initial _. variables_outside at (record w { scope = with_variable d.name.number u (length_of d) b w.scope; taken = taken }) base t span ds (done ++ record { type = u; length = length_of d; bounds = b; initial = initial } ∷ []) (ap (with_variable d.name.number u (length_of d) b) o)))))
+    (λ u _. needs_promises OutsideBoth (may_lead_to (array_kind (is_ended_array d)) u) E13 (type_span base) _
+    (λ _. passing_promises (λ (b : WrittenBounds). Unit {0}) OutsideBoth (object_bounds w.scope d u) _ (anything_promised (object_bounds w.scope d u))
+    (λ b _.
+    let g = with_variable d.name.number u (length_of d) (is_ended_array d) b in
+    passing_promises (λ _. Unit {0}) OutsideBoth (initializer at (g w.scope) d.initializer) _ (anything_promised (initializer at (g w.scope) d.initializer))
+    (λ initial _. variables_outside at (record w { scope = g w.scope; taken = taken }) base t span ds (done ++ record { type = u; length = length_of d; ended = is_ended_array d; bounds = b; initial = initial } ∷ []) (ap g o))))))
 
 objects_outside : (w : Walk) (span : Span) (vs : List WalkedVariable) → Outside w.scope → Promises OutsideBehind (with_objects w span vs)
 objects_outside w span [] o = o
 objects_outside w span (v ∷ vs) o =
-    passing_promises (λ (cells : List Initial). Unit {0}) OutsideBehind (object_cells w.scope.given w.scope.structs v.type v.length v.initial span) _ (anything_promised (object_cells w.scope.given w.scope.structs v.type v.length v.initial span))
-    (λ cells _. needs_promises OutsideBehind (nat_lt 0 (length cells)) E10 span _ (λ _. objects_outside (record w { objects = w.objects ++ variable_of v.bounds cells ∷ [] }) span vs o))
+    passing_promises (λ (cells : List Initial). Unit {0}) OutsideBehind (object_cells w.scope.given w.scope.structs v.type v.length v.ended v.initial span) _ (anything_promised (object_cells w.scope.given w.scope.structs v.type v.length v.ended v.initial span))
+    (λ cells _. needs_promises OutsideBehind (nat_lt 0 (length cells)) E10 span _ (λ _. objects_outside (record w { objects = w.objects ++ variable_of v.ended v.bounds cells ∷ [] }) span vs o))
 
 global_outside : (at : Places) (w : Walk) (d : i.Global) → Outside w.scope → Promises OutsideBehind (global at w d)
 global_outside at w d o =

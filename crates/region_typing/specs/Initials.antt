@@ -15,7 +15,8 @@ use Rattle.region_typing_rules.specs.Verdicts.{Verdict, Passes, passing, needs, 
 use Rattle.ckc_tree.specs.declared.stmt.SignedConstant.{SignedConstant}
 use Rattle.region_typing_rules.specs.Items as rules
 use Rattle.region_typing_rules.specs.Cells.{cells_with}
-use Rattle.region_typing_rules.specs.Items.{is_zero, unsigned_constant, signed_constant, number_or_break}
+use Rattle.region_typing_rules.specs.Statements.{before_end}
+use Rattle.region_typing_rules.specs.Items.{is_zero, unsigned_constant, signed_constant, number_or_break, closed}
 use Rattle.region_typing_rules.specs.Items.{unsigned_number, signed_number, small_constants, zeros_of, are_zeros}
 use Rattle.region_typing.specs.declared.initials.Judged as code
 use Rattle.region_typing.specs.declared.initials.Judged.TheVariants as forms
@@ -92,13 +93,14 @@ abbrev pub listed : List Structure → CType → ℕ → Bool → List ℤ → S
 listed structs type n zeros zs span =
     picked (may_be_listed type zeros && nat_le (length zs) n) (Passes (elements_of structs type zs ++ zeros_of (n - length zs) structs type)) (breaks E13 span)
 
-abbrev pub judged_cells : List Structure → CType → Option ℕ → Judged → Span → Verdict (List Initial)
-judged_cells structs type None Missing span = Passes (cells_with structs type (pos 0))
-judged_cells structs type None (Constant zero number) span = constant_cells structs type zero number span
-judged_cells structs type None (Constants zeros zs) span = breaks E13 span
-judged_cells structs type (Some n) Missing span = Passes (zeros_of n structs type)
-judged_cells structs type (Some n) (Constant zero number) span = breaks E13 span
-judged_cells structs type (Some n) (Constants zeros zs) span = listed structs type n zeros zs span
+abbrev pub judged_cells : List Structure → CType → Option ℕ → (ended : Bool) → Judged → Span → Verdict (List Initial)
+judged_cells structs type None ended Missing span = Passes (cells_with structs type (pos 0))
+judged_cells structs type None ended (Constant zero number) span = constant_cells structs type zero number span
+judged_cells structs type None ended (Constants zeros zs) span = breaks E13 span
+judged_cells structs type (Some n) ended Missing span = Passes (zeros_of n structs type)
+judged_cells structs type (Some n) ended (Constant zero number) span = breaks E13 span
+judged_cells structs type (Some n) ended (Constants zeros zs) span =
+    passing (listed structs type (before_end ended n) zeros zs span) (λ cells. Passes (closed ended structs type cells))
 
 -- the number under a sign, or without one
 abbrev magnitude : Given → Expression → Option ℕ

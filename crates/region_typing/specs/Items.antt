@@ -16,8 +16,8 @@ use Rattle.region_typing_rules.specs.Scopes.{Scope, Signature, WrittenBounds, bo
 use Rattle.region_typing_rules.specs.Types.{type_named, without_stars}
 use Rattle.region_typing_rules.specs.Expressions.{Places, is_tainted}
 use Rattle.region_typing_rules.specs.DeclaredBounds.{declared_bounds}
-use Rattle.region_typing_rules.specs.Statements.{length_of, statements, is_unchecked}
-use Rattle.region_typing_rules.specs.Items.{Parameter, Defined, Walk, among_parameters, written_as, object_bounds, variable_of, with_variable}
+use Rattle.region_typing_rules.specs.Statements.{length_of, is_ended_array, array_element, statements, is_unchecked}
+use Rattle.region_typing_rules.specs.Items.{Parameter, Defined, Walk, among_parameters, declared_as, object_bounds, variable_of, with_variable}
 use Rattle.region_typing_rules.specs.Items.{room_for, initializer, inside, core_function, function_body}
 use Rattle.region_typing_rules.specs.Items.{parameter_types, type_of_result, bounds_of_result, names, first_changed_in, without_change}
 use Rattle.region_typing_rules.specs.KeptParameters.{all_changed}
@@ -56,9 +56,9 @@ one_member g m done =
     needs (nat_lt (length done) 64) E08 (type_span m.type.base)
     (passing (type_named g m.type) (λ t. Passes (done ++ record { name = m.name.name; ctype = t; span = m.span } ∷ [])))
 
--- what is written for the bounds of a parameter of a type, by its number
+-- what is declared for the bounds of a parameter of a type, by its number
 abbrev pub bounds_written : Scope → CType → ℕ → Option Bounds → Verdict WrittenBounds
-bounds_written g t local written = passing (declared_bounds g t local written) (λ b. Passes (written_as written b))
+bounds_written g t local written = passing (declared_bounds g t local written) (λ b. Passes (declared_as written b))
 
 -- a parameter more (E08), among all
 abbrev pub one_parameter : Scope → List i.Member → i.Member → List Parameter → Verdict (List Parameter)
@@ -72,13 +72,14 @@ abbrev pub has_no_base : Option Ends → Bool
 has_no_base None = true
 has_no_base (Some b) = is_none b.base
 
--- what is written for the bounds of the result of a function, which has this number (E16)
+-- what is declared for the bounds of the result of a function, which has this number (E16)
 abbrev pub result_written : Scope → Option CType → ℕ → Option Bounds → Verdict WrittenBounds
-result_written g result number None = Passes None
+result_written g result number None =
+    passing (declared_bounds g (type_of_result result) number None) (λ b. Passes (declared_as {A = Bounds} None b))
 result_written g result number (Some text) =
     passing (declared_bounds g (type_of_result result) number (Some text)) (λ b. needs (has_no_base b) E16 (bounds_span text) (Passes (Some b)))
 
--- parameters, and what is written for the bounds of the result over them
+-- parameters, and what is declared for the bounds of the result over them
 abbrev pub heading_of : Scope → List i.Member → Option CType → Option Bounds → Verdict (List Parameter × WrittenBounds)
 heading_of g all result bounds = passing (parameter_types g all all []) (λ ps. passing (bounds_of_result g all result bounds) (λ b. Passes (ps, b)))
 
@@ -86,15 +87,16 @@ heading_of g all result bounds = passing (parameter_types g all all []) (λ ps. 
 pub record JudgedVariable : Type 0 where
   pub type : CType
   pub length : Option ℕ
-  pub bounds : Option Ends
+  pub ended : Bool
+  pub bounds : WrittenBounds
   pub initial : Judged
 
 abbrev pub judged_variable : CType → code_variable.WalkedVariable → JudgedVariable
-judged_variable t v = record { type = t; length = v.count; bounds = v.bounds; initial = judged v.initial }
+judged_variable t v = record { type = t; length = v.count; ended = v.ended; bounds = v.bounds; initial = judged v.initial }
 
 -- a variable more, with the bytes that are taken then
-abbrev pub with_one : ℕ → CType → Option ℕ → Option Ends → ℕ → Walk → Walk
-with_one name t count bounds taken w = record w { scope = with_variable name t count bounds w.scope; taken = taken }
+abbrev pub with_one : ℕ → CType → Option ℕ → (ended : Bool) → WrittenBounds → ℕ → Walk → Walk
+with_one name t count ended bounds taken w = record w { scope = with_variable name t count ended bounds w.scope; taken = taken }
 
 -- what a variable is initialised with, where it is known
 abbrev pub judged_initializer : Places → Scope → Option Initializer → Verdict Judged
@@ -104,9 +106,10 @@ judged_initializer at g written = passing (initializer at g written) (λ x. Pass
 abbrev pub one_variable : Places → Walk → TypeTree → CType → Span → Declarator → Verdict (Walk × JudgedVariable)
 one_variable at w base type span d =
     passing (room_for w base span d) (λ taken. passing (without_stars base d.stars type) (λ t.
-    passing (object_bounds w.scope d t) (λ bounds.
-    passing (judged_initializer at (with_variable d.name.number t (length_of d) bounds w.scope) d.initializer) (λ initial.
-    Passes (with_one d.name.number t (length_of d) bounds taken w, record { type = t; length = length_of d; bounds = bounds; initial = initial })))))
+    array_element (is_ended_array d) t base
+    (passing (object_bounds w.scope d t) (λ bounds.
+    passing (judged_initializer at (with_variable d.name.number t (length_of d) (is_ended_array d) bounds w.scope) d.initializer) (λ initial.
+    Passes (with_one d.name.number t (length_of d) (is_ended_array d) bounds taken w, record { type = t; length = length_of d; ended = is_ended_array d; bounds = bounds; initial = initial }))))))
 
 -- the variables of a declaration
 abbrev pub judged_variables : Places → TypeTree → CType → Span → List Declarator → Walk × List JudgedVariable → Verdict (Walk × List JudgedVariable)
@@ -116,8 +119,8 @@ judged_variables at base type span (d ∷ ds) x =
 
 -- the cells of a variable more
 abbrev pub one_object : Span → JudgedVariable → Walk → Verdict Walk
-one_object span v w = passing (judged_cells w.scope.structs v.type v.length v.initial span)
-    (λ cells. needs (nat_lt 0 (length cells)) E10 span (Passes (record w { objects = w.objects ++ variable_of v.bounds cells ∷ [] })))
+one_object span v w = passing (judged_cells w.scope.structs v.type v.length v.ended v.initial span)
+    (λ cells. needs (nat_lt 0 (length cells)) E10 span (Passes (record w { objects = w.objects ++ variable_of v.ended v.bounds cells ∷ [] })))
 
 abbrev pub judged_objects : Span → List JudgedVariable → Walk → Verdict Walk
 judged_objects span [] w = Passes w

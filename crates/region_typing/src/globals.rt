@@ -4,12 +4,15 @@ ghost use Rattle.std.specs.Prelude.{◌≡◌, ◌<◌, ◌≤◌, ◌+◌, true
 ghost use Rattle.std.specs.Option.{option_map};
 ghost use Rattle.ckc_text.specs.Places.{place_at};
 ghost use Rattle.ckc_tree.specs.Types.{type_tree};
+ghost use Rattle.ckc_tree.specs.Expressions.{bounds as bounds_tree};
 ghost use Rattle.ckc_tree.specs.Statements.{initializer as initializer_tree, declarator as declarator_tree};
 ghost use Rattle.ckc_tree.specs.Items.{global as global_tree};
 ghost use Rattle.pointer_modes.specs.Types.{ctype as ctype_of};
 ghost use Rattle.flat_bytes.specs.Blocks.{rounded_up};
 ghost use Rattle.region_typing_rules.specs.Cells.{is_length as is_length_of};
-ghost use Rattle.region_typing_rules.specs.Items.{count_of as count_in, object_bounds as object_bounds_of, written_size as written_size_of, room_for as room_in, room_for_first as first_room_in, global as global_of};
+ghost use Rattle.region_typing_rules.specs.DeclaredBounds.{declared_bounds};
+ghost use Rattle.region_typing_rules.specs.Statements.{length_of as length_in};
+ghost use Rattle.region_typing_rules.specs.Items.{bounded_type, count_of as count_in, object_bounds as object_bounds_of, with_own, written_as as written_as_of, written_size as written_size_of, room_for as room_in, room_for_first as first_room_in, global as global_of};
 ghost use Rattle.region_typing_scope.specs.Answering.{Answers};
 ghost use Rattle.region_typing_scope.specs.Views.{scope as scope_of};
 ghost use Rattle.region_typing.specs.Initials.{judged as judged_view};
@@ -22,6 +25,7 @@ use ckc_core::program::Object;
 use ckc_text::code::Code;
 use ckc_text::fault::NoMemory;
 use ckc_text::place::Span;
+use ckc_tree::expr::BoundsText;
 use ckc_tree::item::Global as Declaration;
 use ckc_tree::stmt::{Declarator, Initializer};
 use ckc_tree::type_form::TypeForm;
@@ -33,9 +37,10 @@ use region_typing_scope::initial_cells::is_length;
 use region_typing_scope::place::Place;
 use region_typing_scope::refusals::{CheckError, meant, needs};
 use region_typing_scope::scope::Scope;
+use region_typing_scope::signature::bounds_in;
 use region_typing_scope::types::{base_type, copied};
 use region_typing_scope::visible::Visible;
-use region_typing_statements::local_arrays::length_of;
+use region_typing_statements::local_arrays::{array_element, is_ended_array, length_of};
 use std::slice;
 
 /// How many file-level variables a program may have.
@@ -140,13 +145,13 @@ fn initializer(
 }
 
 // The bounds of a variable of a type, which may name no other one, so that their ends are constants.
-fn object_bounds(
+fn own_bounds(
     context: &Context,
     scope: &Scope,
     t: &CType,
     d: &Declarator,
 ) -> Result<Option<Bounds>, CheckError>
-    ensures { Answers (λ b. b) (object_bounds_of (scope_of scope.now) (declarator_tree d.now) (ctype_of t.now)) result }
+    ensures { Answers (λ b. b) (declared_bounds (with_own (declarator_tree d.now).name.number (ctype_of t.now) (scope_of scope.now)) (bounded_type (length_in (declarator_tree d.now)) (ctype_of t.now)) 0 (declarator_tree d.now).bounds) result }
 {
     let own = Visible {
         name: d.name.number,
@@ -163,6 +168,29 @@ fn object_bounds(
     }
 }
 
+// What is written for bounds, where it comes to these.
+fn written_as(written: &Option<BoundsText>, bounds: Option<Bounds>) -> Option<Option<Bounds>>
+    ensures { result ≡ written_as_of (option_map bounds_tree written.now) bounds }
+{
+    match written {
+        None => None,
+        Some(_) => Some(bounds),
+    }
+}
+
+// What is written for the bounds of a variable of a type.
+fn object_bounds(
+    context: &Context,
+    scope: &Scope,
+    t: &CType,
+    d: &Declarator,
+) -> Result<Option<Option<Bounds>>, CheckError>
+    ensures { Answers (λ b. b) (object_bounds_of (scope_of scope.now) (declarator_tree d.now) (ctype_of t.now)) result }
+{
+    let bounds = own_bounds(context, scope, t, d)?;
+    Ok(written_as(&d.bounds, bounds))
+}
+
 // A variable more.
 fn add_variable(
     context: &Context,
@@ -170,25 +198,27 @@ fn add_variable(
     name: usize,
     t: &CType,
     count: Option<u32>,
-    bounds: Option<Bounds>,
+    ended: bool,
+    bounds: Option<Option<Bounds>>,
     taken: u32,
 ) -> Result<(), NoMemory>
     requires few { length walk.old.scope.variables.items < 4096 }
     requires room { taken ≤ 32768 }
-    ensures { OnOk result (walk_of walk.new ≡ with_one name (ctype_of t.now) count bounds taken (walk_of walk.old)) }
+    ensures { OnOk result (walk_of walk.new ≡ with_one name (ctype_of t.now) count ended bounds taken (walk_of walk.old)) }
 {
     let t = copied(context, t)?;
-    walk.scope.add_variable(name, t, count, bounds)?;
+    walk.scope.add_variable(name, t, count, ended, bounds)?;
     walk.taken = taken;
     Ok(())
 }
 
-/// What a variable of a declaration is initialised with, how many elements it has where it is an array, and the bounds that are
-/// declared for it.
+/// What a variable of a declaration is initialised with, how many elements it has where it is an array, and whether a zero ends
+/// these, and what is written for its bounds.
 #[derive(Drop)]
 pub struct WalkedVariable {
     pub count: Option<u32>,
-    pub bounds: Option<Bounds>,
+    pub ended: bool,
+    pub bounds: Option<Option<Bounds>>,
     pub initial: Judged,
 }
 
@@ -205,12 +235,15 @@ fn variable(
 {
     let taken = room_for(walk, base, span, d)?;
     needs(d.stars == 0, Code::E15, base.span())?;
+    let ended = is_ended_array(d);
+    array_element(ended, t, base)?;
     let bounds = object_bounds(context, &walk.scope, t, d)?;
     let count = length_of(d);
-    add_variable(context, walk, d.name.number, t, count, bounds, taken)?;
+    add_variable(context, walk, d.name.number, t, count, ended, bounds, taken)?;
     let initial = initializer(context, &walk.scope, &d.initializer)?;
     Ok(WalkedVariable {
         count,
+        ended,
         bounds,
         initial,
     })
@@ -245,12 +278,13 @@ fn object(
 ) -> Result<(), CheckError>
     ensures { Answers (λ _. walk_of walk.new) (one_object span (judged_variable (ctype_of t.now) v.now) (walk_of walk.old)) result }
 {
-    let cells = cells_of(context, &walk.scope.structs, t, v.count, &v.initial, span)?;
+    let structs = &walk.scope.structs;
+    let cells = cells_of(context, structs, t, v.count, v.ended, &v.initial, span)?;
     let filled = !cells.is_empty();
     walk.objects.push(Object {
         cells,
-        zero_ended: false,
-        is_sealed: v.bounds.is_some(),
+        zero_ended: v.ended,
+        is_sealed: bounds_in(&v.bounds).is_some(),
     })?;
     needs(filled, Code::E10, span)
 }

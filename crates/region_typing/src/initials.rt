@@ -1,12 +1,12 @@
 // The cells of file-level variables before the run.
 
-ghost use Rattle.std.specs.Prelude.{◌≡◌, ◌<◌, ◌≤◌, ◌==◌, ◌++◌, true, pos, None, Some, length, map, slice_index_or, IfOk, IfSome, OnOk};
+ghost use Rattle.std.specs.Prelude.{◌≡◌, ◌<◌, ◌≤◌, ◌==◌, ◌++◌, Bool, true, pos, None, Some, length, map, slice_index_or, IfOk, IfSome, OnOk};
 ghost use Rattle.ckc_tree.specs.Expressions.{expression as expression_tree};
 ghost use Rattle.pointer_modes.specs.Types.{ctype as ctype_of};
 ghost use Rattle.ckc_core.specs.Core.{initial as initial_of};
 ghost use Rattle.ckc_core.specs.Steps.{low_byte as low_byte_of};
 ghost use Rattle.region_typing_rules.specs.Cells.{cells_with as cells_as};
-ghost use Rattle.region_typing_rules.specs.Items.{Written, are_zeros as are_zeros_in, is_zero_constant as is_zero_in, negative as negative_of, null_number as null_number_of, unsigned_constant as unsigned_of, signed_constant as signed_of, zeros_of};
+ghost use Rattle.region_typing_rules.specs.Items.{Written, closed as closed_of, are_zeros as are_zeros_in, is_zero_constant as is_zero_in, negative as negative_of, null_number as null_number_of, unsigned_constant as unsigned_of, signed_constant as signed_of, zeros_of};
 ghost use Rattle.region_typing_scope.specs.Answering.{Answers};
 ghost use Rattle.region_typing_scope.specs.Typed.{typed as typed_view};
 ghost use Rattle.region_typing.specs.Initials.{IsSmall, elements_of, judged_numbers, kept_as as kept_as_in, listed, may_be_listed as may_be_listed_for, number_listed, number_more, numbers_listed, judged_as, judged_cells, cell_number as cell_number_as, constant_cells as constant_cells_as, judged as judged_of};
@@ -21,7 +21,7 @@ use ckc_tree::stmt::{Constant, SignedConstant};
 use pointer_modes::ctype::CType;
 use pointer_modes::structs::Structs;
 use region_typing_scope::context::Context;
-use region_typing_scope::initial_cells::{cells_with, push_cells};
+use region_typing_scope::initial_cells::{before_end, cells_with, push_cells};
 use region_typing_scope::refusals::{CheckError, refusal};
 use region_typing_scope::typed::{Typed, is_zero};
 
@@ -305,7 +305,7 @@ fn value_cells(
     initial: &Judged,
     span: Span,
 ) -> Result<Vec<Initial>, CheckError>
-    ensures { Answers (λ v. map initial_of v.items) (judged_cells structs.now (ctype_of t.now) None (judged_of initial.now) span) result }
+    ensures { (ended : Bool) → Answers (λ v. map initial_of v.items) (judged_cells structs.now (ctype_of t.now) None ended (judged_of initial.now) span) result }
 {
     match initial {
         Judged::Missing => Ok(cells_with(context, structs, t, 0)?),
@@ -316,40 +316,61 @@ fn value_cells(
     }
 }
 
-// The cells of an array of so many elements.
+// The cells of elements that are listed, with the zero that ends them, where one does.
+fn closed(
+    context: &Context,
+    structs: &Structs,
+    t: &CType,
+    ended: bool,
+    listed: Vec<Initial>,
+) -> Result<Vec<Initial>, NoMemory>
+    ensures { IfOk result (λ v. map initial_of v.items ≡ closed_of ended structs.now (ctype_of t.now) (map initial_of listed.items)) }
+{
+    let mut cells = listed;
+    if ended {
+        push_zeros(context, structs, t, 1, &mut cells)?;
+    }
+    Ok(cells)
+}
+
+// The cells of an array of so many elements, of which the last one may be the zero that ends it.
 fn array_cells(
     context: &Context,
     structs: &Structs,
     t: &CType,
     count: u32,
+    ended: bool,
     initial: &Judged,
     span: Span,
 ) -> Result<Vec<Initial>, CheckError>
-    ensures { Answers (λ v. map initial_of v.items) (judged_cells structs.now (ctype_of t.now) (Some count) (judged_of initial.now) span) result }
+    ensures { Answers (λ v. map initial_of v.items) (judged_cells structs.now (ctype_of t.now) (Some count) ended (judged_of initial.now) span) result }
 {
     match initial {
         Judged::Missing => Ok(elements_with(context, structs, t, count, &[])?),
         Judged::Constant { .. } => Err(refusal(Code::E13, span)),
         Judged::List { zeros, numbers } => {
-            listed_cells(context, structs, t, count, *zeros, numbers.as_slice(), span)
+            let count = before_end(ended, count);
+            let cells = listed_cells(context, structs, t, count, *zeros, numbers.as_slice(), span)?;
+            Ok(closed(context, structs, t, ended, cells)?)
         }
     }
 }
 
-/// The cells of a variable, or of so many elements, by what it is initialised with.
+/// The cells of a variable, or of so many elements, which a zero ends or not, by what it is initialised with.
 pub fn cells_of(
     context: &Context,
     structs: &Structs,
     t: &CType,
     count: Option<u32>,
+    ended: bool,
     initial: &Judged,
     span: Span,
 ) -> Result<Vec<Initial>, CheckError>
-    ensures { Answers (λ v. map initial_of v.items) (judged_cells structs.now (ctype_of t.now) count (judged_of initial.now) span) result }
+    ensures { Answers (λ v. map initial_of v.items) (judged_cells structs.now (ctype_of t.now) count ended (judged_of initial.now) span) result }
 {
     match count {
         None => value_cells(context, structs, t, initial, span),
-        Some(count) => array_cells(context, structs, t, count, initial, span),
+        Some(count) => array_cells(context, structs, t, count, ended, initial, span),
     }
 }
 

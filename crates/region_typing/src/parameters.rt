@@ -9,7 +9,7 @@ ghost use Rattle.pointer_modes.specs.Types.{ctype as ctype_of};
 ghost use Rattle.bounds_flow.specs.Conditions.{AreBoundsBelow};
 ghost use Rattle.region_typing_rules.specs.Scopes.{bounds_in};
 ghost use Rattle.region_typing_rules.specs.Types.{type_named as type_named_of};
-ghost use Rattle.region_typing_rules.specs.Items.{listed as listed_of, type_ahead as type_ahead_of, types_ahead as types_ahead_of, seen_parameters as seen_parameters_of, among_parameters as among_parameters_of, parameter_types as parameter_types_of, type_of_result};
+ghost use Rattle.region_typing_rules.specs.Items.{declared_as as declared_as_of, listed as listed_of, type_ahead as type_ahead_of, types_ahead as types_ahead_of, seen_parameters as seen_parameters_of, among_parameters as among_parameters_of, parameter_types as parameter_types_of, type_of_result};
 ghost use Rattle.region_typing_rules.specs.DeclaredBounds.{declared_bounds as declared_bounds_of};
 ghost use Rattle.region_typing_scope.specs.Answering.{Answers};
 ghost use Rattle.region_typing_scope.specs.Views.{scope as scope_of, visible as visible_of};
@@ -144,7 +144,20 @@ fn among_parameters(
     })
 }
 
-// What is written for the bounds of a parameter of a type, by its number.
+// What is declared for bounds: what is written, where it comes to these, and else those that the type has.
+fn declared_as(written: &Option<BoundsText>, bounds: Option<Bounds>) -> Option<Option<Bounds>>
+    ensures { result ≡ declared_as_of (option_map bounds_tree written.now) bounds }
+{
+    match written {
+        None => match bounds {
+            None => None,
+            Some(_) => Some(bounds),
+        },
+        Some(_) => Some(bounds),
+    }
+}
+
+// What is declared for the bounds of a parameter of a type, by its number.
 fn written_bounds(
     context: &Context,
     place: &Place,
@@ -156,10 +169,7 @@ fn written_bounds(
     ensures below { IfOk result (λ b. AreBoundsBelow (length place.now.locals.now) (bounds_in b)) }
 {
     let bounds = bounds_at(context, place, t, local, written)?;
-    match written {
-        None => Ok(None),
-        Some(_) => Ok(Some(bounds)),
-    }
+    Ok(declared_as(written, bounds))
 }
 
 // A parameter more.
@@ -237,7 +247,7 @@ fn has_no_base(bounds: &Option<Bounds>) -> bool
     }
 }
 
-// What is written for the bounds of the result of a function, which has this number, in a place.
+// What is declared for the bounds of the result of a function, which has this number, in a place.
 fn result_bounds(
     context: &Context,
     place: &Place,
@@ -249,7 +259,7 @@ fn result_bounds(
 {
     let bounds = bounds_in_place(context, place, result_type, number, written)?;
     match written {
-        None => Ok(None),
+        None => Ok(declared_as(written, bounds)),
         Some(text) => {
             needs(has_no_base(&bounds), Code::E16, text.span())?;
             Ok(Some(bounds))

@@ -1,5 +1,5 @@
 -- The rules of operators by tests of their operands.
-use Rattle.std.proofs.Common.{◌≡◌, Bool, true, false, not, ◌&&◌, ◌||◌, refl}
+use Rattle.std.proofs.Common.{◌≡◌, Bool, true, false, not, ◌&&◌, ◌||◌, refl, ap, ◌∙◌}
 use Rattle.ckc_text.specs.declared.place.Span.{Span}
 use Rattle.ckc_text.specs.declared.code.Code.TheVariants.{E13, E18, E19}
 use Rattle.act_words.specs.declared.operator.Comparison.{Comparison}
@@ -9,16 +9,16 @@ use Rattle.ckc_core.specs.Core as core
 use Rattle.pointer_modes.specs.Types.{CType, Int, Char, Struct, Pointer}
 use Rattle.region_typing_rules.specs.Types.{is_number, is_pointer, are_comparable}
 use Rattle.region_typing_rules.specs.Scopes.{Scope}
-use Rattle.region_typing_rules.specs.Verdicts.{Verdict, Passes, passing, needs, breaks, picked}
-use Rattle.region_typing_rules.specs.Expressions.{Typed, Value, AStruct, equated, equated_values, scalar_of, two_numbers, ordered, indexed, element_at, summed, arithmetic, operator_along}
+use Rattle.region_typing_rules.specs.Verdicts.{Verdict, Passes, Stops, passing, needs, breaks, picked}
+use Rattle.region_typing_rules.specs.Expressions.{Typed, Value, AStruct, equated, equated_values, scalar_of, two_numbers, number, ordered, indexed, element_at, summed, arithmetic, operator_along, is_ended_element, zero_test}
 use Rattle.region_typing_rules.specs.Expressions.{is_single_value, lacks_bounds, without_ptr}
 use Rattle.region_typing_expressions.specs.declared.equality.Equality.{Equality}
 use Rattle.region_typing_expressions.specs.declared.equality.Equality.TheVariants.{Numbers, Pointers, RightNull, LeftNull}
-use Rattle.region_typing_expressions.specs.Comparing.{is_number_value, is_pointer_value, are_comparable_values, compared, related}
+use Rattle.region_typing_expressions.specs.Comparing.{is_number_value, is_pointer_value, is_zero_test, are_comparable_values, compared, related}
 use Rattle.region_typing_expressions.specs.Moves.{moved}
 use Rattle.region_typing_scope.specs.Operands.{operand_of}
 use Rattle.region_typing_scope.proofs.Entailing.{needs_then}
-use Rattle.region_typing_expressions.specs.Equality.{equality, equated_by}
+use Rattle.region_typing_expressions.specs.Equality.{equality, equated_by, tested_by}
 
 and_false : (b : Bool) → (b && false) ≡ false
 and_false true = refl
@@ -44,6 +44,41 @@ equated_parts (Value t z v p) (Value u y w q) span = values_by_tests t z v u y w
 equated_parts (Value t z v p) (AStruct n q) span = rw (and_false (is_number t), and_false (is_pointer t)) refl
 equated_parts (AStruct n p) (Value u y w q) span = rw (and_false (is_pointer u)) refl
 equated_parts (AStruct n p) (AStruct m q) span = refl
+
+-- a test of zero by how its operands are compared
+tested : (number : Bool) (how : Equality) (v w : core.Expression) → picked number (core.Not v) (equated_by how v w) ≡ tested_by number how v w
+tested true how v w = refl
+tested false how v w = refl
+
+zero_tested : (t : CType) (z : Bool) (v : core.Expression) (u : CType) (y : Bool) (w : core.Expression) (p q : _) (how : Equality)
+    → zero_test (Value t z v p) (Value u y w q) (equated_by how v w) ≡ tested_by (is_zero_test (Value t z v p) (Value u y w q)) how v w
+zero_tested t z v u true w p q how = tested (is_number t && is_ended_element v) how v w
+zero_tested t z v u false w p q how = refl
+
+tests_then : (e : Verdict Equality) (equal : Equality → core.Expression) (test : core.Expression → core.Expression) (tests : Equality → core.Expression) → ((how : Equality) → test (equal how) ≡ tests how)
+    → passing (passing e (λ how. Passes (equal how))) (λ v. number (core.Not (test v))) ≡ passing e (λ how. number (core.Not (tests how)))
+tests_then (Passes how) equal test tests same = ap (λ v. number (core.Not v)) (same how)
+tests_then (Stops stop) equal test tests same = refl
+
+breaks_then : (e : Verdict Equality) (span : Span) (test : core.Expression → core.Expression)
+    → passing (passing e (λ how. breaks E13 span)) (λ v. number (core.Not (test v))) ≡ passing e (λ how. breaks E13 span)
+breaks_then (Passes how) span test = refl
+breaks_then (Stops stop) span test = refl
+
+abbrev differs : Typed → Typed → core.Expression → Verdict Typed
+differs a b v = number (core.Not (zero_test a b v))
+
+-- a difference by how its operands are compared
+pub different_parts : (a b : Typed) (span : Span) → passing (equated a b span) (λ v. number (core.Not (zero_test a b v)))
+    ≡ passing (equality a b span) (λ how. passing (scalar_of a span Passes) (λ v. passing (scalar_of b span Passes) (λ w. number (core.Not (tested_by (is_zero_test a b) how v w)))))
+different_parts (Value t z v p) (Value u y w q) span =
+    ap (λ e. passing e (differs (Value t z v p) (Value u y w q))) (equated_parts (Value t z v p) (Value u y w q) span)
+    ∙ tests_then (equality (Value t z v p) (Value u y w q) span) (λ how. equated_by how v w) (zero_test (Value t z v p) (Value u y w q)) _ (zero_tested t z v u y w p q)
+different_parts (Value t z v p) (AStruct n q) span =
+    ap (λ e. passing e (differs (Value t z v p) (AStruct n q))) (equated_parts (Value t z v p) (AStruct n q) span)
+    ∙ breaks_then (equality (Value t z v p) (AStruct n q) span) span (zero_test (Value t z v p) (AStruct n q))
+different_parts (AStruct n p) b span =
+    ap (λ e. passing e (differs (AStruct n p) b)) (equated_parts (AStruct n p) b span) ∙ breaks_then (equality (AStruct n p) b span) span (zero_test (AStruct n p) b)
 
 numbers_ordered : (comparison : Comparison) (v w : core.Expression) (z y : Bool) (u : CType) (p q : _) (site : Site) (span : Span) (number : Bool) → is_number u ≡ number
     → ordered comparison (Value Int z v p) (Value u y w q) site span ≡ two_numbers (Value Int z v p) (Value u y w q) span (compared comparison)

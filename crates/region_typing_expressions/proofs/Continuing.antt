@@ -1,7 +1,7 @@
 -- Rules that go on with the value of an operand.
 use Rattle.std.proofs.Common.{◌≡◌, ℕ, Bool, true, false, not, ◌&&◌, ◌||◌, List, [], ◌∷◌, Option, Some, None, refl, arith}
 use Rattle.bounds_exprs.specs.declared.term.Term.{Term}
-use Rattle.std.specs.Prelude.{is_none}
+use Rattle.std.specs.Prelude.{is_none, is_some}
 use Rattle.ckc_text.specs.declared.place.Span.{Span}
 use Rattle.ckc_text.specs.declared.code.Code.TheVariants.{E13, E17, E18, E19}
 use Rattle.pointer_modes.specs.Types.{CType, Int, Char, Struct, Pointer}
@@ -13,13 +13,14 @@ use Rattle.ckc_core.specs.declared.program.Direction.{Direction}
 use Rattle.region_typing_rules.specs.Verdicts.{Verdict, Passes, Stops, passing, needs, picked}
 use Rattle.region_typing_rules.specs.Scopes.{Scope, Signature, WrittenBounds, bounds_in}
 use Rattle.region_typing_rules.specs.Types.{is_number, is_single, is_row}
-use Rattle.region_typing_rules.specs.Expressions.{Places, Typed, Value, AStruct, ForNothing, ForArray, For, GivesNothing, number_of, converted, site_at, first_of, writes}
+use Rattle.region_typing_rules.specs.Expressions.{Places, Typed, Value, AStruct, ForNothing, ForArray, For, Gives, GivesNothing, number_of, converted, site_at, first_of, writes, is_text, length_typed}
 use Rattle.region_typing_rules.specs.Expressions.{is_single_value, lacks_bounds, argument_meets, arguments_as, arguments_met, call_of, declared_callee, pointers_for, terms_for}
 use Rattle.region_typing_rules.specs.Statements.{declared_for, updated, set_to, store}
 use Rattle.region_typing_expressions.specs.ArgumentBounds.{first_unmet, first_unmet_of, result_bounds_of, unless_unmet}
 use Rattle.region_typing_expressions.specs.Calls.{only_number, converted_call}
 use Rattle.region_typing_expressions.specs.Targets.{target_of, updated_target}
 use Rattle.region_typing_scope.specs.Entailing.{fitted}
+use Rattle.region_typing_scope.specs.Operands.{operand_of}
 use Rattle.region_typing_scope.proofs.Entailing.{needs_then, converted_then, fits_then}
 
 pub number_then : {A : Type 0} (t : Typed) (span : Span) (next : core.Expression → Verdict A) → number_of t span next ≡ passing (number_of t span Passes) next
@@ -57,11 +58,17 @@ writes_parts of [] span = refl
 writes_parts of (a ∷ []) span = rw (converted_then a.0 Int a.1) (one_value (converted a.0 Int a.1 Passes) (λ values. Passes (GivesNothing (first_of of values))))
 writes_parts of (a ∷ b ∷ others) span = grind arith
 
+-- the length of a text, by what it is as a value
+pub length_parts : (t : Typed) (site : Site) (span : Span) → length_typed t site span
+    ≡ passing (operand_of t span) (λ o. passing (needs (is_text o.type && is_some (bounds_of o.value)) E13 span (Passes tt)) (λ (u : Unit {0}). Passes (Gives Int (core.Length o.value site))))
+length_parts (Value type null value place) site span = needs_then (is_text type && is_some (bounds_of value)) E13 span tt (λ (u : Unit {0}). Passes (Gives Int (core.Length value site)))
+length_parts (AStruct struct place) site span = refl
+
 -- a store as one of its target
-pub set_parts : (f : Knowledge) (left right : Typed) (span : Span) → set_to f left right span ≡ passing (target_of left span) (λ t. passing (fitted f (declared_for t.place) right t.type span) (λ value. Passes (store t.place t.type value)))
+pub set_parts : (f : Knowledge) (left right : Typed) (span : Span) → set_to f left right span ≡ passing (target_of left span) (λ t. passing (fitted f (declared_for t.place t.type) right t.type span) (λ value. Passes (store t.place t.type value)))
 set_parts f (Value type null value ForNothing) right span = refl
 set_parts f (Value type null value ForArray) right span = refl
-set_parts f (Value type null value (For place)) right span = fits_then f (declared_for place) right type span _
+set_parts f (Value type null value (For place)) right span = fits_then f (declared_for place type) right type span _
 set_parts f (AStruct struct place) right span = refl
 
 -- ---- arguments whose bounds are met

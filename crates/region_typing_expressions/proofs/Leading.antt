@@ -10,7 +10,7 @@ use Rattle.ckc_core.specs.declared.program.Site.{Site}
 use Rattle.ckc_core.specs.Core as core
 use Rattle.ckc_core.specs.Meaning.{bounds_of}
 use Rattle.region_typing_rules.specs.Verdicts.{Verdict, Passes, Stops, passing}
-use Rattle.region_typing_rules.specs.Expressions.{Places, Typed, Value, AStruct, at_place, dereferenced, pointed_at, first_element, site_at, typed}
+use Rattle.region_typing_rules.specs.Expressions.{Places, Typed, Value, AStruct, at_place, dereferenced, pointed_at, first_element, first_or_end, site_at, typed}
 use Rattle.region_typing_rules.specs.Scopes.{Scope}
 use Rattle.ckc_tree.specs.Expressions.{Expression, Index}
 use Rattle.region_typing_expressions.specs.Unbounded.{element_verdict}
@@ -28,7 +28,7 @@ pub pointed_parts : (mode : Mode) (kind : Kind) (target : CType) (value : core.E
     → pointed_at (Pointer mode kind target) value site span ≡ passing (base_of_kind kind value site span) (λ p. Passes (at_place target p))
 pointed_parts mode kinds.One target value site span = refl
 pointed_parts mode kinds.Array target value site span = needs_then (is_some (bounds_of value)) _ span (first_element value site) (λ p. Passes (at_place target p))
-pointed_parts mode kinds.Nt target value site span = refl
+pointed_parts mode kinds.Nt target value site span = needs_then (is_some (bounds_of value)) _ span (first_or_end value site) (λ p. Passes (at_place target p))
 
 -- the struct that a type is
 pub struct_is : (t : CType) (number : _) → struct_of t ≡ Some number → t ≡ Struct number

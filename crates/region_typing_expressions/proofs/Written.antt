@@ -1,12 +1,16 @@
--- What is written for bounds is read without what is known.
+-- What is written for bounds, and for the size of new memory, is read without what is known.
 use Rattle.std.proofs.Common.{◌≡◌, length, refl}
+use Rattle.ckc_text.specs.declared.place.Span.{Span}
+use Rattle.ckc_tree.specs.declared.expr.CallocWord.{CallocWord}
+use Rattle.ckc_tree.specs.declared.expr.CallocWord.TheVariants as calloc_words
 use Rattle.ckc_tree.specs.Expressions as e
 use Rattle.ckc_tree.specs.Expressions.{Expression, Expressions}
 use Rattle.pointer_modes.specs.Types.{CType}
 use Rattle.bounds_flow.specs.Flows.{Knowledge}
+use Rattle.ckc_core.specs.declared.program.Site.{Site}
 use Rattle.region_typing_rules.specs.Scopes.{Scope}
 use Rattle.region_typing_rules.specs.DeclaredBounds.{Bounded, sum_written, all_written, parts_written, how_written, bounded_of}
-use Rattle.region_typing_rules.specs.Expressions.{cast_bounds}
+use Rattle.region_typing_rules.specs.Expressions.{Typed, calloc_typed, cast_bounds}
 use Rattle.region_typing_rules.specs.Knowing.{knowing}
 
 module _ (f : Knowledge) (s : Scope) (p : Bounded) where
@@ -46,3 +50,7 @@ module _ (f : Knowledge) (s : Scope) (p : Bounded) where
 
 pub cast_same : (f : Knowledge) (s : Scope) (to : CType) (b : e.Bounds) → cast_bounds (knowing f s) to b ≡ cast_bounds s to b
 cast_same f s to b = rw (how_same f s (bounded_of (length s.locals) to) b) refl
+
+pub calloc_same : (f : Knowledge) (s : Scope) (word : CallocWord) (t : CType) (a : Typed) (size : Expression) (site : Site) (span : Span) → calloc_typed word (knowing f s) t a size site span ≡ calloc_typed word s t a size site span
+calloc_same f s calloc_words.Calloc t a size site span = refl
+calloc_same f s calloc_words.NtCalloc t a size site span = refl

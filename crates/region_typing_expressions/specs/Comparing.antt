@@ -1,5 +1,5 @@
 -- Inside: tests of operands, the order of two numbers, and that of two pointers.
-use Rattle.std.specs.Prelude.{Bool, false, ◌&&◌, Option, None}
+use Rattle.std.specs.Prelude.{Bool, true, false, ◌&&◌, Option, None}
 use Rattle.ckc_text.specs.declared.place.Span.{Span}
 use Rattle.ckc_text.specs.declared.code.Code.TheVariants.{E26}
 use Rattle.bounds_exprs.specs.declared.term.Bounds.{Bounds}
@@ -10,7 +10,8 @@ use Rattle.act_words.specs.declared.operator.Comparison.{Comparison}
 use Rattle.region_typing_rules.specs.Types.{is_number, is_pointer, is_row, are_comparable}
 use Rattle.region_typing_rules.specs.Verdicts.{Verdict, needs}
 use Rattle.region_typing_rules.specs.Readings.{based_bounds}
-use Rattle.region_typing_rules.specs.Expressions.{Typed, Value, AStruct, number, two_scalars, have_one_base}
+use Rattle.region_typing_rules.specs.Expressions.{Typed, Value, AStruct, number, two_scalars, have_one_base, is_ended_element}
+use Rattle.region_typing_rules.specs.Items.{is_zero}
 
 abbrev pub is_number_value : Typed → Bool
 is_number_value (Value type zero value place) = is_number type
@@ -51,3 +52,17 @@ are_related_values a b = is_row_value a && (is_row_value b && have_one_base (bas
 -- the order of two pointers of one mode and element (E26)
 abbrev pub related : Comparison → Typed → Typed → Site → Span → Verdict Typed
 related comparison a b site span = needs (are_related_values a b) E26 span (two_scalars a b span (ordered_pointers comparison site))
+
+-- an element of a null-terminated pointer, or what stands at its upper end
+abbrev pub is_ended_value : Typed → Bool
+is_ended_value (Value type zero value place) = is_ended_element value
+is_ended_value (AStruct number place) = false
+
+-- a number that is such an element, and the constant 0
+abbrev pub is_zero_test : Typed → Typed → Bool
+is_zero_test a b = is_zero b && (is_number_value a && is_ended_value a)
+
+-- whether a place is such an element
+abbrev pub is_ended_place : core.Place → Bool
+is_ended_place (core.Through pointer (core.Element number true) offset site) = true
+is_ended_place _ = false

@@ -1,5 +1,5 @@
 -- Inside: equality by how two operands are compared.
-use Rattle.std.specs.Prelude.{◌&&◌}
+use Rattle.std.specs.Prelude.{Bool, true, false, ◌&&◌}
 use Rattle.ckc_text.specs.declared.place.Span.{Span}
 use Rattle.ckc_text.specs.declared.code.Code.TheVariants.{E13}
 use Rattle.act_words.specs.declared.operator.Comparison.TheVariants as comparisons
@@ -24,3 +24,8 @@ equated_by Numbers v w = core.Compare comparisons.Equal v w
 equated_by Pointers v w = core.Same v w
 equated_by RightNull v w = core.Same v core.Null
 equated_by LeftNull v w = core.Same core.Null w
+
+-- the same, where an element of a null-terminated pointer may be compared with the constant 0
+abbrev pub tested_by : (tests_zero : Bool) → Equality → core.Expression → core.Expression → core.Expression
+tested_by true how v w = core.Not v
+tested_by false how v w = equated_by how v w

@@ -15,8 +15,9 @@ use Rattle.ckc_core.specs.Core.{place}
 use Rattle.region_typing_rules.specs.Verdicts.{Verdict, Passes, passing, needs, breaks, picked}
 use Rattle.region_typing_rules.specs.Scopes.{Scope}
 use Rattle.region_typing_rules.specs.Types.{is_scalar, is_pointer, is_single, is_row}
-use Rattle.region_typing_rules.specs.Expressions.{Typed, Value, AStruct, ForNothing, ForArray, For, Lvalue, OfLocal, OfCell, OfBounded, number_of}
+use Rattle.region_typing_rules.specs.Expressions.{Typed, Value, AStruct, ForNothing, ForArray, For, Lvalue, OfLocal, OfCell, OfBounded, OfUnknown, number_of}
 use Rattle.region_typing_rules.specs.Expressions.{is_single_value, lacks_bounds, meets, operator_along, sum_node}
+use Rattle.region_typing_rules.specs.DeclaredBounds.{unwritten_bounds}
 use Rattle.region_typing_rules.specs.Statements.{update, moved}
 use Rattle.region_typing_expressions.specs.declared.assignments.Lvalue as code
 use Rattle.region_typing_expressions.specs.declared.assignments.Lvalue.TheVariants as lvalues
@@ -26,12 +27,14 @@ abbrev pub lvalue : code.Lvalue → Lvalue
 lvalue (lvalues.Local local) = OfLocal local
 lvalue (lvalues.Cell cell) = OfCell (place cell)
 lvalue (lvalues.Bounded object declared) = OfBounded object declared
+lvalue (lvalues.Unknown object) = OfUnknown object
 
 -- what a place of a type holds, with bounds at its node
 abbrev pub held : CType → code.Lvalue → Option PointerBounds → core.Expression
 held type (lvalues.Local local) bounds = core.Local local bounds
 held type (lvalues.Cell cell) bounds = core.Load type (place cell) bounds
 held type (lvalues.Bounded object declared) bounds = core.Load type (core.Direct object 0) bounds
+held type (lvalues.Unknown object) bounds = core.Load type (core.Direct object 0) bounds
 
 -- a place, its type, and what it holds
 pub record Target : Type 0 where
@@ -67,10 +70,17 @@ may_update t right span =
 abbrev pub bounded_sum : Knowledge → ℕ → Bounds → CType → core.Expression → Span → Verdict core.Statement
 bounded_sum f object bounds type sum span = needs (meets f sum (Some bounds)) E17 span (Passes (core.Store type (core.Direct object 0) sum))
 
+-- no sum is stored in a cell, whether it meets the bounds that are asked there or not (E17, E18)
+abbrev pub cell_sum : Knowledge → CType → core.Expression → Span → Verdict core.Statement
+cell_sum f type sum span = needs (meets f sum (unwritten_bounds type)) E17 span (breaks E18 span)
+
+-- a pointer that is moved by a number
+abbrev pub sum_of : Scope → Direction → core.Expression → core.Expression → Site → core.Expression
+sum_of s direction pointer value site = core.Sum pointer direction value site (sum_node s.locals direction pointer value site)
+
 -- a pointer that becomes a sum of it (E17, E18)
 abbrev pub moved_target : Scope → Direction → Target → core.Expression → Site → Span → Verdict core.Statement
-moved_target s direction t value site span =
-    moved s.flow t.place t.type (core.Sum t.value direction value site (sum_node s.locals direction t.value value site)) span
+moved_target s direction t value site span = moved s.flow t.place t.type (sum_of s direction t.value value site) span
 
 -- a pointer is moved, and a number is updated in its place
 abbrev pub update_by : Scope → Direction → Target → core.Expression → Site → Span → Verdict core.Statement

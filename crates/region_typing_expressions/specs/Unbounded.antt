@@ -6,7 +6,7 @@ use Rattle.ckc_core.specs.declared.program.Site.{Site}
 use Rattle.ckc_tree.specs.Expressions.{Expression}
 use Rattle.region_typing_rules.specs.Verdicts.{Verdict, Passes, passing}
 use Rattle.region_typing_rules.specs.Scopes.{Scope, named}
-use Rattle.region_typing_rules.specs.Expressions.{Places, Typed, site_at, name_typed, bounded, indexed, dotted, arrowed, unary_typed, typed}
+use Rattle.region_typing_rules.specs.Expressions.{Places, Typed, site_at, name_typed, in_cell, indexed, dotted, arrowed, unary_typed, typed}
 
 -- what a name stands for
 abbrev pub name_verdict : Scope → ℕ → Site → Verdict Typed
@@ -14,7 +14,7 @@ name_verdict s name site = passing (named s name) (λ n. Passes (name_typed s n 
 
 -- an element, with the bounds at its node
 abbrev pub element_verdict : Scope → Typed → Typed → Site → Span → Verdict Typed
-element_verdict s a b site span = bounded s site (indexed a b site span)
+element_verdict s a b site span = in_cell s site (indexed a b site span)
 
 -- members, of a struct and through a pointer
 abbrev pub dotted_verdict : Places → Scope → Expression → ℕ → Span → Verdict Typed

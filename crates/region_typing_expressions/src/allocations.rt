@@ -7,11 +7,12 @@ ghost use Rattle.pointer_modes.specs.Types.{ctype as ctype_of};
 ghost use Rattle.ckc_tree.specs.Expressions.{expression as expression_of};
 ghost use Rattle.ckc_core.specs.Core.{Expression, expression};
 ghost use Rattle.ckc_core.specs.Steps.{is_char as char_type};
-ghost use Rattle.region_typing_rules.specs.Expressions.{site_at, is_size as size_of_type, first_factor as first_factor_of, second_factor as second_factor_of, factor_beside, elements_in as elements_in_size, row_counted as row_counted_of, allocation as allocation_of, allocated_in as allocated_in_size, allocated_of as allocated_of_count, malloc_typed, calloc_typed};
+ghost use Rattle.region_typing_rules.specs.Expressions.{site_at, is_size as size_of_type, first_factor as first_factor_of, second_factor as second_factor_of, factor_beside, elements_in as elements_in_size, row_counted as row_counted_of, allocation as allocation_of, ended_allocation as ended_allocation_of, allocated_in as allocated_in_size, allocated_of as allocated_of_count, ended_of as ended_of_count, malloc_typed, calloc_typed};
+ghost use Rattle.region_typing_rules.specs.Statements.{array_kind as array_kind_of};
 ghost use Rattle.region_typing_scope.specs.Answering.{Answers};
 ghost use Rattle.region_typing_scope.specs.OnHeap.{typed, expression as boxed_expression};
 ghost use Rattle.region_typing_scope.specs.Views.{scope as scope_of};
-ghost use Rattle.region_typing_expressions.specs.Allocations.{factor_of, factor_in, alone_in};
+ghost use Rattle.region_typing_expressions.specs.Allocations.{factor_of, factor_in, alone_in, memory_of};
 
 use act_words::operator::{ArithmeticOperator, Operator};
 use bounds_exprs::expression::constant as constant_term;
@@ -31,7 +32,7 @@ use region_typing_scope::operands::number;
 use region_typing_scope::refusals::{CheckError, needs, refusal};
 use region_typing_scope::scope::Scope;
 use region_typing_scope::typed::{Typed, plain};
-use region_typing_scope::types::{same_type, type_named};
+use region_typing_scope::types::{is_number, same_type, type_named};
 
 /// One of the two factors of a product.
 #[derive(Clone, Copy)]
@@ -184,14 +185,15 @@ fn elements_in(
     }
 }
 
-// So many elements from the pointer on.
+// So many elements from the pointer on, which a zero ends or not.
 fn row_counted(
     structs: &Structs,
     t: &CType,
+    terminated: bool,
     count: Option<Term>,
     site: Site,
 ) -> Option<PointerBounds>
-    ensures { result ≡ row_counted_of structs.now (ctype_of t.now) count site }
+    ensures { result ≡ row_counted_of structs.now (ctype_of t.now) terminated count site }
 {
     match count {
         None => None,
@@ -202,10 +204,43 @@ fn row_counted(
                 hi: count,
             },
             size: structs.size_of(t),
-            terminated: false,
+            terminated,
             site,
         }),
     }
+}
+
+/// The kind of pointers to the elements of an array, which a zero ends or not.
+pub fn array_kind(terminated: bool) -> Kind
+    ensures { result ≡ array_kind_of terminated }
+{
+    if terminated { Kind::Nt } else { Kind::Array }
+}
+
+// New memory of so many elements, and a zero behind them or not.
+fn new_memory(
+    context: &Context,
+    scope: &Scope,
+    t: CType,
+    terminated: bool,
+    count: Box<Expr>,
+    span: Span,
+) -> Result<Box<Typed>, NoMemory>
+    ensures { IfOk result (λ memory. typed memory ≡ memory_of (scope_of scope.now) (ctype_of t) terminated (boxed_expression count) (site_at (place_at context.now) span)) }
+{
+    let counted = term(scope.locals.as_slice(), &count);
+    let site = context.site(span);
+    let bounds = row_counted(&scope.structs, &t, terminated, counted, site);
+    let element = cells_with(context, &scope.structs, &t, 0)?;
+    let target = context.boxed(t)?;
+    let ctype = CType::Pointer(Mode::Checked, array_kind(terminated), target);
+    let value = Expr::Allocate {
+        count,
+        element,
+        terminated,
+        bounds,
+    };
+    plain(context, ctype, value)
 }
 
 /// New memory of so many elements.
@@ -219,21 +254,21 @@ pub fn allocation(
     ensures { Answers typed (allocation_of (scope_of scope.now) (ctype_of t) (boxed_expression count) (site_at (place_at context.now) span) span) result }
 {
     needs(0 < scope.structs.size_of(&t), Code::E13, span)?;
-    let counted = term(scope.locals.as_slice(), &count);
-    let bounds = row_counted(&scope.structs, &t, counted, context.site(span));
-    let element = cells_with(context, &scope.structs, &t, 0)?;
-    let target = context.boxed(t)?;
-    let value = Expr::Allocate {
-        count,
-        element,
-        terminated: false,
-        bounds,
-    };
-    Ok(plain(
-        context,
-        CType::Pointer(Mode::Checked, Kind::Array, target),
-        value,
-    )?)
+    Ok(new_memory(context, scope, t, false, count, span)?)
+}
+
+/// New memory of so many numbers, and a zero behind them.
+pub fn ended_allocation(
+    context: &Context,
+    scope: &Scope,
+    t: CType,
+    count: Box<Expr>,
+    span: Span,
+) -> Result<Box<Typed>, CheckError>
+    ensures { Answers typed (ended_allocation_of (scope_of scope.now) (ctype_of t) (boxed_expression count) (site_at (place_at context.now) span) span) result }
+{
+    needs(is_number(&t), Code::E13, span)?;
+    Ok(new_memory(context, scope, t, true, count, span)?)
 }
 
 // New memory of a size.
@@ -270,6 +305,22 @@ fn allocated_of(
     allocation(context, scope, t, count, span)
 }
 
+// New memory of a number of elements, with the size of one, which a zero ends.
+fn ended_of(
+    context: &Context,
+    scope: &Scope,
+    t: CType,
+    count: Box<Typed>,
+    size: &expr::Expr,
+    span: Span,
+) -> Result<Box<Typed>, CheckError>
+    ensures { Answers typed (ended_of_count (scope_of scope.now) (ctype_of t) (typed count) (expression_of size.now) (site_at (place_at context.now) span) span) result }
+{
+    let count = number(context, count, span)?;
+    needs(is_size(context, scope, &t, size)?, Code::E13, span)?;
+    ended_allocation(context, scope, t, count, span)
+}
+
 /// New memory of a size, which is written so and has this value.
 pub fn malloc(
     context: &Context,
@@ -302,6 +353,6 @@ pub fn calloc(
 {
     match word {
         CallocWord::Calloc => allocated_of(context, scope, t, count, size, span),
-        CallocWord::NtCalloc => Err(refusal(Code::E13, span)),
+        CallocWord::NtCalloc => ended_of(context, scope, t, count, size, span),
     }
 }

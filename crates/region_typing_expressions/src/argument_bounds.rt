@@ -47,8 +47,11 @@ fn term_of(locals: &[CType], t: &Typed) -> Option<Term>
     match t {
         Typed::Value { value, .. } => term(locals, value),
         Typed::Local { local, .. } => local_term(locals, *local),
-        Typed::Cell { .. } | Typed::Bounded { .. } | Typed::Array { .. } | Typed::Struct { .. } =>
-            None,
+        Typed::Cell { .. }
+        | Typed::Bounded { .. }
+        | Typed::Unknown { .. }
+        | Typed::Array { .. }
+        | Typed::Struct { .. } => None,
     }
 }
 
@@ -69,8 +72,11 @@ fn pointer_for(locals: &[CType], t: &Typed) -> Option<u32>
     match t {
         Typed::Value { value, .. } => pointer_local(locals, value),
         Typed::Local { local, .. } => pointer(locals, *local),
-        Typed::Cell { .. } | Typed::Bounded { .. } | Typed::Array { .. } | Typed::Struct { .. } =>
-            None,
+        Typed::Cell { .. }
+        | Typed::Bounded { .. }
+        | Typed::Unknown { .. }
+        | Typed::Array { .. }
+        | Typed::Struct { .. } => None,
     }
 }
 

@@ -5,14 +5,14 @@ ghost use Rattle.ckc_text.specs.Places.{place_at};
 ghost use Rattle.ckc_tree.specs.Expressions.{expression as expression_tree};
 ghost use Rattle.ckc_tree.specs.Statements.{assignment as assignment_tree};
 ghost use Rattle.pointer_modes.specs.Types.{ctype as ctype_of};
-ghost use Rattle.ckc_core.specs.Core.{Direct, Store, expression, statement, place as place_of};
+ghost use Rattle.ckc_core.specs.Core.{Direct, Load, Store, expression, statement, place as place_of};
 ghost use Rattle.region_typing_rules.specs.Verdicts.{Passes};
 ghost use Rattle.region_typing_rules.specs.Statements.{declared_for as declared_for_place, store as store_of, update as update_with, updated_place as updated_at, set_to as set_to_of, updated as updated_of, stored as stored_of, step_of as step_from, one as one_of, assignment as assignment_of, condition as condition_of};
 ghost use Rattle.region_typing_scope.specs.Answering.{Answers};
 ghost use Rattle.region_typing_scope.specs.Views.{scope as scope_of};
 ghost use Rattle.region_typing_scope.specs.Typed.{typed as inline_typed};
 ghost use Rattle.region_typing_scope.specs.OnHeap.{typed as typed_view, expression as expression_on_heap, statement as statement_on_heap};
-ghost use Rattle.region_typing_expressions.specs.Targets.{target as target_view, target_on_heap, lvalue, target_of as target_in, is_unbounded as is_unbounded_in, may_update as may_update_in, bounded_sum, moved_target as moved_to, update_by as update_in, updated_target};
+ghost use Rattle.region_typing_expressions.specs.Targets.{target as target_view, target_on_heap, lvalue, target_of as target_in, is_unbounded as is_unbounded_in, may_update as may_update_in, bounded_sum, cell_sum, sum_of, moved_target as moved_to, update_by as update_in, updated_target};
 
 use crate::expressions::typed;
 use crate::operand_tests::{is_row, is_single, is_single_value, lacks_bounds};
@@ -30,6 +30,7 @@ use ckc_tree::stmt::{Assignment, StepOperator, StoreOperator};
 use pointer_modes::ctype::CType;
 use region_typing_scope::context::Context;
 use region_typing_scope::conversions::fitted;
+use region_typing_scope::declared::unwritten_bounds;
 use region_typing_scope::entailment::value_meets;
 use region_typing_scope::operands::{number, scalar};
 use region_typing_scope::refusals::{CheckError, needs, refusal};
@@ -37,12 +38,14 @@ use region_typing_scope::scope::Scope;
 use region_typing_scope::typed::{Typed, plain};
 use region_typing_scope::types::{copied, is_pointer, is_scalar};
 
-/// Where a value may be stored: a local, a cell, or a file-level pointer for which these bounds are declared.
+/// Where a value may be stored: a local, a cell, a file-level pointer for which these bounds are declared, or one that a zero
+/// ends and whose bounds are declared as unknown.
 #[derive(Drop)]
 pub enum Lvalue {
     Local(u32),
     Cell(CellPlace),
     Bounded { object: u32, declared: Bounds },
+    Unknown { object: u32 },
 }
 
 /// A place that a value may be stored in, its type, and the bounds of what it holds.
@@ -93,6 +96,11 @@ fn target_of(context: &Context, t: Box<Typed>, span: Span) -> Result<Box<Target>
             declared,
             bounds,
         } => target_at(context, ctype, Lvalue::Bounded { object, declared }, bounds),
+        Typed::Unknown {
+            ctype,
+            object,
+            bounds,
+        } => target_at(context, ctype, Lvalue::Unknown { object }, bounds),
         Typed::Struct { .. } => Err(refusal(Code::E13, span)),
     }
 }
@@ -105,12 +113,14 @@ fn store(target: Target, value: program::Expr) -> Stmt
     match place {
         Lvalue::Local(local) => Stmt::SetLocal { local, value },
         Lvalue::Cell(cell) => Stmt::Store { ctype, cell, value },
-        Lvalue::Bounded { object, .. } => store_bounded(object, ctype, value),
+        Lvalue::Bounded { object, .. } | Lvalue::Unknown { object } => {
+            store_object(object, ctype, value)
+        }
     }
 }
 
 // A store in a file-level pointer.
-fn store_bounded(object: u32, ctype: CType, value: program::Expr) -> Stmt
+fn store_object(object: u32, ctype: CType, value: program::Expr) -> Stmt
     ensures { statement result ≡ Store (ctype_of ctype) (Direct object 0) (expression value) }
 {
     Stmt::Store {
@@ -120,12 +130,13 @@ fn store_bounded(object: u32, ctype: CType, value: program::Expr) -> Stmt
     }
 }
 
-// The bounds that are declared for where a value goes, which it is asked for at once.
-fn declared_for(place: &Lvalue) -> Option<Bounds>
-    ensures { result ≡ declared_for_place (lvalue place.now) }
+// The bounds that are declared for where a value of a type goes, which it is asked for at once.
+fn declared_for(place: &Lvalue, ctype: &CType) -> Option<Bounds>
+    ensures { result ≡ declared_for_place (lvalue place.now) (ctype_of ctype.now) }
 {
     match place {
-        Lvalue::Local(_) | Lvalue::Cell(_) => None,
+        Lvalue::Local(_) | Lvalue::Unknown { .. } => None,
+        Lvalue::Cell(_) => unwritten_bounds(ctype),
         Lvalue::Bounded { declared, .. } => Some(*declared),
     }
 }
@@ -141,7 +152,7 @@ fn set_to(
     ensures { Answers statement_on_heap (set_to_of (scope_of scope.now).flow (typed_view left) (typed_view right) span) result }
 {
     let target = target_of(context, left, span)?;
-    let declared = declared_for(&target.place);
+    let declared = declared_for(&target.place, &target.ctype);
     let value = fitted(context, scope, &declared, right, &target.ctype, span)?;
     Ok(context.boxed(store(Box::into_inner(target), value))?)
 }
@@ -186,7 +197,7 @@ fn update(target: Target, operator: Operator, value: program::Expr, site: Site) 
             value,
             site,
         },
-        Lvalue::Bounded { object, .. } => Stmt::Update {
+        Lvalue::Bounded { object, .. } | Lvalue::Unknown { object } => Stmt::Update {
             ctype,
             cell: CellPlace::Direct { object, offset: 0 },
             operator,
@@ -227,10 +238,48 @@ fn store_sum(
 {
     let met = value_meets(&scope.flow, &sum, declared)?;
     needs(met, Code::E17, span)?;
-    Ok(store_bounded(object, ctype, sum))
+    Ok(store_object(object, ctype, sum))
 }
 
-// A pointer in a place becomes a sum of it; in a cell it has no bounds, so it has no sums.
+// No sum is stored in a cell, whether it meets the bounds that are asked there or not.
+fn refuse_sum(
+    scope: &Scope,
+    ctype: &CType,
+    sum: &program::Expr,
+    span: Span,
+) -> Result<Stmt, CheckError>
+    ensures { Answers statement (cell_sum (scope_of scope.now).flow (ctype_of ctype.now) (expression sum.now) span) result }
+{
+    if let Some(asked) = unwritten_bounds(ctype) {
+        let met = value_meets(&scope.flow, sum, &asked)?;
+        needs(met, Code::E17, span)?;
+    }
+    Err(refusal(Code::E18, span))
+}
+
+// A sum of the pointer that a cell holds.
+fn sum_of_cell(
+    context: &Context,
+    scope: &Scope,
+    direction: Direction,
+    ctype: &CType,
+    cell: CellPlace,
+    bounds: Option<PointerBounds>,
+    number: Box<program::Expr>,
+    site: Site,
+) -> Result<program::Expr, NoMemory>
+    ensures { IfOk result (λ sum. expression sum ≡ sum_of (scope_of scope.now) direction (Load (ctype_of ctype.now) (place_of cell) bounds) (expression number.value) site) }
+{
+    let held = program::Expr::Load {
+        ctype: copied(context, ctype)?,
+        cell,
+        bounds,
+    };
+    let pointer = context.boxed(held)?;
+    Ok(pointer_sum(scope, direction, pointer, number, site))
+}
+
+// A pointer in a place becomes a sum of it.
 fn moved(
     context: &Context,
     scope: &Scope,
@@ -253,17 +302,20 @@ fn moved(
             let value = pointer_sum(scope, direction, pointer, number, site);
             Ok(Stmt::SetLocal { local, value })
         }
-        Lvalue::Cell(_) => Err(refusal(Code::E18, span)),
+        Lvalue::Cell(cell) => {
+            let sum = sum_of_cell(
+                context, scope, direction, &ctype, cell, bounds, number, site,
+            )?;
+            refuse_sum(scope, &ctype, &sum, span)
+        }
         Lvalue::Bounded { object, declared } => {
-            let held = program::Expr::Load {
-                ctype: copied(context, &ctype)?,
-                cell: CellPlace::Direct { object, offset: 0 },
-                bounds,
-            };
-            let pointer = context.boxed(held)?;
-            let sum = pointer_sum(scope, direction, pointer, number, site);
+            let cell = CellPlace::Direct { object, offset: 0 };
+            let sum = sum_of_cell(
+                context, scope, direction, &ctype, cell, bounds, number, site,
+            )?;
             store_sum(scope, object, &declared, ctype, sum, span)
         }
+        Lvalue::Unknown { .. } => Err(refusal(Code::E18, span)),
     }
 }
 

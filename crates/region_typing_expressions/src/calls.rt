@@ -1,10 +1,11 @@
 // Calls.
 
-ghost use Rattle.std.specs.Prelude.{◌≡◌, length, map, IfOk};
+ghost use Rattle.std.specs.Prelude.{◌≡◌, ◌&&◌, length, map, is_some, IfOk};
 ghost use Rattle.std.specs.Option.{option_map};
 ghost use Rattle.pointer_modes.specs.Types.{ctype as ctype_of};
 ghost use Rattle.ckc_core.specs.Core.{expression, arguments_of, Print, PutByte};
-ghost use Rattle.region_typing_rules.specs.Expressions.{with_result as with_result_of, arguments_as as arguments_in, predefined_call as predefined_in, writes, callee_of as callee_in, declared_callee as declared_callee_in, call_bounds as call_bounds_in, call_of as call_in, is_checked_argument as checked_argument, without_checked as without_checked_in, crossing as crossing_in, declared_call as declared_in, called as called_in};
+ghost use Rattle.ckc_core.specs.Meaning.{bounds_of as bounds_at_node};
+ghost use Rattle.region_typing_rules.specs.Expressions.{with_result as with_result_of, arguments_as as arguments_in, is_text as text_type, length_typed, measures as measures_in, predefined_call as predefined_in, writes, callee_of as callee_in, declared_callee as declared_callee_in, call_bounds as call_bounds_in, call_of as call_in, is_checked_argument as checked_argument, without_checked as without_checked_in, crossing as crossing_in, declared_call as declared_in, called as called_in};
 ghost use Rattle.region_typing_rules.specs.Scopes.{function_named};
 ghost use Rattle.region_typing_scope.specs.Points.{point as point_of};
 ghost use Rattle.region_typing_scope.specs.Views.{scope as scope_of, signature};
@@ -21,11 +22,13 @@ use ckc_names_rules::given::Given;
 use ckc_text::code::Code;
 use ckc_text::fault::NoMemory;
 use ckc_text::place::Span;
-use pointer_modes::ctype::{CType, Kind};
+use pointer_modes::ctype::{CType, Kind, Mode};
 use pointer_modes::structs::Structs;
+use region_typing_flow::readings::bounds_of;
 use region_typing_scope::bounds::bounds_at;
 use region_typing_scope::context::Context;
 use region_typing_scope::conversions::converted;
+use region_typing_scope::operands::{Operand, value_of};
 use region_typing_scope::point::Point;
 use region_typing_scope::refusals::{CheckError, needs, refusal};
 use region_typing_scope::scope::Scope;
@@ -110,15 +113,73 @@ fn puts_byte(
     Ok(Called::GivesNothing { call })
 }
 
+// Whether a type is that of checked null-terminated pointers to `char`s.
+fn is_text(t: &CType) -> bool
+    ensures { result ≡ text_type (ctype_of t.now) }
+{
+    match t {
+        CType::Pointer(Mode::Checked, Kind::Nt, target) => matches!(**target, CType::Char),
+        _ => false,
+    }
+}
+
+// Whether a value of a type is such a pointer with bounds.
+fn is_measured(ctype: &CType, value: &Expr) -> bool
+    ensures { result ≡ (text_type (ctype_of ctype.now) && is_some (bounds_at_node (expression value.now))) }
+{
+    is_text(ctype) && bounds_of(value).is_some()
+}
+
+// The number of characters before the zero that ends a text.
+fn text_length(
+    context: &Context,
+    text: Box<Typed>,
+    site: Site,
+    span: Span,
+) -> Result<Called, CheckError>
+    ensures { Answers called_as (length_typed (typed text) site span) result }
+{
+    let Operand {
+        ctype,
+        zero: _,
+        value: pointer,
+    } = value_of(context, text, span)?;
+    needs(is_measured(&ctype, &pointer), Code::E13, span)?;
+    let value = context.boxed(Expr::Length { pointer, site })?;
+    Ok(Called::Gives {
+        ctype: CType::Int,
+        value,
+    })
+}
+
+// A call of `strlen`.
+fn measures(
+    context: &Context,
+    mut arguments: VecDeque<Argument>,
+    site: Site,
+    span: Span,
+) -> Result<Called, CheckError>
+    ensures { Answers called_as (measures_in (map argument arguments.items) site span) result }
+{
+    match arguments.pop_front() {
+        Some(argument) => {
+            needs(arguments.is_empty(), Code::E14, span)?;
+            text_length(context, argument.typed, site, span)
+        }
+        None => Err(refusal(Code::E14, span)),
+    }
+}
+
 // A call of a function that is there before the program.
 fn predefined(
     context: &Context,
     given: Given,
     name: usize,
     arguments: VecDeque<Argument>,
+    site: Site,
     span: Span,
 ) -> Result<Called, CheckError>
-    ensures { Answers called_as (predefined_in given name (map argument arguments.items) span) result }
+    ensures { Answers called_as (predefined_in given name (map argument arguments.items) site span) result }
 {
     if name == given.next_input {
         needs(arguments.is_empty(), Code::E14, span)?;
@@ -133,6 +194,9 @@ fn predefined(
     }
     if name == given.putchar {
         return puts_byte(context, arguments, span);
+    }
+    if name == given.strlen {
+        return measures(context, arguments, site, span);
     }
     Err(CheckError::Unnamed)
 }
@@ -178,7 +242,16 @@ pub fn call_bounds(
                 site,
             }),
         },
-        CType::Pointer(_, Kind::One | Kind::Nt, _) => bounds_at(structs, t, site),
+        CType::Pointer(_, Kind::Nt, target) => match declared {
+            None => None,
+            Some(bounds) => Some(PointerBounds {
+                bounds,
+                size: structs.size_of(target),
+                terminated: true,
+                site,
+            }),
+        },
+        CType::Pointer(_, Kind::One, _) => bounds_at(structs, t, site),
         CType::Int | CType::Char | CType::Struct(_) => bounds_at(structs, t, site),
     }
 }
@@ -218,6 +291,7 @@ fn is_checked_argument(t: &Typed) -> bool
         | Typed::Local { ctype, .. }
         | Typed::Cell { ctype, .. }
         | Typed::Bounded { ctype, .. }
+        | Typed::Unknown { ctype, .. }
         | Typed::Array { ctype, .. } => is_checked_pointer(ctype),
         Typed::Struct { .. } => false,
     }
@@ -311,6 +385,7 @@ pub fn call(
             point.scope.given,
             name,
             VecDeque::from_vec(arguments),
+            site,
             span,
         ),
     }

@@ -5,7 +5,7 @@ ghost use Rattle.ckc_core.specs.Core.{expression};
 ghost use Rattle.region_typing_scope.specs.Answering.{Answers};
 ghost use Rattle.region_typing_scope.specs.Typed.{typed};
 ghost use Rattle.region_typing_expressions.specs.Comparing.{is_number_value as number_value_of};
-ghost use Rattle.region_typing_expressions.specs.Equality.{equality as equality_in, equated_by as equated_as};
+ghost use Rattle.region_typing_expressions.specs.Equality.{equality as equality_in, equated_by as equated_as, tested_by as tested_as};
 
 use crate::operand_tests::{are_comparable_values, is_number_value, is_pointer_value};
 use act_words::operator::Comparison;
@@ -76,5 +76,22 @@ pub fn equated_by(
             left: context.boxed(Expr::Null)?,
             right,
         }),
+    }
+}
+
+/// The same, where an element of a null-terminated pointer may be compared with the constant 0.
+pub fn tested_by(
+    context: &Context,
+    tests_zero: bool,
+    how: Equality,
+    left: Box<Expr>,
+    right: Box<Expr>,
+) -> Result<Expr, NoMemory>
+    ensures { IfOk result (λ e. expression e ≡ tested_as tests_zero how (expression left.value) (expression right.value)) }
+{
+    if tests_zero {
+        Ok(Expr::Not(left))
+    } else {
+        equated_by(context, how, left, right)
     }
 }

@@ -32,7 +32,7 @@ use ckc_tree::expr::{BinaryOperator, BoundsText, CastWord, Expr, MallocWord, Una
 use ckc_tree::identifier::Identifier;
 use ckc_tree::type_form::TypeName;
 use pointer_modes::ctype::CType;
-use region_typing_scope::bounds::{array, with_bounds};
+use region_typing_scope::bounds::{array, with_bounds, with_cell_bounds};
 use region_typing_scope::context::Context;
 use region_typing_scope::lookups::KnownObject;
 use region_typing_scope::point::Point;
@@ -94,7 +94,15 @@ fn object_value(
     let structs = &scope.structs;
     let value = match variable.length {
         None => at_object(structs, ctype, object.number, variable.bounds, site),
-        Some(length) => array(context, structs, object.number, ctype, length, site)?,
+        Some(length) => array(
+            context,
+            structs,
+            object.number,
+            ctype,
+            length,
+            variable.ended,
+            site,
+        )?,
     };
     context.boxed(value)
 }
@@ -155,7 +163,7 @@ fn element_of(
     ensures { Answers typed_view (element_verdict (scope_of scope.now) (typed_view base) (typed_view index) (site_at (place_at context.now) span) span) result }
 {
     let t = indexed(context, base, index, context.site(span), span)?;
-    with_bounds(context, scope, t, span)
+    with_cell_bounds(context, scope, t, span)
 }
 
 // What an expression is.
@@ -349,7 +357,7 @@ fn member_of(
     ensures { Answers typed_view (typed_of (place_at context.now) (point_of point.now) (Dot (expression_of base.now) member.now span)) result }
 {
     let t = dotted_by(context, point, base, member, span)?;
-    with_bounds(context, point.scope, t, span)
+    with_cell_bounds(context, point.scope, t, span)
 }
 
 // A member of the struct that a pointer points to, before its bounds are noted.
@@ -380,7 +388,7 @@ fn member_through(
     ensures { Answers typed_view (typed_of (place_at context.now) (point_of point.now) (Arrow (expression_of base.now) member.now span)) result }
 {
     let t = arrowed_by(context, point, base, member, span)?;
-    with_bounds(context, point.scope, t, span)
+    with_cell_bounds(context, point.scope, t, span)
 }
 
 // An operator before its operand, before the bounds of what it gives are noted.
@@ -410,7 +418,7 @@ fn unary_of(
     ensures { Answers typed_view (typed_of (place_at context.now) (point_of point.now) (Unary operator (expression_of operand.now) span)) result }
 {
     let t = operated_by(context, point, operator, operand, span)?;
-    with_bounds(context, point.scope, t, span)
+    with_cell_bounds(context, point.scope, t, span)
 }
 
 /// What arguments are, from left to right.

@@ -59,13 +59,11 @@ fn cell_of(base: Base, offset: u32, site: Site) -> CellPlace
         Base::Element {
             pointer,
             number,
+            terminated,
             ..
         } => CellPlace::Through {
             pointer,
-            index: Index::Element {
-                number,
-                terminated: false,
-            },
+            index: Index::Element { number, terminated },
             offset,
             site,
         },
@@ -215,6 +213,7 @@ pub fn first_element(context: &Context, pointer: Box<Expr>, site: Site) -> Resul
     Ok(Base::Element {
         pointer,
         number,
+        terminated: false,
         site,
     })
 }

@@ -2,20 +2,22 @@
 
 ghost use Rattle.std.specs.Prelude.{◌≡◌, ◌&&◌};
 ghost use Rattle.pointer_modes.specs.Types.{ctype as ctype_of};
+ghost use Rattle.ckc_core.specs.Core.{expression, place as place_of};
 ghost use Rattle.region_typing_rules.specs.Verdicts.{Passes};
 ghost use Rattle.region_typing_rules.specs.Types.{is_single as single_type, is_row as row_type};
-ghost use Rattle.region_typing_rules.specs.Expressions.{have_one_base as one_base, is_single_value as single_value, lacks_bounds as lacking_bounds, without_ptr as without_ptr_in};
+ghost use Rattle.region_typing_rules.specs.Expressions.{have_one_base as one_base, is_ended_element as ended_element, is_single_value as single_value, lacks_bounds as lacking_bounds, without_ptr as without_ptr_in};
 ghost use Rattle.region_typing_scope.specs.Answering.{Answers};
 ghost use Rattle.region_typing_scope.specs.Typed.{typed};
-ghost use Rattle.region_typing_expressions.specs.Comparing.{is_number_value as number_value_of, is_pointer_value as pointer_value_of, is_comparable_value, are_comparable_values as comparable_values, is_row_value as row_value, based_value as based_value_of, are_related_values as related_values};
+ghost use Rattle.region_typing_expressions.specs.Comparing.{is_number_value as number_value_of, is_pointer_value as pointer_value_of, is_comparable_value, are_comparable_values as comparable_values, is_row_value as row_value, based_value as based_value_of, are_related_values as related_values, is_ended_place as ended_place, is_ended_value as ended_value, is_zero_test as zero_test_of};
 
 use bounds_exprs::term::Bounds;
+use ckc_core::program::{CellPlace, Expr, Index};
 use ckc_text::code::Code;
 use ckc_text::place::Span;
 use pointer_modes::ctype::{CType, Kind};
 use region_typing_flow::readings::{based_bounds, bounds_of, local_bounds};
 use region_typing_scope::refusals::{CheckError, needs};
-use region_typing_scope::typed::Typed;
+use region_typing_scope::typed::{Typed, is_zero};
 use region_typing_scope::types::{are_comparable, is_number, is_pointer};
 
 /// Whether an expression is a pointer.
@@ -27,6 +29,7 @@ pub fn is_pointer_value(t: &Typed) -> bool
         Typed::Local { ctype, .. } => is_pointer(ctype),
         Typed::Cell { ctype, .. } => is_pointer(ctype),
         Typed::Bounded { ctype, .. } => is_pointer(ctype),
+        Typed::Unknown { ctype, .. } => is_pointer(ctype),
         Typed::Array { ctype, .. } => is_pointer(ctype),
         Typed::Struct { .. } => false,
     }
@@ -38,8 +41,8 @@ pub fn is_single(t: &CType) -> bool
 {
     match t {
         CType::Pointer(_, kind, _) => match kind {
-            Kind::One | Kind::Nt => true,
-            Kind::Array => false,
+            Kind::One => true,
+            Kind::Array | Kind::Nt => false,
         },
         CType::Int | CType::Char | CType::Struct(_) => false,
     }
@@ -51,8 +54,8 @@ pub fn is_row(t: &CType) -> bool
 {
     match t {
         CType::Pointer(_, kind, _) => match kind {
-            Kind::Array => true,
-            Kind::One | Kind::Nt => false,
+            Kind::Array | Kind::Nt => true,
+            Kind::One => false,
         },
         CType::Int | CType::Char | CType::Struct(_) => false,
     }
@@ -67,6 +70,7 @@ pub fn is_single_value(t: &Typed) -> bool
         Typed::Local { ctype, .. } => is_single(ctype),
         Typed::Cell { ctype, .. } => is_single(ctype),
         Typed::Bounded { ctype, .. } => is_single(ctype),
+        Typed::Unknown { ctype, .. } => is_single(ctype),
         Typed::Array { ctype, .. } => is_single(ctype),
         Typed::Struct { .. } => false,
     }
@@ -81,6 +85,7 @@ pub fn lacks_bounds(t: &Typed) -> bool
         Typed::Local { ctype, bounds, .. } => is_row(ctype) && bounds.is_none(),
         Typed::Cell { ctype, bounds, .. } => is_row(ctype) && bounds.is_none(),
         Typed::Bounded { ctype, bounds, .. } => is_row(ctype) && bounds.is_none(),
+        Typed::Unknown { ctype, bounds, .. } => is_row(ctype) && bounds.is_none(),
         Typed::Array { ctype, bounds, .. } => is_row(ctype) && bounds.is_none(),
         Typed::Struct { .. } => false,
     }
@@ -105,6 +110,7 @@ pub fn is_number_value(t: &Typed) -> bool
         Typed::Local { ctype, .. } => is_number(ctype),
         Typed::Cell { ctype, .. } => is_number(ctype),
         Typed::Bounded { ctype, .. } => is_number(ctype),
+        Typed::Unknown { ctype, .. } => is_number(ctype),
         Typed::Array { ctype, .. } => is_number(ctype),
         Typed::Struct { .. } => false,
     }
@@ -126,6 +132,7 @@ fn is_comparable(a: &CType, right: &Typed) -> bool
         Typed::Local { ctype, .. } => are_comparable(a, ctype),
         Typed::Cell { ctype, .. } => are_comparable(a, ctype),
         Typed::Bounded { ctype, .. } => are_comparable(a, ctype),
+        Typed::Unknown { ctype, .. } => are_comparable(a, ctype),
         Typed::Array { ctype, .. } => are_comparable(a, ctype),
         Typed::Struct { .. } => false,
     }
@@ -140,6 +147,7 @@ pub fn are_comparable_values(left: &Typed, right: &Typed) -> bool
         Typed::Local { ctype, .. } => is_comparable(ctype, right),
         Typed::Cell { ctype, .. } => is_comparable(ctype, right),
         Typed::Bounded { ctype, .. } => is_comparable(ctype, right),
+        Typed::Unknown { ctype, .. } => is_comparable(ctype, right),
         Typed::Array { ctype, .. } => is_comparable(ctype, right),
         Typed::Struct { .. } => false,
     }
@@ -154,6 +162,7 @@ fn is_row_value(t: &Typed) -> bool
         Typed::Local { ctype, .. } => is_row(ctype),
         Typed::Cell { ctype, .. } => is_row(ctype),
         Typed::Bounded { ctype, .. } => is_row(ctype),
+        Typed::Unknown { ctype, .. } => is_row(ctype),
         Typed::Array { ctype, .. } => is_row(ctype),
         Typed::Struct { .. } => false,
     }
@@ -166,8 +175,11 @@ fn based_value(t: &Typed) -> Option<Bounds>
     match t {
         Typed::Value { value, .. } => based_bounds(value),
         Typed::Local { local, bounds, .. } => local_bounds(*local, *bounds),
-        Typed::Cell { .. } | Typed::Bounded { .. } | Typed::Array { .. } | Typed::Struct { .. } =>
-            None,
+        Typed::Cell { .. }
+        | Typed::Bounded { .. }
+        | Typed::Unknown { .. }
+        | Typed::Array { .. }
+        | Typed::Struct { .. } => None,
     }
 }
 
@@ -188,4 +200,49 @@ pub fn are_related_values(left: &Typed, right: &Typed) -> bool
     is_row_value(left)
         && is_row_value(right)
         && have_one_base(based_value(left), based_value(right))
+}
+
+// Whether a place is an element, or the upper end, of what a null-terminated pointer leads to.
+fn is_ended_place(place: &CellPlace) -> bool
+    ensures { result ≡ ended_place (place_of place.now) }
+{
+    match place {
+        CellPlace::Through {
+            index: Index::Element { terminated, .. },
+            ..
+        } => *terminated,
+        _ => false,
+    }
+}
+
+// Whether a value is what stands there.
+fn is_ended_element(value: &Expr) -> bool
+    ensures { result ≡ ended_element (expression value.now) }
+{
+    match value {
+        Expr::Load { cell, .. } => is_ended_place(cell),
+        _ => false,
+    }
+}
+
+// Whether an expression is what stands there.
+fn is_ended_value(t: &Typed) -> bool
+    ensures { result ≡ ended_value (typed t.now) }
+{
+    match t {
+        Typed::Value { value, .. } => is_ended_element(value),
+        Typed::Cell { place, .. } => is_ended_place(place),
+        Typed::Local { .. }
+        | Typed::Bounded { .. }
+        | Typed::Unknown { .. }
+        | Typed::Array { .. }
+        | Typed::Struct { .. } => false,
+    }
+}
+
+/// Whether the one expression is a number that stands there, and the other the constant 0.
+pub fn is_zero_test(left: &Typed, right: &Typed) -> bool
+    ensures { result ≡ zero_test_of (typed left.now) (typed right.now) }
+{
+    is_zero(right) && (is_number_value(left) && is_ended_value(left))
 }

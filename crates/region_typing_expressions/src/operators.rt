@@ -5,7 +5,7 @@ ghost use Rattle.ckc_text.specs.Places.{place_at};
 ghost use Rattle.act_words.specs.declared.operator.Operator.TheVariants as operators;
 ghost use Rattle.ckc_core.specs.Core.{expression, Not, Sum};
 ghost use Rattle.region_typing_rules.specs.Verdicts.{passing};
-ghost use Rattle.region_typing_rules.specs.Expressions.{site_at, sum_node as sum_node_of, number as number_typed, unary_typed as unary_of, binary_typed as binary_of, two_numbers, two_scalars, arithmetic as arithmetic_of, operator_along as operator_in, summed as summed_in, sum_typed, equated as equated_in, ordered as ordered_in};
+ghost use Rattle.region_typing_rules.specs.Expressions.{site_at, sum_node as sum_node_of, number as number_typed, unary_typed as unary_of, binary_typed as binary_of, two_numbers, two_scalars, arithmetic as arithmetic_of, operator_along as operator_in, summed as summed_in, sum_typed, equated as equated_in, ordered as ordered_in, zero_test};
 ghost use Rattle.region_typing_scope.specs.Answering.{Answers};
 ghost use Rattle.region_typing_scope.specs.OnHeap.{typed};
 ghost use Rattle.region_typing_scope.specs.Operands.{and_also, or_else, operand as operand_view};
@@ -13,9 +13,9 @@ ghost use Rattle.region_typing_scope.specs.Views.{scope as scope_of};
 ghost use Rattle.region_typing_expressions.specs.Comparing.{compared as comparison_of, ordered_pointers, related as related_in};
 ghost use Rattle.region_typing_expressions.specs.Moves.{moved as moved_by};
 
-use crate::equality::{equality_of, equated_by};
+use crate::equality::{equality_of, equated_by, tested_by};
 use crate::operand_tests::{
-    are_comparable_values, are_related_values, is_pointer_value, without_ptr,
+    are_comparable_values, are_related_values, is_pointer_value, is_zero_test, without_ptr,
 };
 use crate::places::{address, pointed_at};
 use act_words::operator::ArithmeticOperator::{
@@ -260,18 +260,23 @@ fn equal(
     numeric(context, value)
 }
 
-// Whether two expressions differ, as a number.
+// Whether two expressions differ, as a number: of an element of a null-terminated pointer that is compared with the constant 0
+// whether it isn't the zero.
 fn different(
     context: &Context,
     left: Box<Typed>,
     right: Box<Typed>,
     span: Span,
 ) -> Result<Box<Typed>, CheckError>
-    ensures { Answers typed (passing (equated_in (typed left) (typed right) span) (λ v. number_typed (Not v))) result }
+    ensures { Answers typed (passing (equated_in (typed left) (typed right) span) (λ v. number_typed (Not (zero_test (typed left) (typed right) v)))) result }
 {
-    let value = equated(context, left, right, span)?;
-    let value = context.boxed(value)?;
-    numeric(context, Expr::Not(value))
+    let how = equality_of(&left, &right, span)?;
+    let tests_zero = is_zero_test(&left, &right);
+    let left = scalar(context, left, span)?;
+    let right = scalar(context, right, span)?;
+    let equal = tested_by(context, tests_zero, how, left, right)?;
+    let equal = context.boxed(equal)?;
+    numeric(context, Expr::Not(equal))
 }
 
 // The order of two pointers.

@@ -2,16 +2,16 @@
 
 ghost use Rattle.std.specs.Prelude.{◌≡◌, IfOk};
 ghost use Rattle.pointer_modes.specs.Types.{ctype as ctype_of};
-ghost use Rattle.ckc_core.specs.Core.{expression, place as place_of};
-ghost use Rattle.region_typing_rules.specs.Expressions.{dereferenced, element_at as element_at_in, indexed as indexed_in, address as address_of, pointer_to as pointer_at, checked_at as checked_at_of};
+ghost use Rattle.ckc_core.specs.Core.{expression, index as index_of, place as place_of};
+ghost use Rattle.region_typing_rules.specs.Expressions.{dereferenced, element_at as element_at_in, first_or_end as first_or_end_of, indexed as indexed_in, address as address_of, pointer_to as pointer_at, checked_at as checked_at_of, below_end as below_end_of};
 ghost use Rattle.region_typing_scope.specs.Answering.{Answers};
 ghost use Rattle.region_typing_scope.specs.OnHeap.{typed};
 ghost use Rattle.region_typing_scope.specs.Typed.{base_place};
-ghost use Rattle.region_typing_expressions.specs.Moves.{base_of_kind};
+ghost use Rattle.region_typing_expressions.specs.Moves.{base_of_kind, element_behind};
 
 use crate::members::first_element;
 use crate::operand_tests::are_indexed;
-use ckc_core::program::{CellPlace, Expr, Site};
+use ckc_core::program::{CellPlace, Expr, Index, Site};
 use ckc_text::code::Code;
 use ckc_text::fault::NoMemory;
 use ckc_text::place::Span;
@@ -61,8 +61,46 @@ fn base_behind(
             needs(bounds_of(&pointer).is_some(), Code::E18, span)?;
             Ok(first_element(context, pointer, site)?)
         }
-        Kind::Nt => Err(refusal(Code::E13, span)),
+        Kind::Nt => {
+            needs(bounds_of(&pointer).is_some(), Code::E18, span)?;
+            Ok(first_or_end(context, pointer, site)?)
+        }
     }
+}
+
+// The element at which a pointer with bounds stands, which may be the zero at its upper end.
+fn first_or_end(context: &Context, pointer: Box<Expr>, site: Site) -> Result<Base, NoMemory>
+    ensures { IfOk result (λ base. base_place base ≡ first_or_end_of (expression pointer.value) site) }
+{
+    let number = context.boxed(Expr::Number(0))?;
+    Ok(Base::Element {
+        pointer,
+        number,
+        terminated: true,
+        site,
+    })
+}
+
+// The element of a number behind the one at which a pointer with bounds stands, which may be the zero at their upper end.
+fn element_in(
+    context: &Context,
+    target: Box<CType>,
+    pointer: Box<Expr>,
+    number: Box<Expr>,
+    terminated: bool,
+    site: Site,
+    span: Span,
+) -> Result<Box<Typed>, CheckError>
+    ensures { Answers typed (element_behind (ctype_of target.value) (expression pointer.value) (expression number.value) terminated site span) result }
+{
+    needs(bounds_of(&pointer).is_some(), Code::E18, span)?;
+    let base = Base::Element {
+        pointer,
+        number,
+        terminated,
+        site,
+    };
+    Ok(context.boxed(at_base(Box::into_inner(target), base))?)
 }
 
 // The element of a number of what a pointer of a type leads to.
@@ -78,16 +116,9 @@ fn element_at(
 {
     match ctype {
         CType::Pointer(_, kind, target) => match kind {
-            Kind::Array => {
-                needs(bounds_of(&pointer).is_some(), Code::E18, span)?;
-                let base = Base::Element {
-                    pointer,
-                    number,
-                    site,
-                };
-                Ok(context.boxed(at_base(Box::into_inner(target), base))?)
-            }
-            Kind::One | Kind::Nt => Err(refusal(Code::E19, span)),
+            Kind::Array => element_in(context, target, pointer, number, false, site, span),
+            Kind::Nt => element_in(context, target, pointer, number, true, site, span),
+            Kind::One => Err(refusal(Code::E19, span)),
         },
         _ => Err(refusal(Code::E19, span)),
     }
@@ -134,7 +165,20 @@ fn pointer_to(
     plain(context, ctype, value)
 }
 
-// The same place, whose check names another expression.
+// An element, but not what stands at the upper end of a null-terminated pointer.
+fn below_end(index: Index) -> Index
+    ensures { index_of result ≡ below_end_of (index_of index) }
+{
+    match index {
+        Index::First => Index::First,
+        Index::Element { number, .. } => Index::Element {
+            number,
+            terminated: false,
+        },
+    }
+}
+
+// The same place, whose check names another expression, and lets no upper end through.
 fn checked_at(place: CellPlace, site: Site) -> CellPlace
     ensures { place_of result ≡ checked_at_of (place_of place) site }
 {
@@ -147,7 +191,7 @@ fn checked_at(place: CellPlace, site: Site) -> CellPlace
             ..
         } => CellPlace::Through {
             pointer,
-            index,
+            index: below_end(index),
             offset,
             site,
         },
@@ -165,9 +209,8 @@ pub fn address(
 {
     match Box::into_inner(t) {
         Typed::Value { .. } => Err(refusal(Code::E12, span)),
-        Typed::Local { .. } | Typed::Bounded { .. } | Typed::Array { .. } => {
-            Err(refusal(Code::E22, span))
-        }
+        Typed::Local { .. } | Typed::Bounded { .. } | Typed::Unknown { .. } | Typed::Array { .. } =>
+            Err(refusal(Code::E22, span)),
         Typed::Cell { ctype, place, .. } => Ok(pointer_to(context, ctype, place, site)?),
         Typed::Struct { number, place } => match place {
             StructPlace::Local(_) => Err(refusal(Code::E22, span)),

@@ -1,9 +1,10 @@
 -- Terms and locals that are read off expressions are what a flow asks for.
-use Rattle.std.proofs.Common.{◌≡◌, ℕ, ◌<◌, ◌≤◌, ℤ, pos, neg_ℤ, ◌+ℤ◌, ◌-ℤ◌, ◌*ℤ◌, Bool, true, false, cond, List, length, Option, Some, None, refl, arith}
+use Rattle.std.proofs.Common.{◌≡◌, ℕ, ◌<◌, ◌≤◌, ℤ, pos, neg_ℤ, ◌+ℤ◌, ◌-ℤ◌, ◌*ℤ◌, Bool, true, false, cond, List, length, map, Option, Some, None, refl, arith}
 use Rattle.std.specs.Prelude.{slice_get, is_none}
 use Rattle.std.specs.Int.Signed.{le_z}
 use Rattle.std.proofs.lemmas.Bool.{and_parts}
 use Rattle.std.proofs.lemmas.Int.{ints}
+use Rattle.std.proofs.lemmas.List.{length-map}
 use Rattle.std.proofs.lemmas.Option.{slice_get_within}
 use Rattle.act_words.specs.declared.operator.Operator.TheVariants as operators
 use Rattle.act_words.specs.declared.operator.ArithmeticOperator.TheVariants as arithmetics
@@ -13,7 +14,8 @@ use Rattle.bounds_exprs.specs.Parts.{added, subtracted, multiplied}
 use Rattle.subsumption.specs.Facts.{IsBelow}
 use Rattle.subsumption.proofs.TableConstants.{le_from}
 use Rattle.bounds_flow.specs.Conditions.{IsTermBelow, IsSmall}
-use Rattle.pointer_modes.specs.Types.{CType, Int, Char, Struct, Pointer}
+use Rattle.pointer_modes.specs.declared.ctype.CType as code
+use Rattle.pointer_modes.specs.Types.{CType, Int, Char, Struct, Pointer, ctype}
 use Rattle.ckc_core.specs.declared.program.PointerBounds.{PointerBounds}
 use Rattle.ckc_core.specs.Core as core
 use Rattle.region_typing_rules.specs.Verdicts.{picked}
@@ -58,7 +60,7 @@ local_small vars types local bounds (Some (Struct number)) less e = rw e tt
 local_small vars types local bounds (Some (Pointer mode kind target)) less e = rw e tt
 
 -- the term of an expression
-pub term_small : (vars : ℕ) (types : List CType) (e : core.Expression) → length types ≤ vars → IsTermSmall vars (term types e)
+term_small : (vars : ℕ) (types : List CType) (e : core.Expression) → length types ≤ vars → IsTermSmall vars (term types e)
 term_small vars types (core.Number number) less = limit_small vars None number tt
 term_small vars types (core.Local local bounds) less = local_small vars types local bounds (slice_get types local) less refl
 term_small vars types (core.Arithmetic (operators.Arithmetic arithmetics.Add) left right site) less = added_small vars (term types left) (term types right) (term_small vars types left less) (term_small vars types right less)
@@ -87,6 +89,10 @@ term_small vars types (core.Order comparison left right site) less = tt
 term_small vars types (core.Allocate count element terminated bounds) less = tt
 term_small vars types (core.Length pointer site) less = tt
 term_small vars types (core.Cast pointer bounds) less = tt
+
+-- the same by the types of the code
+pub term_within : (vars : ℕ) (locals : List code.CType) (e : core.Expression) → length locals ≤ vars → IsTermSmall vars (term (map ctype locals) e)
+term_within vars locals e less = term_small vars (map ctype locals) e (rw length-map less)
 
 -- the number of a constant expression
 pub constant_small : (types : List CType) (e : core.Expression) → IsSmall (constant types e)

@@ -1,12 +1,15 @@
 // What conditions tell.
 
-ghost use Rattle.std.specs.Prelude.{◌≡◌, ◌<◌, ◌≤◌, Bool, Some, length, map, not, OnOk};
+ghost use Rattle.std.specs.Prelude.{◌≡◌, ◌<◌, ◌≤◌, Bool, Option, Some, length, map, not, slice_get, OnOk};
 ghost use Rattle.bounds_exprs.specs.declared.term.Term.{Term as TermTree};
 ghost use Rattle.bounds_flow.specs.declared.steps.Test.TheVariants.{Compare};
 ghost use Rattle.bounds_flow.specs.Flows.{Knowledge, assumed, met};
 ghost use Rattle.pointer_modes.specs.Types.{ctype as ctype_of};
-ghost use Rattle.ckc_core.specs.Core.{expression as expression_of};
-ghost use Rattle.region_typing_rules.specs.Readings.{term as term_of, pointer_local as pointer_local_of, compared as compared_by, is_null as is_null_at, null_told as null_told_of, same_told as same_told_of, told as told_of};
+ghost use Rattle.ckc_core.specs.declared.program.Direction.TheVariants.{Forward};
+ghost use Rattle.ckc_core.specs.declared.program.PointerBounds.{PointerBounds};
+ghost use Rattle.ckc_core.specs.declared.program.Site.{Site};
+ghost use Rattle.ckc_core.specs.Core.{Sum, expression as expression_of, place as place_of};
+ghost use Rattle.region_typing_rules.specs.Readings.{term as term_of, pointer_local as pointer_local_of, compared as compared_by, element_told as element_told_of, elements_told as elements_told_of, is_ended_local as is_ended_local_of, is_null as is_null_at, null_told as null_told_of, place_told as place_told_of, same_told as same_told_of, told as told_of};
 ghost use Rattle.region_typing_flow.specs.Conditions.{IsLocalBelow, IsTermSmall};
 
 use crate::readings::{pointer_local, term};
@@ -14,9 +17,9 @@ use act_words::operator::Comparison;
 use bounds_exprs::term::Term;
 use bounds_flow::flow::Flow;
 use bounds_flow::steps::{How, Test};
-use ckc_core::program::Expr;
+use ckc_core::program::{CellPlace, Direction, Expr, Index};
 use ckc_text::fault::NoMemory;
-use pointer_modes::ctype::CType;
+use pointer_modes::ctype::{CType, Kind, Mode};
 
 // The comparison, as a flow is told it.
 fn how(comparison: Comparison) -> How
@@ -91,6 +94,102 @@ fn same_told(
         null_told(pointer_local(locals, right), !truth, flow)
     } else {
         Ok(())
+    }
+}
+
+// Whether a local is a checked null-terminated pointer.
+fn is_ended_local(locals: &[CType], local: u32) -> bool
+    ensures { result ≡ is_ended_local_of (slice_get (map ctype_of locals.now) local) }
+{
+    matches!(
+        locals.get(local as usize),
+        Some(CType::Pointer(Mode::Checked, Kind::Nt, _))
+    )
+}
+
+// The element of a local at an index isn't zero, where the local is a pointer to such elements and the index has a term.
+fn element_told(
+    locals: &[CType],
+    local: u32,
+    index: Option<Term>,
+    flow: &mut Flow,
+) -> Result<(), NoMemory>
+    requires few { length locals.now ≤ flow.old.vars }
+    requires index_small { IsTermSmall flow.old.vars index }
+    ensures ok { OnOk result (flow.new ≡ element_told_of (is_ended_local_of (slice_get (map ctype_of locals.now) local)) local index flow.old) }
+    ensures vars { flow.new.vars ≡ flow.old.vars }
+{
+    if !is_ended_local(locals, local) {
+        return Ok(());
+    }
+    match index {
+        None => Ok(()),
+        Some(index) => {
+            flow.widen(local, &index)?;
+            Ok(())
+        }
+    }
+}
+
+// What stands at a number of elements behind a sum isn't zero, where the sum leads on from a local.
+fn summed_told(
+    locals: &[CType],
+    pointer: &Expr,
+    elements: &Expr,
+    number: &Expr,
+    flow: &mut Flow,
+) -> Result<(), NoMemory>
+    requires { length locals.now ≤ flow.old.vars }
+    ensures ok { (site : Site) (bounds : Option PointerBounds) → OnOk result (flow.new ≡ elements_told_of (map ctype_of locals.now) (Sum (expression_of pointer.now) Forward (expression_of elements.now) site bounds) (expression_of number.now) flow.old) }
+    ensures vars { flow.new.vars ≡ flow.old.vars }
+{
+    match (pointer, number) {
+        (Expr::Local { local, .. }, Expr::Number(0)) => {
+            element_told(locals, *local, term(locals, elements), flow)
+        }
+        _ => Ok(()),
+    }
+}
+
+// What stands at a number of elements behind a pointer isn't zero: `p[e]` and `*p`, and `*(p + e)`.
+fn elements_told(
+    locals: &[CType],
+    pointer: &Expr,
+    number: &Expr,
+    flow: &mut Flow,
+) -> Result<(), NoMemory>
+    requires { length locals.now ≤ flow.old.vars }
+    ensures ok { OnOk result (flow.new ≡ elements_told_of (map ctype_of locals.now) (expression_of pointer.now) (expression_of number.now) flow.old) }
+    ensures vars { flow.new.vars ≡ flow.old.vars }
+{
+    match pointer {
+        Expr::Local { local, .. } => element_told(locals, *local, term(locals, number), flow),
+        Expr::Sum {
+            pointer,
+            direction: Direction::Forward,
+            number: elements,
+            ..
+        } => summed_told(locals, pointer, elements, number, flow),
+        _ => Ok(()),
+    }
+}
+
+/// What a flow becomes where what stands at a place isn't zero. Where no memory is found, it has as many variables as before.
+pub fn place_told(locals: &[CType], cell: &CellPlace, flow: &mut Flow) -> Result<(), NoMemory>
+    requires { length locals.now ≤ flow.old.vars }
+    ensures ok { OnOk result (flow.new ≡ place_told_of (map ctype_of locals.now) (place_of cell.now) flow.old) }
+    ensures vars { flow.new.vars ≡ flow.old.vars }
+{
+    match cell {
+        CellPlace::Through {
+            pointer,
+            index: Index::Element {
+                number,
+                terminated: true,
+            },
+            ..
+        } => elements_told(locals, pointer, number, flow),
+        _ => Ok(()),
     }
 }
 
@@ -169,6 +268,7 @@ pub fn told(
             compared(*comparison, left, right, truth, flow)
         }
         Expr::Same { left, right } => same_told(locals, left, right, truth, flow),
+        Expr::Load { cell, .. } if truth => place_told(locals, cell, flow),
         Expr::Local { .. } => null_told(pointer_local(locals, condition), truth, flow),
         _ => Ok(()),
     }

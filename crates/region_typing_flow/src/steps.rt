@@ -1,11 +1,12 @@
 // What assignments and the ends of scopes make of a flow.
 
-ghost use Rattle.std.specs.Prelude.{◌≡◌, ◌+◌, ◌-◌, ◌≤◌, None, length, map, option_map, slice_get, OnOk};
+ghost use Rattle.std.specs.Prelude.{◌≡◌, ◌+◌, ◌-◌, ◌<◌, ◌≤◌, None, length, map, option_map, slice_get, OnOk};
 ghost use Rattle.pointer_modes.specs.Types.{ctype as ctype_of};
 ghost use Rattle.ckc_core.specs.declared.program.Site.{Site};
 ghost use Rattle.ckc_core.specs.Core.{Arithmetic, Local, expression as expression_of, statement as statement_of};
-ghost use Rattle.region_typing_rules.specs.Readings.{behind_local as behind_local_of, is_not_null as is_not_null_in};
-ghost use Rattle.region_typing_rules.specs.Knowing.{assigned_by, moved_from, value_assigned, without_locals};
+ghost use Rattle.region_typing_rules.specs.Readings.{behind_local as behind_local_of, is_not_null as is_not_null_in, term as term_of};
+ghost use Rattle.region_typing_rules.specs.Knowing.{assigned_by, count_assigned, measured_local as measured_local_of, moved_from, value_assigned, without_locals};
+ghost use Rattle.region_typing_flow.specs.Conditions.{IsLocalBelow};
 ghost use Rattle.region_typing_flow.specs.Views.{behind, tracked as tracked_by};
 
 use crate::readings::{Behind, behind_local, combined, local_term, pointer_local, term};
@@ -69,6 +70,33 @@ fn is_not_null(locals: &[CType], flow: &Flow, value: &Expr) -> bool
     }
 }
 
+// The local pointer whose elements before the zero an expression counts.
+fn measured_local(locals: &[CType], value: &Expr) -> Option<u32>
+    ensures value { result ≡ measured_local_of (map ctype_of locals.now) (expression_of value.now) }
+    ensures below { IsLocalBelow (length locals.now) result }
+{
+    match value {
+        Expr::Length { pointer, .. } => pointer_local(locals, pointer),
+        _ => None,
+    }
+}
+
+// An `int` local is assigned a value: how many elements stand before the zero of a local pointer, or another number.
+fn set_number(locals: &[CType], local: u32, value: &Expr, flow: &mut Flow) -> Result<(), NoMemory>
+    requires few { length locals.now ≤ flow.old.vars }
+    requires below { local < length locals.now }
+    ensures ok { OnOk result (flow.new ≡ count_assigned local (measured_local_of (map ctype_of locals.now) (expression_of value.now)) (term_of (map ctype_of locals.now) (expression_of value.now)) flow.old) }
+    ensures vars { flow.new.vars ≡ flow.old.vars }
+{
+    match measured_local(locals, value) {
+        None => {
+            let to = term(locals, value);
+            flow.assign_int(local, to)
+        }
+        Some(pointer) => flow.strlen(local, pointer),
+    }
+}
+
 // A local is assigned a value.
 fn set(locals: &[CType], local: u32, value: &Expr, flow: &mut Flow) -> Result<(), NoMemory>
     requires { length locals.now ≤ flow.old.vars }
@@ -76,10 +104,7 @@ fn set(locals: &[CType], local: u32, value: &Expr, flow: &mut Flow) -> Result<()
     ensures vars { flow.new.vars ≡ flow.old.vars }
 {
     match tracked_of(locals, local) {
-        Tracked::Number => {
-            let to = term(locals, value);
-            flow.assign_int(local, to)
-        }
+        Tracked::Number => set_number(locals, local, value, flow),
         Tracked::Bounds(kind) => {
             let from = source(flow.vars(), kind, flow.declared(local), value);
             let moved = moved(local, behind_local(locals, value));

@@ -33,12 +33,11 @@ use Rattle.ckc_core.specs.Bounds.{Ends as EndsOf, Pointed, ends_at, term_value, 
 use Rattle.flat_bytes.specs.Blocks.{first_offset, is_refused}
 use Rattle.ckc_core.specs.Pointers.{allocated, new_block, counter_behind, element_size, made_if, checked_if, distance, lies_below, lies_up_to, cell_behind, pointer_at, pointer_if, byte_read, counted as bytes_counted, counted_from, counted_if, read_as, bytes_of_block, made_elements}
 use Rattle.ckc_core.specs.Steps.{Result, given, checked, value_if, value_in, place_if, place_at, variable_if, load_at, number_of_test, same_place, test_given, result_of, arithmetic_of, compared, negated, complemented, low_byte_of, words_of, reply_as, result_given, no_result, is_zero}
-use Rattle.ckc_core.specs.Meaning.{audit, element, element_within, summed, value, place, sound_if, length_of}
-use Rattle.region_typing_rules.specs.Types.{is_number}
+use Rattle.ckc_core.specs.Meaning.{audit, element, element_within, summed, place, sound_if, length_of}
+use Rattle.region_typing_rules.specs.Types.{is_number, Counts}
 use Rattle.bounds_flow_meaning.specs.Holding.{is_ended}
 use Rattle.region_typing_rules.specs.Readings.{toward}
 use Rattle.region_typing_rules.specs.KnownIsSo.{WhereGiven}
-use Rattle.region_typing_rules.specs.Typed as typed
 use Rattle.bounds_exprs.specs.declared.term.Term.{Term}
 use Rattle.bounds_flow_meaning.specs.Holding.{IsValid}
 use Rattle.bounds_flow_meaning.specs.Rows.{HasRow, IsPlace, slots, IsEndedPlace}
@@ -46,7 +45,7 @@ use Rattle.bounds_flow_meaning.specs.Sums.{counted}
 use Rattle.bounds_flow_meaning.proofs.Sums.{new_blocks_count}
 use Rattle.bounds_flow_meaning.proofs.Rows.{place_grown, still_there}
 use Rattle.bounds_flow_meaning.proofs.Validity.{grown_valid}
-use Rattle.region_typing_rules.specs.Typed.{IsBoundedObject, Frame, HasBounds, HasValue, IsNumberResult, AreRows, IsScalar, IsNodeOf, Counts, IsEndedRow}
+use Rattle.region_typing_rules.specs.Typed.{IsBoundedObject, Frame, HasBounds, HasValue, IsNumberResult, AreRows, IsScalar, IsNodeOf, IsEndedRow}
 use Rattle.ckc_core.proofs.Numbers.{IsNumber, IfHolds, result_fits, overflow_fits, signed_fits, complement_fits, low_byte_small}
 use Rattle.region_typing_rules.proofs.Worlds.{Anything, IsWord, tick_answers}
 use Rattle.region_typing_rules.proofs.BoundedObjects.{bounded_cell, held_made}
@@ -549,10 +548,12 @@ module _ (g : Frame) (budget ticks : ℕ) where
     given_back t (Some v) h kept = (h, after_here s, kept)
 
     -- with the bounds that it is valid with
-    pub valid_back : (m : Mode) (t : CType) (p : PointerBounds) (v : Option Value) → IsAnswer g (Some (Pointer m kinds.Array t)) v s → HasResult g.structs (Some (Pointer m kinds.Array t)) (Some p.bounds) v s → IsKept g budget ticks low types s
-        → Goes g budget ticks low types s (λ v w. OfType g (Pointer m kinds.Array t) v w × IsBounded g (Pointer m kinds.Array t) (Some p) v w) (result_given v s)
-    valid_back m t p None h valid kept = absurd h
-    valid_back m t p (Some v) h valid kept = ((h, valid), after_here s, kept)
+    pub valid_back : (m : Mode) (kind : Kind) (t : CType) (p : PointerBounds) (v : Option Value) → Counts kind → IsAnswer g (Some (Pointer m kind t)) v s → HasResult g.structs (Some (Pointer m kind t)) (Some p.bounds) v s → IsKept g budget ticks low types s
+        → Goes g budget ticks low types s (λ v w. OfType g (Pointer m kind t) v w × IsBounded g (Pointer m kind t) (Some p) v w) (result_given v s)
+    valid_back m kind t p None counts h valid kept = absurd h
+    valid_back m kinds.One t p (Some v) counts h valid kept = absurd counts
+    valid_back m kinds.Array t p (Some v) counts h valid kept = ((h, valid), after_here s, kept)
+    valid_back m kinds.Nt t p (Some v) counts h valid kept = ((h, valid), after_here s, kept)
 
     pub nothing_back : (v : Option Value) → IsAnswer g None v s → IsKept g budget ticks low types s → Goes g budget ticks low types s IsNext (no_result v s)
     nothing_back None h kept = (refl, after_here s, kept)

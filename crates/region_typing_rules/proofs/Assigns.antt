@@ -13,7 +13,7 @@ use Rattle.pointer_modes.specs.declared.ctype.Mode.{Mode}
 use Rattle.pointer_modes.specs.declared.ctype.Kind.{Kind}
 use Rattle.pointer_modes.specs.declared.ctype.Kind.TheVariants as kinds
 use Rattle.pointer_modes.specs.Types.{CType, Int, Char, Struct, Pointer, Structure}
-use Rattle.bounds_flow.specs.Flows.{Knowledge, held_at, number_assigned, pointer_assigned}
+use Rattle.bounds_flow.specs.Flows.{length_assigned, Knowledge, held_at, number_assigned, pointer_assigned}
 use Rattle.bounds_flow.specs.Conditions.{IsFlow}
 use Rattle.bounds_flow_meaning.specs.Holding.{HaveTypes, Holds, numbers_in, target_size, types_of}
 use Rattle.bounds_exprs.specs.declared.term.Bounds.{Bounds}
@@ -24,6 +24,7 @@ use Rattle.bounds_flow_meaning.specs.Laws.{IsGiven, IsMoved, IsMovedBy, IsPointe
 use Rattle.bounds_flow_meaning.proofs.AllSteps.{flows_hold}
 use Rattle.bounds_flow_meaning.proofs.Numbers.{local_there, found_other, found_same, int_term, same_number, same_types, still_types, type_there}
 use Rattle.ckc_core.specs.declared.program.Site.{Site}
+use Rattle.ckc_core.specs.declared.program.PointerBounds.{PointerBounds}
 use Rattle.ckc_core.specs.Outcome.{and_then, and_then-and_then}
 use Rattle.ckc_core.specs.Core as core
 use Rattle.ckc_core.specs.States.{Value, Number, Null, At, Cell, Local, State, cell_at, same_type, has_type}
@@ -31,12 +32,13 @@ use Rattle.ckc_core.specs.Steps.{Result, Flow, Next, Broke, Continued, Returned,
 use Rattle.ckc_core.specs.Meaning.{Knot, Setting, audit, effect, place, place_from, site_of, storable, target_of, value, values}
 use Rattle.region_typing_rules.specs.Verdicts.{picked}
 use Rattle.region_typing_rules.specs.Readings.{Behind, term, own_bounds, based_bounds, is_null, pointer_local, known_at, behind_local, is_not_null}
-use Rattle.region_typing_rules.specs.Knowing.{are_below, given_from, given_bounds, known_source, source, moved_from, value_assigned, assigned_by}
+use Rattle.region_typing_rules.specs.Knowing.{count_assigned, measured_local, are_below, given_from, given_bounds, known_source, source, moved_from, value_assigned, assigned_by}
 use Rattle.region_typing_rules.specs.KnownIsSo.{WhereGiven, IsAlike, HoldsAlike, HasLocals}
-use Rattle.region_typing_rules.proofs.Keeping.{IsAfter, after_here, value_keeps}
+use Rattle.region_typing_rules.proofs.Keeping.{IsAfter, value_after}
 use Rattle.region_typing_rules.proofs.Moving.{AssignsOnly, IsMovedTo, KnotMoves, effect_moves, set_moved}
 use Rattle.region_typing_rules.proofs.Terms.{so_on, so_always, so_both, so_further, audited_so, IsOfTerm, number_is, term_formed, formed_later, term_so}
 use Rattle.region_typing_rules.proofs.Alike.{has_after, has_alike, holds_moved, holds_after, types_alike, number_alike, IsTracked}
+use Rattle.region_typing_rules.proofs.CountedTexts.{IsLength, IsRightLength, IsRightText, counted_there, length_read}
 use Rattle.region_typing_rules.proofs.Told.{pointer_is, pointer_so, null_given}
 use Rattle.region_typing_rules.proofs.Given.{IsGivenIf, AreGivenAt, AreGiven, none_given}
 use Rattle.region_typing_rules.proofs.Between.{term_below}
@@ -117,6 +119,28 @@ abbrev pub IsBehind : List Structure → List CType → core.Expression → Valu
 IsBehind structs types e v t =
     (b : Behind) → behind_local types e ≡ Some b → (l : Local) → slice_get t.locals b.local ≡ Some l → IsMoved (target_size structs l.type) b.elements l.value v
 
+-- where an expression counts the bytes of a local, its value is the count
+abbrev IsCountOf : core.Expression → Value → State → Type 0
+IsCountOf e v t = (k : ℕ) (b : Option PointerBounds) (site : Site) → e ≡ core.Length (core.Local k b) site → IsLength k b v t
+
+-- such an expression
+record IsMeasured (e : core.Expression) (k : ℕ) : Type 0 where
+  bounds : Option PointerBounds
+  site : Site
+  is : e ≡ core.Length (core.Local k bounds) site
+
+measured_is : (types : List CType) (e : core.Expression) (k : ℕ) → measured_local types e ≡ Some k → IsMeasured e k
+measured_is types (core.Length pointer site) k h = let it = pointer_is types pointer k h in record { bounds = it.bounds; site = site; is = ap (λ e. core.Length e site) it.is }
+measured_is types e k h = absurd (cc)
+
+right_at : (known : List Structure) (types : List CType) (f : Knowledge) (e : core.Expression) (k : ℕ) (b : Option PointerBounds) (site : Site) → e ≡ core.Length (core.Local k b) site → IsRightLength known types f e → (p : PointerBounds) → b ≡ Some p → IsRightText known types f k p
+right_at known types f e k b site is right = subst (IsRightLength known types f) is right
+
+-- what a statement assigns counts from a node that is right
+abbrev pub IsRight : List Structure → List CType → Knowledge → core.Statement → Type 0
+IsRight known types f (core.SetLocal local value) = IsRightLength known types f value
+IsRight known types f _ = Unit {0}
+
 -- a value, as the flow takes it where it is assigned
 pub record IsRead (structs : List Structure) (types : List CType) (e : core.Expression) (v : Value) (t : State) : Type 0 where
   pub term : IsOfTerm t.locals (term types e) v
@@ -124,6 +148,7 @@ pub record IsRead (structs : List Structure) (types : List CType) (e : core.Expr
   pub null : is_null e ≡ true → v ≡ Null
   pub address : is_address e ≡ true → v ≢ Null
   pub moved : IsBehind structs types e v t
+  pub counted : IsCountOf e v t
 
 -- what is given to a pointer is so of it: where it has bounds, they are those at its expression's node or from its declared base
 picked_given : (structs : List Structure) (c : CType) (test : Bool) (a b : Option Bounds) (v : Value) (s : State) → IsGivenIf structs c a v s → IsGivenIf structs c b v s → IsGivenIf structs c (picked test a b) v s
@@ -253,7 +278,7 @@ struct_value n Null h = cc
 struct_value n (At block byte) h = cc
 
 module _ (structs : List Structure) (types : List CType) (f : Knowledge) (flow : IsFlow f) (few : length types ≤ f.vars) where
-  module _ (x : ℕ) (e : core.Expression) (v : Value) (t : State) (has : HasLocals types t) (h : HoldsAlike structs (length types) f t) (read : IsRead structs types e v t)
+  module _ (known : List Structure) (x : ℕ) (e : core.Expression) (right : IsRightLength known types f e) (v : Value) (t : State) (has : HasLocals types t) (h : HoldsAlike structs (length types) f t) (read : IsRead structs types e v t)
       (old : Local) (there : slice_get t.locals x ≡ Some old) (typed : has_type old.type v ≡ true) where
     -- its type among those of the state
     old_type : (c : CType) → slice_get types x ≡ Some c → old.type ≡ c
@@ -283,6 +308,18 @@ module _ (structs : List Structure) (types : List CType) (f : Knowledge) (flow :
         (before_there (length types) x old v t w there typed alike now) (subst (λ v. has_type old.type v ≡ true) is typed)
         (is_term (term types e) z b held.met.types (has_alike types t b b_alike has) numbers refl) held)
 
+    length_set : (k : ℕ) → measured_local types e ≡ Some k → slice_get types x ≡ Some Int → HoldsAlike structs (length types) (length_assigned x k f) (with_local x old v t)
+    length_set k measured int w alike =
+        let m = measured_is types e k measured in
+        let c = read.counted k m.bounds m.site m.is in
+        let now = there_now w alike Int int (λ q. absurd (cc)) in
+        let b = before (length types) x old v t w there typed alike now in
+        let b_alike = before_alike (length types) x old v t w there typed alike now in
+        let low = slice_get_within types x Int int in
+        subst (λ w. Holds structs (length_assigned x k f) w) (ap (λ v. with_local x old v b) (sym c.is) ∙ before_back (length types) x old v t w there typed alike now)
+        ((flows_hold structs f flow).assign_length x k b old c.count (omega (arith, low, few)) (before_there (length types) x old v t w there typed alike now) (subst (λ v. has_type old.type v ≡ true) c.is typed)
+        (counted_there structs known types f k m.bounds v t b has b_alike c (right_at known types f e k m.bounds m.site m.is right)) (h b b_alike))
+
     pointer_set : (mode : Mode) (kind : Kind) (target : CType) → slice_get types x ≡ Some (Pointer mode kind target) → IsGivenTo structs (length types) (Pointer mode kind target) e v t
         → HoldsAlike structs (length types) (pointer_assigned x (source f.vars kind (held_at f.held x).declared e) (moved_from x (behind_local types e)) (is_not_null types f e) f) (with_local x old v t)
     pointer_set mode kind target is given w alike =
@@ -298,28 +335,32 @@ module _ (structs : List Structure) (types : List CType) (f : Knowledge) (flow :
         (pointer_value mode kind target v (subst (λ c. has_type c v ≡ true) type typed)) typed
         (subst (λ c. IsGiven structs from (record { type = c; value = v }) b) (sym type) (source_given structs f.vars (length types) mode kind target (held_at f.held x).declared e v t b read.null b_alike given))
         (moved_read structs types x e (behind_local types e) old v t refl read.moved there)
-        (not_null_read types f e v read.address (known b b_alike held))
+        (not_null_read types f e v read.address (there_known b b_alike held))
         ((flows_hold structs f flow).forget x b held))
       where
-        known : (b : State) → IsAlike (length types) t b → Holds structs f b → (p : ℕ) → pointer_local types e ≡ Some p → (held_at f.held p).known ≡ true → v ≢ Null
-        known b b_alike held p q k =
+        there_known : (b : State) → IsAlike (length types) t b → Holds structs f b → (p : ℕ) → pointer_local types e ≡ Some p → (held_at f.held p).known ≡ true → v ≢ Null
+        there_known b b_alike held p q k =
             let it = pointer_is types e p q in
             let l = local_there t.locals p it.there.0 (has p it.there.0 it.there.1) in
             λ n. (held.pointers p l.local (b_alike.tracked p it.below (λ c. it.untold (it.there.1 ∙ (sym (has p it.there.0 it.there.1) ∙ c))) ∙ l.there)).known k (read.local p q l.local l.there ∙ n)
 
     type_set : (c : CType) → slice_get types x ≡ Some c → IsGivenTo structs (length types) c e v t → HoldsAlike structs (length types) (value_assigned (Some c) types x e f) (with_local x old v t)
-    type_set Int is given = let z = int_value v (subst (λ c. has_type c v ≡ true) (old_type Int is) typed) in number_set z.0 z.1 is
+    type_set Int is given = by (measured_local types e) refl
+      where
+        by : (o : Option ℕ) → measured_local types e ≡ o → HoldsAlike structs (length types) (count_assigned x o (term types e) f) (with_local x old v t)
+        by None none = let z = int_value v (subst (λ c. has_type c v ≡ true) (old_type Int is) typed) in number_set z.0 z.1 is
+        by (Some k) measured = length_set k measured is
     type_set Char is given = holds_moved structs (length types) f flow (λ y. y == x) t (with_local x old v t) (set_moved (λ y. y == x) t x old v (itself_equal x) there typed) (char_untracked types x is t has) h
     type_set (Struct n) is given = absurd (struct_value n v (subst (λ c. has_type c v ≡ true) (old_type (Struct n) is) typed))
     type_set (Pointer mode kind target) is given = pointer_set mode kind target is given
 
-  module _ (x : ℕ) (e : core.Expression) (c : CType) (is : slice_get types x ≡ Some c) where
+  module _ (known : List Structure) (x : ℕ) (e : core.Expression) (right : IsRightLength known types f e) (c : CType) (is : slice_get types x ≡ Some c) where
     abbrev Assigned : Flow → State → Type 0
     Assigned flow u = OnNext (HoldsAlike structs (length types) (value_assigned (slice_get types x) types x e f)) flow u
 
     set_so_if : (v : Value) (t : State) → HasLocals types t → HoldsAlike structs (length types) f t → IsRead structs types e v t → IsGivenTo structs (length types) c e v t → (old : Local) → slice_get t.locals x ≡ Some old → (test : Bool) → has_type old.type v ≡ test → WhereGiven Assigned (set_if test old x v t)
     set_so_if v t has h read given old there true typed =
-        subst (λ o. HoldsAlike structs (length types) (value_assigned o types x e f) (with_local x old v t)) (sym is) (type_set x e v t has h read old there typed c is given)
+        subst (λ o. HoldsAlike structs (length types) (value_assigned o types x e f) (with_local x old v t)) (sym is) (type_set known x e right v t has h read old there typed c is given)
     set_so_if v t has h read given old there false typed = tt
 
     set_so_over : (v : Value) (t : State) → HasLocals types t → HoldsAlike structs (length types) f t → IsRead structs types e v t → IsGivenTo structs (length types) c e v t → (o : Option Local) → slice_get t.locals x ≡ o → WhereGiven Assigned (set_over o x v t)
@@ -395,9 +436,9 @@ IsPlain types core.ReturnNothing = ⊥
 IsPlain types core.Break = ⊥
 IsPlain types core.Continue = ⊥
 
-module _ (audited : Bool) (g : Setting) (k : Knot) (moves : KnotMoves audited g k) (structs : List Structure) (types : List CType) (f : Knowledge) (flow : IsFlow f) (few : length types ≤ f.vars) where
+module _ (audited : Bool) (g : Setting) (k : Knot) (moves : KnotMoves audited g k) (structs known : List Structure) (types : List CType) (f : Knowledge) (flow : IsFlow f) (few : length types ≤ f.vars) where
   value_here : (e : core.Expression) (s : State) → WhereGiven (λ v t. IsAfter s t) (value audited g k e s)
-  value_here e s = value_keeps audited g k moves.calls s e s (after_here s)
+  value_here e s = value_after audited g k moves.calls e s
 
   -- ---- what is read
 
@@ -434,15 +475,39 @@ module _ (audited : Bool) (g : Setting) (k : Knot) (moves : KnotMoves audited g 
   abbrev pub IsMoving : CType → core.Expression → State → Type 0
   IsMoving c e s = WhereGiven (λ v t. IsBehind structs types e v t × IsGivenTo structs (length types) c e v t) (value audited g k e s)
 
+  counted_read : (e : core.Expression) (s : State) → WhereGiven (IsCountOf e) (value audited g k e s)
+  counted_read (core.Length (core.Local i b) site) s =
+      so_further (IsLength i b) (IsCountOf (core.Length (core.Local i b) site)) (value audited g k (core.Length (core.Local i b) site) s) (length_read audited g k moves.calls types i b site s) (λ v t l j c at same. by v t l j c at same)
+    where
+      by : (v : Value) (t : State) → IsLength i b v t → (j : ℕ) (c : Option PointerBounds) (at : Site) → core.Length (core.Local i b) site ≡ core.Length (core.Local j c) at → IsLength j c v t
+      by v t l j c at same = let first : i ≡ j = cc in let second : b ≡ c = cc in subst (λ i. IsLength i c v t) first (subst (λ b. IsLength i b v t) second l)
+  counted_read e s = so_always (IsCountOf e) (value audited g k e s) (λ v t j c at same. absurd (cc))
+
+  -- each of them
+  abbrev IsReadSo : core.Expression → State → Value → State → Type 0
+  IsReadSo e s v t =
+      IsAfter s t × (IsOfTerm s.locals (term types e) v × (IsLocalOf e v t × ((is_null e ≡ true → v ≡ Null) × ((is_address e ≡ true → v ≢ Null) × (IsBehind structs types e v t × IsCountOf e v t)))))
+
   pub read_so : (e : core.Expression) (s : State) → WhereGiven (IsBehind structs types e) (value audited g k e s) → HaveTypes s.locals → HasLocals types s → WhereGiven (λ v t. IsAfter s t × IsRead structs types e v t) (value audited g k e s)
   read_so e s moving good has =
-      so_further (λ v t. IsAfter s t × (IsOfTerm s.locals (term types e) v × (IsLocalOf e v t × ((is_null e ≡ true → v ≡ Null) × ((is_address e ≡ true → v ≢ Null) × IsBehind structs types e v t))))) (λ v t. IsAfter s t × IsRead structs types e v t) (value audited g k e s)
-      (so_both (λ v t. IsAfter s t) (λ v t. IsOfTerm s.locals (term types e) v × (IsLocalOf e v t × ((is_null e ≡ true → v ≡ Null) × ((is_address e ≡ true → v ≢ Null) × IsBehind structs types e v t)))) (value audited g k e s) (value_here e s)
-      (so_both (λ v t. IsOfTerm s.locals (term types e) v) (λ v t. IsLocalOf e v t × ((is_null e ≡ true → v ≡ Null) × ((is_address e ≡ true → v ≢ Null) × IsBehind structs types e v t))) (value audited g k e s) (term_so audited g k moves.calls types s.locals good has e s refl)
-      (so_both (IsLocalOf e) (λ v t. (is_null e ≡ true → v ≡ Null) × ((is_address e ≡ true → v ≢ Null) × IsBehind structs types e v t)) (value audited g k e s) (pointer_so audited g k moves.calls structs types e s)
-      (so_both (λ v t. is_null e ≡ true → v ≡ Null) (λ v t. (is_address e ≡ true → v ≢ Null) × IsBehind structs types e v t) (value audited g k e s) (null_given audited g k moves.calls structs types e s)
-      (so_both (λ v t. is_address e ≡ true → v ≢ Null) (IsBehind structs types e) (value audited g k e s) (address_read e s) moving)))))
-      (λ v t x. (x.0, record { term = subst (λ ls. IsOfTerm ls (term types e) v) (sym x.0.1) x.1.0; local = x.1.1.0; null = x.1.1.1.0; address = x.1.1.1.1.0; moved = x.1.1.1.1.1 }))
+      so_further (IsReadSo e s) (λ v t. IsAfter s t × IsRead structs types e v t) (value audited g k e s)
+      (so_both (λ v t. IsAfter s t) (λ v t. IsOfTerm s.locals (term types e) v × (IsLocalOf e v t × ((is_null e ≡ true → v ≡ Null) × ((is_address e ≡ true → v ≢ Null) × (IsBehind structs types e v t × IsCountOf e v t))))) (value audited g k e s) (value_here e s)
+      (so_both (λ v t. IsOfTerm s.locals (term types e) v) (λ v t. IsLocalOf e v t × ((is_null e ≡ true → v ≡ Null) × ((is_address e ≡ true → v ≢ Null) × (IsBehind structs types e v t × IsCountOf e v t)))) (value audited g k e s) (term_so audited g k moves.calls types s.locals good has e s refl)
+      (so_both (IsLocalOf e) (λ v t. (is_null e ≡ true → v ≡ Null) × ((is_address e ≡ true → v ≢ Null) × (IsBehind structs types e v t × IsCountOf e v t))) (value audited g k e s) (pointer_so audited g k moves.calls structs types e s)
+      (so_both (λ v t. is_null e ≡ true → v ≡ Null) (λ v t. (is_address e ≡ true → v ≢ Null) × (IsBehind structs types e v t × IsCountOf e v t)) (value audited g k e s) (null_given audited g k moves.calls structs types e s)
+      (so_both (λ v t. is_address e ≡ true → v ≢ Null) (λ v t. IsBehind structs types e v t × IsCountOf e v t) (value audited g k e s) (address_read e s)
+      (so_both (IsBehind structs types e) (IsCountOf e) (value audited g k e s) moving (counted_read e s)))))))
+      (λ v t x. (
+        x.0,
+        record {
+          term = subst (λ ls. IsOfTerm ls (term types e) v) (sym x.0.1) x.1.0;
+          local = x.1.1.0;
+          null = x.1.1.1.0;
+          address = x.1.1.1.1.0;
+          moved = x.1.1.1.1.1.0;
+          counted = x.1.1.1.1.1.1;
+        },
+      ))
 
   -- ---- what is known behind them
 
@@ -480,14 +545,14 @@ module _ (audited : Bool) (g : Setting) (k : Knot) (moves : KnotMoves audited g 
   nothing_assigned : (x : core.Statement) → IsPlain types x → AssignsOnly (λ y. false) x → (s : State) → HoldsAlike structs (length types) f s → WhereGiven (OnNext (HoldsAlike structs (length types) f)) (effect audited g k x s)
   nothing_assigned x plain only s h = unchanged (λ y. false) x plain only s (λ y tracked. refl) h
 
-  set_local_so : (x : ℕ) (e : core.Expression) (c : CType) → slice_get types x ≡ Some c → (s : State) → IsMoving c e s → HasLocals types s → HoldsAlike structs (length types) f s
+  set_local_so : (x : ℕ) (e : core.Expression) → IsRightLength known types f e → (c : CType) → slice_get types x ≡ Some c → (s : State) → IsMoving c e s → HasLocals types s → HoldsAlike structs (length types) f s
       → WhereGiven (OnNext (HoldsAlike structs (length types) (value_assigned (slice_get types x) types x e f))) (effect audited g k (core.SetLocal x e) s)
-  set_local_so x e c is s moving has h =
+  set_local_so x e right c is s moving has h =
       so_on (λ v t. (IsAfter s t × IsRead structs types e v t) × IsGivenTo structs (length types) c e v t) (OnNext (HoldsAlike structs (length types) (value_assigned (slice_get types x) types x e f))) (value audited g k e s) (set_local x)
       (so_both (λ v t. IsAfter s t × IsRead structs types e v t) (IsGivenTo structs (length types) c e) (value audited g k e s)
       (read_so e s (so_further (λ v t. IsBehind structs types e v t × IsGivenTo structs (length types) c e v t) (IsBehind structs types e) (value audited g k e s) moving (λ v t m. m.0)) (types_alike structs (length types) f s h) has)
       (so_further (λ v t. IsBehind structs types e v t × IsGivenTo structs (length types) c e v t) (IsGivenTo structs (length types) c e) (value audited g k e s) moving (λ v t m. m.1)))
-      (λ v t r. set_so structs types f flow few x e c is v t (has_after types s t r.0.0 has) (holds_after structs (length types) f s t flow r.0.0 h) r.0.1 r.1)
+      (λ v t r. set_so structs types f flow few known x e right c is v t (has_after types s t r.0.0 has) (holds_after structs (length types) f s t flow r.0.0 h) r.0.1 r.1)
 
   -- an update that keeps no byte is an assignment
   update_is : (x : ℕ) (operator : Operator) (e : core.Expression) (site : Site) (s : State) → effect audited g k (core.UpdateLocal false x operator e site) s ≡ effect audited g k (core.SetLocal x (core.Arithmetic operator (core.Local x None) e site)) s
@@ -501,7 +566,7 @@ module _ (audited : Bool) (g : Setting) (k : Knot) (moves : KnotMoves audited g 
       → WhereGiven (OnNext (HoldsAlike structs (length types) (value_assigned (slice_get types x) types x (core.Arithmetic operator (core.Local x None) e site) f))) (effect audited g k (core.UpdateLocal char x operator e site) s)
   update_so x operator e site c false is fits s has h =
       subst (λ o. WhereGiven (OnNext (HoldsAlike structs (length types) (value_assigned (slice_get types x) types x (core.Arithmetic operator (core.Local x None) e site) f))) o) (sym (update_is x operator e site s))
-      (set_local_so x (core.Arithmetic operator (core.Local x None) e site) c is s (so_always (λ v t. IsBehind structs types (core.Arithmetic operator (core.Local x None) e site) v t × IsGivenTo structs (length types) c (core.Arithmetic operator (core.Local x None) e site) v t) (value audited g k (core.Arithmetic operator (core.Local x None) e site) s)
+      (set_local_so x (core.Arithmetic operator (core.Local x None) e site) tt c is s (so_always (λ v t. IsBehind structs types (core.Arithmetic operator (core.Local x None) e site) v t × IsGivenTo structs (length types) c (core.Arithmetic operator (core.Local x None) e site) v t) (value audited g k (core.Arithmetic operator (core.Local x None) e site) s)
       (λ v t. ((λ b q. absurd (cc)), none_given_to structs (length types) c (core.Arithmetic operator (core.Local x None) e site) v t refl refl))) has h)
   update_so x operator e site Char true is fits s has h =
       subst (λ o. WhereGiven (OnNext (HoldsAlike structs (length types) (value_assigned o types x (core.Arithmetic operator (core.Local x None) e site) f))) (effect audited g k (core.UpdateLocal true x operator e site) s)) (sym is)
@@ -529,20 +594,20 @@ module _ (audited : Bool) (g : Setting) (k : Knot) (moves : KnotMoves audited g 
   AreMoving core.Break s = Unit {0}
   AreMoving core.Continue s = Unit {0}
 
-  pub plain_so : (x : core.Statement) → IsPlain types x → (s : State) → AreMoving x s → HasLocals types s → HoldsAlike structs (length types) f s → WhereGiven (OnNext (HoldsAlike structs (length types) (assigned_by types x f))) (effect audited g k x s)
-  plain_so core.Nothing plain s moving has h = nothing_assigned core.Nothing plain tt s h
-  plain_so (core.SetLocal x e) plain s moving has h = set_local_so x e plain.0 plain.1 s (moving plain.0 plain.1) has h
-  plain_so (core.Store type p e) plain s moving has h = nothing_assigned (core.Store type p e) plain tt s h
-  plain_so (core.UpdateLocal char x operator e site) plain s moving has h = update_so x operator e site plain.0 char plain.1 plain.2 s has h
-  plain_so (core.Update type p operator e site) plain s moving has h = nothing_assigned (core.Update type p operator e site) plain tt s h
-  plain_so (core.Evaluate e) plain s moving has h = nothing_assigned (core.Evaluate e) plain tt s h
-  plain_so (core.CallAlone callee arguments) plain s moving has h = nothing_assigned (core.CallAlone callee arguments) plain tt s h
-  plain_so (core.Print e) plain s moving has h = nothing_assigned (core.Print e) plain tt s h
-  plain_so (core.PutByte e) plain s moving has h = nothing_assigned (core.PutByte e) plain tt s h
-  plain_so (core.Block xs) plain s moving has h = absurd plain
-  plain_so (core.If c x y) plain s moving has h = absurd plain
-  plain_so (core.Loop c x y) plain s moving has h = absurd plain
-  plain_so (core.Return e) plain s moving has h = absurd plain
-  plain_so core.ReturnNothing plain s moving has h = absurd plain
-  plain_so core.Break plain s moving has h = absurd plain
-  plain_so core.Continue plain s moving has h = absurd plain
+  pub plain_so : (x : core.Statement) → IsPlain types x → IsRight known types f x → (s : State) → AreMoving x s → HasLocals types s → HoldsAlike structs (length types) f s → WhereGiven (OnNext (HoldsAlike structs (length types) (assigned_by types x f))) (effect audited g k x s)
+  plain_so core.Nothing plain right s moving has h = nothing_assigned core.Nothing plain tt s h
+  plain_so (core.SetLocal x e) plain right s moving has h = set_local_so x e right plain.0 plain.1 s (moving plain.0 plain.1) has h
+  plain_so (core.Store type p e) plain right s moving has h = nothing_assigned (core.Store type p e) plain tt s h
+  plain_so (core.UpdateLocal char x operator e site) plain right s moving has h = update_so x operator e site plain.0 char plain.1 plain.2 s has h
+  plain_so (core.Update type p operator e site) plain right s moving has h = nothing_assigned (core.Update type p operator e site) plain tt s h
+  plain_so (core.Evaluate e) plain right s moving has h = nothing_assigned (core.Evaluate e) plain tt s h
+  plain_so (core.CallAlone callee arguments) plain right s moving has h = nothing_assigned (core.CallAlone callee arguments) plain tt s h
+  plain_so (core.Print e) plain right s moving has h = nothing_assigned (core.Print e) plain tt s h
+  plain_so (core.PutByte e) plain right s moving has h = nothing_assigned (core.PutByte e) plain tt s h
+  plain_so (core.Block xs) plain right s moving has h = absurd plain
+  plain_so (core.If c x y) plain right s moving has h = absurd plain
+  plain_so (core.Loop c x y) plain right s moving has h = absurd plain
+  plain_so (core.Return e) plain right s moving has h = absurd plain
+  plain_so core.ReturnNothing plain right s moving has h = absurd plain
+  plain_so core.Break plain right s moving has h = absurd plain
+  plain_so core.Continue plain right s moving has h = absurd plain

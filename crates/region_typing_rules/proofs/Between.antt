@@ -1,30 +1,31 @@
 -- Flows between statements stay such ones.
-use Rattle.std.proofs.Common.{◌≡◌, ℕ, zero, suc, ◌+◌, ◌-◌, ◌<◌, ◌≤◌, ℤ, Bool, true, false, cond, List, [], ◌∷◌, length, map, Option, Some, None, refl, sym, ap, ◌∙◌, subst, arith, ◌⊎◌, inl, inr}
-use Rattle.std.specs.Prelude.{◌≢◌, nat_lt, slice_get, slice_set, slice_index_or}
+use Rattle.std.proofs.Common.{◌≡◌, ℕ, zero, suc, ◌+◌, ◌-◌, ◌<◌, ◌≤◌, ℤ, Bool, true, false, cond, ◌&&◌, pos, ◌+ℤ◌, List, [], ◌∷◌, length, map, Option, Some, None, refl, sym, ap, ◌∙◌, subst, arith, ◌⊎◌, inl, inr}
+use Rattle.std.specs.Prelude.{◌≢◌, nat_lt, slice_get, slice_set}
 use Rattle.std.proofs.lemmas.Bool.{cases_eq}
 use Rattle.std.proofs.lemmas.Bool.Decides.{nat_tests}
 use Rattle.std.proofs.lemmas.List.{get_or-set_other}
-use Rattle.std.proofs.lemmas.Option.{slice_get_within}
+use Rattle.std.proofs.lemmas.Option.{same_Some, slice_get_within}
 use Rattle.ckc_text.specs.declared.place.Span.{Span}
 use Rattle.bounds_exprs.specs.declared.term.Bounds.{Bounds}
 use Rattle.bounds_exprs.specs.declared.term.Term.{Term}
-use Rattle.bounds_exprs.specs.Terms.{is_var}
+use Rattle.bounds_exprs.specs.Terms.{is_var, is_within, term_limit}
 use Rattle.bounds_exprs.specs.Changes.{is_named, moved_back}
-use Rattle.subsumption.specs.ClosedTables.{ClosedTable}
+use Rattle.subsumption.specs.ClosedTables.{ClosedTable, entails_terms}
 use Rattle.subsumption.specs.Facts.{IsBelow}
 use Rattle.pointer_modes.specs.declared.ctype.Kind.{Kind}
 use Rattle.pointer_modes.specs.declared.ctype.Kind.TheVariants as kinds
-use Rattle.pointer_modes.specs.Types.{CType, Int, Char, Struct, Pointer}
+use Rattle.pointer_modes.specs.Types.{CType, Int, Char, Struct, Pointer, Structure}
 use Rattle.bounds_flow.specs.declared.held.Held.{Held}
 use Rattle.bounds_flow.specs.declared.held.Mark.{Mark}
 use Rattle.bounds_flow.specs.declared.held.Mark.TheVariants as marks
 use Rattle.bounds_flow.specs.declared.steps.Source.{Source}
 use Rattle.bounds_flow.specs.declared.steps.Source.TheVariants as sources
-use Rattle.bounds_flow.specs.Pointers.{after_base, after_leaving, after_number, after_shift, assigned_from, dropped, fresh, is_settled, lost, moved_off, moved_to, no_pointer, same_bounds, settled_pointer, where_bounds, with_declared}
-use Rattle.bounds_flow.specs.Flows.{Knowledge, held_at, entered, left, at_head, cut_off, met, number_held, pointer_assigned, settled}
+use Rattle.bounds_flow.specs.Pointers.{after_base, after_leaving, after_number, after_shift, assigned_from, dropped, fresh, is_settled, lost, moved_off, moved_to, no_pointer, same_bounds, settled_pointer, up_to, where_bounds, with_declared, is_own}
+use Rattle.bounds_flow.specs.Flows.{Knowledge, held_at, entered, left, at_head, cut_off, length_assigned, measured, measured_by, met, number_assigned, number_held, pointer_assigned, settled, variable}
 use Rattle.bounds_flow.specs.Settling.{Finding, Meets, WasLost, Falls, MeetBelow, finding}
 use Rattle.bounds_flow.specs.Conditions.{AreBoundsBelow, AreEndsBelow, IsFlow, IsTermBelow, IsSourceBelow}
 use Rattle.bounds_flow.proofs.FlowSteps.{are_kept}
+use Rattle.bounds_flow_meaning.specs.Holding.{IsInt, IsSettled}
 use Rattle.bounds_flow_meaning.specs.Laws.{AreBeside}
 use Rattle.bounds_flow_meaning.proofs.Beside.{flows_stay_alike}
 use Rattle.bounds_flow_meaning.proofs.Steps.{each_map, each_put}
@@ -33,34 +34,108 @@ use Rattle.bounds_flow_meaning.proofs.Ways.{head_at, joined_at, leaving}
 use Rattle.ckc_core.specs.Core as core
 use Rattle.region_typing_rules.specs.Verdicts.{picked}
 use Rattle.region_typing_rules.specs.Readings.{told, term, behind_local, is_null, is_not_null}
-use Rattle.region_typing_rules.specs.Knowing.{is_below, are_below, given_bounds, known_source, source, moved_from, value_assigned, assigned_by, or_later, first_found, settled_as, settling, without_locals, with_way, with_others}
-use Rattle.region_typing_rules.specs.KnownIsSo.{AreLimitedIf, IsLimited, IsBetween, declared_at, IsOutside, AreBetween}
-use Rattle.region_typing_rules.proofs.Verdicts.{Promises}
+use Rattle.region_typing_rules.specs.Knowing.{is_below, are_below, given_bounds, known_source, source, moved_from, measured_local, count_assigned, value_assigned, assigned_by, or_later, first_found, settled_as, settling, without_locals, with_way, with_others}
+use Rattle.region_typing_rules.specs.KnownIsSo.{AreLimited, declared_at, IsDeclared, IsOutside}
+use Rattle.region_typing_rules.proofs.Verdicts.{Promises, Extends}
 use Rattle.region_typing_rules.proofs.Terms.{term_formed, formed_below}
-use Rattle.region_typing_rules.proofs.Told.{told_here, told_is}
+use Rattle.region_typing_rules.proofs.InForce.{AreSo, IsSoOf, StaysSo, bounds_told}
+use Rattle.region_typing_rules.proofs.Told.{told_beside as tests_beside, told_here, told_is, told_settled}
 
--- ---- limited bounds
+-- ---- bounds that may stand
 
-one_of : (test : Bool) (a b : Option Bounds) → a ≡ b → cond test a b ≡ b
-one_of true a b e = e
-one_of false a b e = refl
+-- bounds of a pointer among locals of these types: it has elements, their ends name `int` locals and have small constants, and their base is a
+-- pointer like it
+abbrev pub MayStand : List Structure → List CType → ℕ → Bounds → Type 0
+MayStand structs types p b = IsDeclared structs types p b × AreLimited b
 
-limited_met : (f g : Knowledge) → length g.held ≡ length f.held → ((p : ℕ) → IsLimited (held_at f.held p)) → (p : ℕ) → IsLimited (held_at (met f g).held p)
-limited_met f g same h p =
-    let k = h p in
-    subst IsLimited (sym (joined_at f.held g.held (sym same) p))
-    (record { declared = k.declared; in_force = one_of (same_bounds (held_at f.held p).bounds (held_at g.held p).bounds) (held_at f.held p).bounds (held_at f.held p).declared k.in_force })
+-- with another upper end
+ended_stands : (structs : List Structure) (types : List CType) (p : ℕ) (b : Bounds) (hi : Term) → IsInt types hi.var → is_within term_limit hi.plus ≡ true → MayStand structs types p b → MayStand structs types p (record b { hi = hi })
+ended_stands structs types p b hi int small h = (
+  record { mode = h.0.mode; kind = h.0.kind; counts = h.0.counts; element = h.0.element; own = h.0.own; some = h.0.some; ints = record { lo = h.0.ints.lo; hi = int }; base = h.0.base },
+  record { low = h.1.low; high = small },
+)
 
-limited_same : (h k : Held) → k.declared ≡ h.declared → k.bounds ≡ h.bounds → IsLimited h → IsLimited k
-limited_same h k declared bounds it = record { declared = subst AreLimitedIf (sym declared) it.declared; in_force = bounds ∙ (it.in_force ∙ sym declared) }
+wider_stands : (structs : List Structure) (types : List CType) (p : ℕ) → StaysSo (MayStand structs types p)
+wider_stands structs types p b d further h = by (is_within term_limit (b.hi.plus +ℤ pos 1)) refl further
+  where
+    by : (test : Bool) → is_within term_limit (b.hi.plus +ℤ pos 1) ≡ test → up_to b (cond test (Some (record { var = b.hi.var; plus = b.hi.plus +ℤ pos 1 })) None) ≡ Some d → MayStand structs types p d
+    by true small is =
+        let hi : Term = record { var = b.hi.var; plus = b.hi.plus +ℤ pos 1 } in
+        subst (MayStand structs types p) (same_Some (record b { hi = hi }) d is) (ended_stands structs types p b hi h.0.ints.hi small h)
+    by false small is = absurd (cc)
 
-limited_reset : (h : Held) → IsLimited h → IsLimited (with_declared h)
-limited_reset h it = record { declared = it.declared; in_force = refl }
+int_more : (ts us : List CType) → Extends ts us → (o : Option ℕ) → IsInt ts o → IsInt us o
+int_more ts us more None h = tt
+int_more ts us more (Some x) h = more x Int h
 
-limited_head : (changed : List ℕ) (f : Knowledge) → ((p : ℕ) → IsLimited (held_at f.held p)) → (p : ℕ) → IsLimited (held_at (at_head changed f).held p)
-limited_head changed f h p =
-    let at = head_at changed f p in
-    record { declared = subst AreLimitedIf (sym at.declared) (h p).declared; in_force = at.bounds ∙ sym at.declared }
+pub declared_extends : (structs : List Structure) (ts us : List CType) (p : ℕ) (b : Bounds) → Extends ts us → IsDeclared structs ts p b → IsDeclared structs us p b
+declared_extends structs ts us p b more d = record {
+  some = d.some;
+  mode = d.mode;
+  kind = d.kind;
+  counts = d.counts;
+  element = d.element;
+  own = more p (Pointer d.mode d.kind d.element) d.own;
+  ints = record { lo = int_more ts us more b.lo.var d.ints.lo; hi = int_more ts us more b.hi.var d.ints.hi };
+  base = λ q e. let it = d.base q e in (it.0, more q (Pointer d.mode it.0 d.element) it.1);
+}
+
+-- ---- the bounds of all pointers
+
+module _ (Q : ℕ → Bounds → Type 0) where
+  so_met : (f g : Knowledge) → length g.held ≡ length f.held → AreSo Q f → AreSo Q (met f g)
+  so_met f g same h p = subst (IsSoOf (Q p)) (sym (joined_at f.held g.held (sym same) p)) (by (same_bounds (held_at f.held p).bounds (held_at g.held p).bounds))
+    where
+      by : (test : Bool) → IsSoOf (Q p) (record (held_at f.held p) { bounds = cond test (held_at f.held p).bounds (held_at f.held p).declared; known = (held_at f.held p).known && (held_at g.held p).known })
+      by true = record { bounds = (h p).bounds; declared = (h p).declared }
+      by false = record { bounds = (h p).declared; declared = (h p).declared }
+
+  so_head : (changed : List ℕ) (f : Knowledge) → AreSo Q f → AreSo Q (at_head changed f)
+  so_head changed f h p =
+      let at = head_at changed f p in
+      record { bounds = λ b e. (h p).declared b (sym at.bounds ∙ e); declared = λ b e. (h p).declared b (sym at.declared ∙ e) }
+
+  so_entered : (x : ℕ) (declared : Option Bounds) (f : Knowledge) → ((b : Bounds) → declared ≡ Some b → Q x b) → AreSo Q f → AreSo Q (entered x declared f)
+  so_entered x declared f may h = each_put (λ p h. IsSoOf (Q p) h) f.held x (fresh declared) (record { bounds = may; declared = may }) h
+
+  none_so : (x : ℕ) → IsSoOf (Q x) no_pointer
+  none_so x = record { bounds = λ b e. absurd (cc); declared = λ b e. absurd (cc) }
+
+  so_reset : (p : ℕ) (h : Held) → IsSoOf (Q p) h → IsSoOf (Q p) (with_declared h)
+  so_reset p h so = record { bounds = so.declared; declared = so.declared }
+
+  so_left : (x : ℕ) (f : Knowledge) → AreSo Q f → AreSo Q (left x f)
+  so_left x f h =
+      each_put (λ p h. IsSoOf (Q p) h) (map (after_leaving x) f.held) x no_pointer (none_so x)
+      (each_map (λ p h. IsSoOf (Q p) h) (after_leaving x) refl f.held (λ q. leaving (IsSoOf (Q q)) (held_at f.held q) x (h q) (so_reset q (held_at f.held q) (h q))))
+
+-- a flow between statements, of so many variables, among locals of these types
+pub record IsBetween (structs : List Structure) (types : List CType) (vars : ℕ) (f : Knowledge) : Type 0 where
+  pub flow : IsFlow f
+  pub size : f.vars ≡ vars
+  pub settled : IsSettled f
+  pub bounds : AreSo (MayStand structs types) f
+
+-- what is known of some ways out of a loop, or on to its next turn, outside of which there are so many locals
+abbrev pub AreBetween : List Structure → List CType → (vars outside : ℕ) → Knowledge → Option Knowledge → Type 0
+AreBetween structs types vars outside f None = Unit {0}
+AreBetween structs types vars outside f (Some h) = IsBetween structs types vars h × IsOutside outside f h
+
+-- among more locals
+pub between_more : {structs : List Structure} (ts us : List CType) (vars : ℕ) (f : Knowledge) → Extends ts us → IsBetween structs ts vars f → IsBetween structs us vars f
+between_more {structs = structs} ts us vars f more b = record {
+  flow = b.flow;
+  size = b.size;
+  settled = b.settled;
+  bounds = λ p. record {
+    bounds = λ d e. (let h = (b.bounds p).bounds d e in (declared_extends structs ts us p d more h.0, h.1));
+    declared = λ d e. (let h = (b.bounds p).declared d e in (declared_extends structs ts us p d more h.0, h.1));
+  };
+}
+
+pub ways_more : (structs : List Structure) (ts us : List CType) (vars outside : ℕ) (f : Knowledge) (o : Option Knowledge) → Extends ts us → AreBetween structs ts vars outside f o → AreBetween structs us vars outside f o
+ways_more structs ts us vars outside f None more b = tt
+ways_more structs ts us vars outside f (Some h) more b = (between_more ts us vars h more b.0, b.1)
 
 -- ---- declared bounds
 
@@ -72,7 +147,7 @@ pub outside_here : (n : ℕ) (f : Knowledge) → ((p : ℕ) → n ≤ p → decl
 outside_here n f beyond = record { within = λ p low. refl; beyond = beyond }
 
 -- flows of two ways that lead to one place
-pub beside_of : (vars n : ℕ) (f g h : Knowledge) → IsBetween vars g → IsBetween vars h → IsOutside n f g → IsOutside n f h → AreBeside g h
+pub beside_of : {structs : List Structure} {types : List CType} (vars n : ℕ) (f g h : Knowledge) → IsBetween structs types vars g → IsBetween structs types vars h → IsOutside n f g → IsOutside n f h → AreBeside g h
 beside_of vars n f g h a b to_g to_h = record {
   vars = b.size ∙ sym a.size;
   declared = λ p. elim (order p) [ inl low ↦ to_h.within p low ∙ sym (to_g.within p low) | inr far ↦ to_h.beyond p far ∙ sym (to_g.beyond p far) ];
@@ -85,74 +160,65 @@ beside_of vars n f g h a b to_g to_h = record {
         decided true e = inl (grind (arith, nat_tests))
         decided false e = inr (grind (arith, nat_tests))
 
-same_lengths : (vars : ℕ) (f g : Knowledge) → IsBetween vars f → IsBetween vars g → length g.held ≡ length f.held
+same_lengths : {structs : List Structure} {types : List CType} (vars : ℕ) (f g : Knowledge) → IsBetween structs types vars f → IsBetween structs types vars g → length g.held ≡ length f.held
 same_lengths vars f g a b = b.flow.variables.pointers ∙ (b.size ∙ (sym a.size ∙ sym a.flow.variables.pointers))
 
 -- ---- flows between statements
 
-pub told_beside : (types : List CType) (vars : ℕ) (e : core.Expression) (truth : Bool) (f : Knowledge) → length types ≤ vars → IsBetween vars f → AreBeside f (told types e truth f)
-told_beside types vars e truth f few b =
-    let t = told_is types f (subst (λ n. length types ≤ n) (sym b.size) few) e truth f (told_here f b.flow) in
-    record { vars = t.tested.vars; declared = t.tested.declared }
+pub told_beside : {structs : List Structure} (types : List CType) (vars : ℕ) (e : core.Expression) (truth : Bool) (f : Knowledge) → length types ≤ vars → IsBetween structs types vars f → AreBeside f (told types e truth f)
+told_beside types vars e truth f few b = tests_beside f (told types e truth f) (told_is types f (subst (λ n. length types ≤ n) (sym b.size) few) e truth f (told_here f b.flow))
 
-pub between_told : (types : List CType) (vars : ℕ) (e : core.Expression) (truth : Bool) (f : Knowledge) → length types ≤ vars → IsBetween vars f → IsBetween vars (told types e truth f)
-between_told types vars e truth f few b =
+pub between_told : {structs : List Structure} (types : List CType) (vars : ℕ) (e : core.Expression) (truth : Bool) (f : Knowledge) → length types ≤ vars → IsBetween structs types vars f → IsBetween structs types vars (told types e truth f)
+between_told {structs = structs} types vars e truth f few b =
     let t = told_is types f (subst (λ n. length types ≤ n) (sym b.size) few) e truth f (told_here f b.flow) in
     record {
       flow = t.flow;
       size = t.tested.vars ∙ b.size;
-      settled = record { marks = λ p. t.tested.marks p ∙ b.settled.marks p; assigned = λ y. subst (λ xs. slice_index_or xs y false ≡ false) (sym t.tested.assigned) (b.settled.assigned y) };
-      limited = λ p. limited_same (held_at f.held p) (held_at (told types e truth f).held p) (t.tested.declared p) (t.tested.bounds p) (b.limited p);
+      settled = told_settled f (told types e truth f) t b.settled;
+      bounds = bounds_told (MayStand structs types) (wider_stands structs types) types e truth f b.bounds;
     }
 
-pub between_cut : (vars : ℕ) (f : Knowledge) → IsBetween vars f → IsBetween vars (cut_off f)
-between_cut vars f b = record { flow = (are_kept.steps f b.flow).cut; size = b.size; settled = (flows_stay_alike.1 f).cut b.settled; limited = b.limited }
+pub between_cut : {structs : List Structure} {types : List CType} (vars : ℕ) (f : Knowledge) → IsBetween structs types vars f → IsBetween structs types vars (cut_off f)
+between_cut vars f b = record { flow = (are_kept.steps f b.flow).cut; size = b.size; settled = (flows_stay_alike.1 f).cut b.settled; bounds = b.bounds }
 
-pub between_head : (vars : ℕ) (changed : List ℕ) (f : Knowledge) → IsBetween vars f → IsBetween vars (at_head changed f)
-between_head vars changed f b = record {
+pub between_head : {structs : List Structure} {types : List CType} (vars : ℕ) (changed : List ℕ) (f : Knowledge) → IsBetween structs types vars f → IsBetween structs types vars (at_head changed f)
+between_head {structs = structs} {types = types} vars changed f b = record {
   flow = (are_kept.steps f b.flow).enter_loop changed;
   size = b.size;
   settled = (flows_stay_alike.1 f).enter_loop changed b.settled;
-  limited = limited_head changed f b.limited;
+  bounds = so_head (MayStand structs types) changed f b.bounds;
 }
 
-pub between_met : (vars : ℕ) (f g : Knowledge) → IsBetween vars f → IsBetween vars g → IsBetween vars (met f g)
-between_met vars f g a b =
+pub between_met : {structs : List Structure} {types : List CType} (vars : ℕ) (f g : Knowledge) → IsBetween structs types vars f → IsBetween structs types vars g → IsBetween structs types vars (met f g)
+between_met {structs = structs} {types = types} vars f g a b =
     let same = same_lengths vars f g a b in
     record {
       flow = (are_kept.steps f a.flow).join g b.flow (b.size ∙ sym a.size);
       size = a.size;
       settled = (flows_stay_alike.1 f).join g same a.settled;
-      limited = limited_met f g same a.limited;
+      bounds = so_met (MayStand structs types) f g same a.bounds;
     }
 
-pub met_beside : (vars : ℕ) (f g : Knowledge) → IsBetween vars f → IsBetween vars g → AreBeside f (met f g)
+pub met_beside : {structs : List Structure} {types : List CType} (vars : ℕ) (f g : Knowledge) → IsBetween structs types vars f → IsBetween structs types vars g → AreBeside f (met f g)
 met_beside vars f g a b = (flows_stay_alike.0 f).join g (same_lengths vars f g a b)
 
-fresh_limited : (declared : Option Bounds) → AreLimitedIf declared → IsLimited (fresh declared)
-fresh_limited declared h = record { declared = h; in_force = refl }
-
-abbrev Limited : ℕ → Held → Type 0
-Limited q h = IsLimited h
-
-pub between_entered : (vars x : ℕ) (declared : Option Bounds) (f : Knowledge) → AreBoundsBelow vars declared → AreLimitedIf declared → IsBetween vars f → IsBetween vars (entered x declared f)
-between_entered vars x declared f below limited b = record {
+pub between_entered : {structs : List Structure} {types : List CType} (vars x : ℕ) (declared : Option Bounds) (f : Knowledge) → AreBoundsBelow vars declared → ((b : Bounds) → declared ≡ Some b → MayStand structs types x b) → IsBetween structs types vars f → IsBetween structs types vars (entered x declared f)
+between_entered {structs = structs} {types = types} vars x declared f below may b = record {
   flow = (are_kept.steps f b.flow).enter x declared (subst (λ n. AreBoundsBelow n declared) (sym b.size) below);
   size = b.size;
   settled = (flows_stay_alike.1 f).enter x declared b.settled;
-  limited = each_put Limited f.held x (fresh declared) (fresh_limited declared limited) b.limited;
+  bounds = so_entered (MayStand structs types) x declared f may b.bounds;
 }
 
-pub between_left : (vars x : ℕ) (f : Knowledge) → IsBetween vars f → IsBetween vars (left x f)
-between_left vars x f b = record {
+pub between_left : {structs : List Structure} {types : List CType} (vars x : ℕ) (f : Knowledge) → IsBetween structs types vars f → IsBetween structs types vars (left x f)
+between_left {structs = structs} {types = types} vars x f b = record {
   flow = (are_kept.steps f b.flow).leave x;
   size = b.size;
   settled = (flows_stay_alike.1 f).leave x b.settled;
-  limited = each_put Limited (map (after_leaving x) f.held) x no_pointer (record { declared = tt; in_force = refl })
-      (each_map Limited (after_leaving x) refl f.held (λ q. leaving IsLimited (held_at f.held q) x (b.limited q) (limited_reset (held_at f.held q) (b.limited q))));
+  bounds = so_left (MayStand structs types) x f b.bounds;
 }
 
-pub between_without : (vars local count : ℕ) (f : Knowledge) → IsBetween vars f → IsBetween vars (without_locals local count f)
+pub between_without : {structs : List Structure} {types : List CType} (vars local count : ℕ) (f : Knowledge) → IsBetween structs types vars f → IsBetween structs types vars (without_locals local count f)
 between_without vars local zero f b = b
 between_without vars local (suc count) f b = between_without vars (suc local) count (left local f) (between_left vars local f b)
 
@@ -234,83 +300,110 @@ without_outside n local f h few beyond same = record {
 
 -- ---- ways
 
-pub between_way : (vars n : ℕ) (f h : Knowledge) (o : Option Knowledge) → IsBetween vars h → IsOutside n f h → AreBetween vars n f o → AreBetween vars n f (Some (with_way h o))
-between_way vars n f h None a out b = (a, out)
-between_way vars n f h (Some before) a out b = (between_met vars before h b.0 a, outside_beside n f before (met before h) (met_beside vars before h b.0 a) b.1)
+pub between_way : (structs : List Structure) (types : List CType) (vars n : ℕ) (f h : Knowledge) (o : Option Knowledge) → IsBetween structs types vars h → IsOutside n f h → AreBetween structs types vars n f o → AreBetween structs types vars n f (Some (with_way h o))
+between_way structs types vars n f h None a out b = (a, out)
+between_way structs types vars n f h (Some before) a out b = (between_met vars before h b.0 a, outside_beside n f before (met before h) (met_beside vars before h b.0 a) b.1)
 
-pub between_others : (vars n : ℕ) (f h : Knowledge) (o : Option Knowledge) → IsBetween vars h → IsOutside n f h → AreBetween vars n f o → IsBetween vars (with_others o h) × IsOutside n f (with_others o h)
-between_others vars n f h None a out b = (a, out)
-between_others vars n f h (Some others) a out b = (between_met vars h others a b.0, outside_beside n f h (met h others) (met_beside vars h others a b.0) out)
+pub between_others : (structs : List Structure) (types : List CType) (vars n : ℕ) (f h : Knowledge) (o : Option Knowledge) → IsBetween structs types vars h → IsOutside n f h → AreBetween structs types vars n f o → IsBetween structs types vars (with_others o h) × IsOutside n f (with_others o h)
+between_others structs types vars n f h None a out b = (a, out)
+between_others structs types vars n f h (Some others) a out b = (between_met vars h others a b.0, outside_beside n f h (met h others) (met_beside vars h others a b.0) out)
 
 -- the ways are those of a flow in which the same bounds are declared
-pub between_same : (vars n : ℕ) (f g : Knowledge) (o : Option Knowledge) → ((p : ℕ) → p < n → declared_at g p ≡ declared_at f p) → AreBetween vars n f o → AreBetween vars n g o
-between_same vars n f g None same b = tt
-between_same vars n f g (Some h) same b = (b.0, record { within = λ p low. b.1.within p low ∙ sym (same p low); beyond = b.1.beyond })
+pub between_same : (structs : List Structure) (types : List CType) (vars n : ℕ) (f g : Knowledge) (o : Option Knowledge) → ((p : ℕ) → p < n → declared_at g p ≡ declared_at f p) → AreBetween structs types vars n f o → AreBetween structs types vars n g o
+between_same structs types vars n f g None same b = tt
+between_same structs types vars n f g (Some h) same b = (b.0, record { within = λ p low. b.1.within p low ∙ sym (same p low); beyond = b.1.beyond })
 
 -- ---- in the midst of an assignment
 
--- declared bounds are limited, and of a pointer to which nothing happened they are in force
-pub record IsLimitedAmid (h : Held) : Type 0 where
-  pub declared : AreLimitedIf h.declared
-  pub in_force : h.mark ≡ marks.Settled → h.bounds ≡ h.declared
+-- declared bounds may stand, and so may those in force of a pointer to which nothing happened
+pub record IsSoAmid (Q : Bounds → Type 0) (h : Held) : Type 0 where
+  pub declared : (b : Bounds) → h.declared ≡ Some b → Q b
+  pub in_force : h.mark ≡ marks.Settled → (b : Bounds) → h.bounds ≡ Some b → Q b
+
+abbrev AreSoAmid : (ℕ → Bounds → Type 0) → List Held → Type 0
+AreSoAmid Q held = (p : ℕ) → IsSoAmid (Q p) (held_at held p)
 
 -- a flow in which declared bounds are as in another one
-pub record IsAmid (f g : Knowledge) : Type 0 where
+pub record IsAmid (structs : List Structure) (types : List CType) (f g : Knowledge) : Type 0 where
   pub flow : IsFlow g
   pub beside : AreBeside f g
-  pub limited : (p : ℕ) → IsLimitedAmid (held_at g.held p)
+  pub bounds : AreSoAmid (MayStand structs types) g.held
 
-amid_limited : (h : Held) → IsLimited h → IsLimitedAmid h
-amid_limited h it = record { declared = it.declared; in_force = λ _. it.in_force }
+so_amid : (Q : ℕ → Bounds → Type 0) (f : Knowledge) → AreSo Q f → AreSoAmid Q f.held
+so_amid Q f so p = record { declared = (so p).declared; in_force = λ _. (so p).bounds }
 
-pub amid_here : (vars : ℕ) (f : Knowledge) → IsBetween vars f → IsAmid f f
-amid_here vars f b = record { flow = b.flow; beside = record { vars = refl; declared = λ p. refl }; limited = λ p. amid_limited (held_at f.held p) (b.limited p) }
+pub amid_here : {structs : List Structure} {types : List CType} (vars : ℕ) (f : Knowledge) → IsBetween structs types vars f → IsAmid structs types f f
+amid_here {structs = structs} {types = types} vars f b = record { flow = b.flow; beside = record { vars = refl; declared = λ p. refl }; bounds = so_amid (MayStand structs types) f b.bounds }
 
 -- ---- one pointer
 
-moved_amid : (o : Option Bounds) (h : Held) → AreLimitedIf h.declared → IsLimitedAmid (moved_to o h)
-moved_amid None h d = record { declared = d; in_force = λ e. absurd (cc) }
-moved_amid (Some b) h d = record { declared = d; in_force = λ e. absurd (cc) }
+module _ (Q : Bounds → Type 0) where
+  moved_amid : (o : Option Bounds) (h : Held) → ((b : Bounds) → h.declared ≡ Some b → Q b) → IsSoAmid Q (moved_to o h)
+  moved_amid None h d = record { declared = d; in_force = λ e. absurd (cc) }
+  moved_amid (Some b) h d = record { declared = d; in_force = λ e. absurd (cc) }
 
-cond_amid : (test : Bool) (h k : Held) → IsLimitedAmid h → IsLimitedAmid k → IsLimitedAmid (cond test h k)
-cond_amid true h k a b = a
-cond_amid false h k a b = b
+  cond_amid : (test : Bool) (h k : Held) → IsSoAmid Q h → IsSoAmid Q k → IsSoAmid Q (cond test h k)
+  cond_amid true h k a b = a
+  cond_amid false h k a b = b
 
-where_amid : (o : Option Bounds) (test : Bounds → Bool) (change : Bounds → Held) (h : Held) → IsLimitedAmid h → ((b : Bounds) → IsLimitedAmid (change b)) → IsLimitedAmid (where_bounds o test change h)
-where_amid None test change h a each = a
-where_amid (Some b) test change h a each = cond_amid (test b) (change b) h (each b) a
+  where_amid : (o : Option Bounds) (test : Bounds → Bool) (change : Bounds → Held) (h : Held) → IsSoAmid Q h → ((b : Bounds) → IsSoAmid Q (change b)) → IsSoAmid Q (where_bounds o test change h)
+  where_amid None test change h a each = a
+  where_amid (Some b) test change h a each = cond_amid (test b) (change b) h (each b) a
 
-shift_amid : (x : ℕ) (c : ℤ) (h : Held) → IsLimitedAmid h → IsLimitedAmid (after_shift x c h)
-shift_amid x c h a = where_amid h.bounds (is_named x) (λ b. moved_to (moved_back x c b) h) h a (λ b. moved_amid (moved_back x c b) h a.declared)
+  shift_amid : (x : ℕ) (c : ℤ) (h : Held) → IsSoAmid Q h → IsSoAmid Q (after_shift x c h)
+  shift_amid x c h a = where_amid h.bounds (is_named x) (λ b. moved_to (moved_back x c b) h) h a (λ b. moved_amid (moved_back x c b) h a.declared)
 
-number_amid : (x : ℕ) (assigned : List Bool) (h : Held) → IsLimitedAmid h → IsLimitedAmid (after_number x assigned h)
-number_amid x assigned h a =
-    where_amid h.bounds (is_named x) (λ b. dropped assigned h) h a
-    (λ b. cond_amid _ (with_declared h) (lost h) (record { declared = a.declared; in_force = λ e. refl }) (record { declared = a.declared; in_force = λ e. absurd (cc) }))
+  number_amid : (x : ℕ) (assigned : List Bool) (h : Held) → IsSoAmid Q h → IsSoAmid Q (after_number x assigned h)
+  number_amid x assigned h a =
+      where_amid h.bounds (is_named x) (λ b. dropped assigned h) h a
+      (λ b. cond_amid _ (with_declared h) (lost h) (record { declared = a.declared; in_force = λ e. a.declared }) (record { declared = a.declared; in_force = λ e. absurd (cc) }))
 
-base_amid : (p : ℕ) (moved : Option ℤ) (h : Held) → IsLimitedAmid h → IsLimitedAmid (after_base p moved h)
-base_amid p moved h a = where_amid h.bounds (λ b. is_var p b.base) (λ b. moved_to (moved_off moved b) h) h a (λ b. moved_amid (moved_off moved b) h a.declared)
+  base_amid : (p : ℕ) (moved : Option ℤ) (h : Held) → IsSoAmid Q h → IsSoAmid Q (after_base p moved h)
+  base_amid p moved h a = where_amid h.bounds (λ b. is_var p b.base) (λ b. moved_to (moved_off moved b) h) h a (λ b. moved_amid (moved_off moved b) h a.declared)
 
-assigned_one_amid : (p : ℕ) (from : Source) (moved : Option ℤ) (known : Bool) (h : Held) → IsLimitedAmid h → IsLimitedAmid (assigned_from p from moved known h)
-assigned_one_amid p sources.Null moved known h a = record { declared = a.declared; in_force = λ e. absurd (cc) }
-assigned_one_amid p sources.Lost moved known h a = record { declared = a.declared; in_force = λ e. absurd (cc) }
-assigned_one_amid p (sources.Known b) moved known h a = record { declared = a.declared; in_force = λ e. absurd (cc) }
+  assigned_one_amid : (p : ℕ) (from : Source) (moved : Option ℤ) (known : Bool) (h : Held) → IsSoAmid Q h → IsSoAmid Q (assigned_from p from moved known h)
+  assigned_one_amid p sources.Null moved known h a = record { declared = a.declared; in_force = λ e. absurd (cc) }
+  assigned_one_amid p sources.Lost moved known h a = record { declared = a.declared; in_force = λ e. absurd (cc) }
+  assigned_one_amid p (sources.Known b) moved known h a = record { declared = a.declared; in_force = λ e. absurd (cc) }
 
-abbrev Amid : ℕ → Held → Type 0
-Amid q h = IsLimitedAmid h
+  -- what ends at a count
+  measured_amid : (x : ℕ) (t : ClosedTable) (o : Option Bounds) (h : Held) → h.bounds ≡ o → ((b : Bounds) → Q b → Q (record b { hi = variable x })) → IsSoAmid Q h → IsSoAmid Q (measured x t o h)
+  measured_amid x t None h is ends a = record { declared = a.declared; in_force = λ e. absurd (cc) }
+  measured_amid x t (Some b) h is ends a =
+      cond_amid (entails_terms b.hi (variable x) t) (record h { bounds = Some (record b { hi = variable x }) }) h
+      (record { declared = a.declared; in_force = λ e d q. subst Q (same_Some (record b { hi = variable x }) d q) (ends b (a.in_force e b is)) }) a
 
-number_all_amid : (x : ℕ) (to : Option Term) (assigned : List Bool) (held : List Held) → ((p : ℕ) → IsLimitedAmid (held_at held p)) → (p : ℕ) → IsLimitedAmid (held_at (number_held x to assigned held) p)
-number_all_amid x None assigned held h p = each_map Amid (after_number x assigned) refl held (λ q. number_amid x assigned (held_at held q) (h q)) p
-number_all_amid x (Some e) assigned held h p = by (is_var x e.var)
-  where
-    by : (test : Bool) → IsLimitedAmid (held_at (cond test (map (after_shift x e.plus) held) (map (after_number x assigned) held)) p)
-    by true = each_map Amid (after_shift x e.plus) refl held (λ q. shift_amid x e.plus (held_at held q) (h q)) p
-    by false = each_map Amid (after_number x assigned) refl held (λ q. number_amid x assigned (held_at held q) (h q)) p
+-- ---- all of them
 
-pointer_all_amid : (p : ℕ) (from : Source) (moved : Option ℤ) (known : Bool) (f : Knowledge) → ((p : ℕ) → IsLimitedAmid (held_at f.held p)) → (q : ℕ) → IsLimitedAmid (held_at (pointer_assigned p from moved known f).held q)
-pointer_all_amid p from moved known f h =
-    each_put Amid (map (after_base p moved) f.held) p (assigned_from p from moved known (held_at f.held p)) (assigned_one_amid p from moved known (held_at f.held p) (h p))
-    (each_map Amid (after_base p moved) refl f.held (λ q. base_amid p moved (held_at f.held q) (h q)))
+module _ (Q : ℕ → Bounds → Type 0) where
+  abbrev Amid : ℕ → Held → Type 0
+  Amid q h = IsSoAmid (Q q) h
+
+  number_all_amid : (x : ℕ) (to : Option Term) (assigned : List Bool) (held : List Held) → AreSoAmid Q held → AreSoAmid Q (number_held x to assigned held)
+  number_all_amid x None assigned held h p = each_map Amid (after_number x assigned) refl held (λ q. number_amid (Q q) x assigned (held_at held q) (h q)) p
+  number_all_amid x (Some e) assigned held h p = by (is_var x e.var)
+    where
+      by : (test : Bool) → IsSoAmid (Q p) (held_at (cond test (map (after_shift x e.plus) held) (map (after_number x assigned) held)) p)
+      by true = each_map Amid (after_shift x e.plus) refl held (λ q. shift_amid (Q q) x e.plus (held_at held q) (h q)) p
+      by false = each_map Amid (after_number x assigned) refl held (λ q. number_amid (Q q) x assigned (held_at held q) (h q)) p
+
+  pointer_all_amid : (p : ℕ) (from : Source) (moved : Option ℤ) (known : Bool) (f : Knowledge) → AreSoAmid Q f.held → AreSoAmid Q (pointer_assigned p from moved known f).held
+  pointer_all_amid p from moved known f h =
+      each_put Amid (map (after_base p moved) f.held) p (assigned_from p from moved known (held_at f.held p)) (assigned_one_amid (Q p) p from moved known (held_at f.held p) (h p))
+      (each_map Amid (after_base p moved) refl f.held (λ q. base_amid (Q q) p moved (held_at f.held q) (h q)))
+
+  length_all_amid : (x p : ℕ) (f : Knowledge) → ((b : Bounds) → Q p b → Q p (record b { hi = variable x })) → AreSoAmid Q f.held → AreSoAmid Q (length_assigned x p f).held
+  length_all_amid x p f ends h q = by (is_own (held_at f.held p).bounds)
+    where
+      g : Knowledge
+      g = number_assigned x None f
+
+      before : AreSoAmid Q (number_assigned x None f).held
+      before = number_all_amid x None (slice_set f.assigned x true) f.held h
+
+      by : (test : Bool) → IsSoAmid (Q q) (held_at (cond test (measured_by x p g) g).held q)
+      by true = each_put Amid g.held p (measured x (measured_by x p g).facts (held_at g.held p).bounds (held_at g.held p)) (measured_amid (Q p) x (measured_by x p g).facts (held_at g.held p).bounds (held_at g.held p) refl ends (before p)) before q
+      by false = before q
 
 -- ---- what is assigned
 
@@ -344,26 +437,37 @@ pub term_below : (types : List CType) (vars : ℕ) (e : core.Expression) (o : Op
 term_below types vars e None is few = tt
 term_below types vars e (Some t) is few = formed_below types vars t.var few (term_formed types e t is).int
 
-value_amid : (vars : ℕ) (types : List CType) (f : Knowledge) (x : ℕ) (e : core.Expression) (o : Option CType) → slice_get types x ≡ o → IsBetween vars f → length types ≤ f.vars → IsAmid f (value_assigned o types x e f)
-value_amid vars types f x e None is b few = amid_here vars f b
-value_amid vars types f x e (Some Int) is b few =
+-- a variable of an `int` is assigned a number, or a count
+count_amid : {structs : List Structure} (vars : ℕ) (types : List CType) (f : Knowledge) (x : ℕ) (e : core.Expression) (o : Option ℕ) → slice_get types x ≡ Some Int → IsBetween structs types vars f → length types ≤ f.vars → IsAmid structs types f (count_assigned x o (term types e) f)
+count_amid {structs = structs} vars types f x e None is b few =
     let low = slice_get_within types x Int is in
     record {
       flow = (are_kept.steps f b.flow).assign_int x (term types e) (omega (arith, low, few)) (term_below types f.vars e (term types e) refl few);
       beside = (flows_stay_alike.0 f).assign_int x (term types e);
-      limited = number_all_amid x (term types e) (slice_set f.assigned x true) f.held (λ p. amid_limited (held_at f.held p) (b.limited p));
+      bounds = number_all_amid (MayStand structs types) x (term types e) (slice_set f.assigned x true) f.held (so_amid (MayStand structs types) f b.bounds);
     }
+count_amid {structs = structs} vars types f x e (Some p) is b few =
+    let low = slice_get_within types x Int is in
+    record {
+      flow = (are_kept.steps f b.flow).strlen x p (omega (arith, low, few));
+      beside = (flows_stay_alike.0 f).assign_length x p;
+      bounds = length_all_amid (MayStand structs types) x p f (λ d. ended_stands structs types p d (variable x) is refl) (so_amid (MayStand structs types) f b.bounds);
+    }
+
+value_amid : {structs : List Structure} (vars : ℕ) (types : List CType) (f : Knowledge) (x : ℕ) (e : core.Expression) (o : Option CType) → slice_get types x ≡ o → IsBetween structs types vars f → length types ≤ f.vars → IsAmid structs types f (value_assigned o types x e f)
+value_amid vars types f x e None is b few = amid_here vars f b
+value_amid vars types f x e (Some Int) is b few = count_amid vars types f x e (measured_local types e) is b few
 value_amid vars types f x e (Some Char) is b few = amid_here vars f b
 value_amid vars types f x e (Some (Struct number)) is b few = amid_here vars f b
-value_amid vars types f x e (Some (Pointer mode kind target)) is b few =
+value_amid {structs = structs} vars types f x e (Some (Pointer mode kind target)) is b few =
     let from = source f.vars kind (held_at f.held x).declared e in
     record {
       flow = (are_kept.steps f b.flow).assign_pointer x from (moved_from x (behind_local types e)) (is_not_null types f e) (source_below f.vars kind (held_at f.held x).declared e);
       beside = (flows_stay_alike.0 f).assign_pointer x from (moved_from x (behind_local types e)) (is_not_null types f e);
-      limited = pointer_all_amid x from (moved_from x (behind_local types e)) (is_not_null types f e) f (λ p. amid_limited (held_at f.held p) (b.limited p));
+      bounds = pointer_all_amid (MayStand structs types) x from (moved_from x (behind_local types e)) (is_not_null types f e) f (so_amid (MayStand structs types) f b.bounds);
     }
 
-pub assigned_amid : (vars : ℕ) (types : List CType) (f : Knowledge) (x : core.Statement) → IsBetween vars f → length types ≤ f.vars → IsAmid f (assigned_by types x f)
+pub assigned_amid : {structs : List Structure} (vars : ℕ) (types : List CType) (f : Knowledge) (x : core.Statement) → IsBetween structs types vars f → length types ≤ f.vars → IsAmid structs types f (assigned_by types x f)
 assigned_amid vars types f core.Nothing b few = amid_here vars f b
 assigned_amid vars types f (core.SetLocal local value) b few = value_amid vars types f local value (slice_get types local) refl b few
 assigned_amid vars types f (core.Store type place value) b few = amid_here vars f b
@@ -406,26 +510,26 @@ settled_promises (Falls asked) f span e = tt
 pub settling_promises : (f : Knowledge) (span : Span) → Promises (IsSettling f) (settling f span)
 settling_promises f span = settled_promises (first_found f.facts f.held) f span refl
 
-settled_limited : (h : Held) → IsLimitedAmid h → IsLimited (settled_pointer h)
-settled_limited h a = record { declared = a.declared; in_force = by h.mark refl }
+settled_so : (Q : Bounds → Type 0) (h : Held) → IsSoAmid Q h → IsSoOf Q (settled_pointer h)
+settled_so Q h a = record { bounds = by h.mark refl; declared = a.declared }
   where
-    by : (mark : Mark) → h.mark ≡ mark → cond (is_settled mark) h.bounds h.declared ≡ h.declared
+    by : (mark : Mark) → h.mark ≡ mark → (b : Bounds) → cond (is_settled mark) h.bounds h.declared ≡ Some b → Q b
     by marks.Settled e = a.in_force e
-    by marks.Changed e = refl
-    by marks.Lost e = refl
-    by marks.WasNull e = refl
+    by marks.Changed e = a.declared
+    by marks.Lost e = a.declared
+    by marks.WasNull e = a.declared
 
-pub settled_beside : (f g k : Knowledge) → IsAmid f g → IsSettling g k → AreBeside f k
+pub settled_beside : {structs : List Structure} {types : List CType} (f g k : Knowledge) → IsAmid structs types f g → IsSettling g k → AreBeside f k
 settled_beside f g k amid is =
     subst (AreBeside f) (sym is.is)
     (record { vars = amid.beside.vars; declared = λ p. (flows_stay_alike.0 g).settle.declared p ∙ amid.beside.declared p })
 
-pub between_settled : (vars : ℕ) (f g k : Knowledge) → IsBetween vars f → IsAmid f g → IsSettling g k → IsBetween vars k
-between_settled vars f g k b amid is =
-    subst (IsBetween vars) (sym is.is)
+pub between_settled : {structs : List Structure} {types : List CType} (vars : ℕ) (f g k : Knowledge) → IsBetween structs types vars f → IsAmid structs types f g → IsSettling g k → IsBetween structs types vars k
+between_settled {structs = structs} {types = types} vars f g k b amid is =
+    subst (IsBetween structs types vars) (sym is.is)
     (record {
       flow = (are_kept.steps g amid.flow).settle;
       size = amid.beside.vars ∙ b.size;
       settled = (flows_stay_alike.1 g).settle;
-      limited = each_map Limited settled_pointer refl g.held (λ q. settled_limited (held_at g.held q) (amid.limited q));
+      bounds = each_map (λ p h. IsSoOf (MayStand structs types p) h) settled_pointer refl g.held (λ q. settled_so (MayStand structs types q) (held_at g.held q) (amid.bounds q));
     })

@@ -6,6 +6,7 @@ use Rattle.bounds_exprs.specs.declared.term.Term.{Term}
 use Rattle.bounds_exprs.specs.Changes.{ends_filled_in, filled_in}
 use Rattle.bounds_exprs.specs.Values.{value as term_number}
 use Rattle.pointer_modes.specs.declared.ctype.Mode.{Mode}
+use Rattle.pointer_modes.specs.declared.ctype.Kind.{Kind}
 use Rattle.pointer_modes.specs.declared.ctype.Kind.TheVariants as kinds
 use Rattle.pointer_modes.specs.Types.{CType, Int, Char, Struct, Pointer, Structure}
 use Rattle.ckc_core.specs.Core as core
@@ -23,11 +24,12 @@ use Rattle.region_typing_rules.specs.Readings.{is_null, pointer_local, term}
 use Rattle.region_typing_rules.specs.Expressions.{at_call, with_caller_base}
 use Rattle.region_typing_rules.specs.KnownIsSo.{HasLocals, IsKnown}
 use Rattle.region_typing_rules.specs.Typed as typed
+use Rattle.region_typing_rules.specs.Types.{Counts}
 use Rattle.region_typing_rules.specs.Typed.{AreAsked, HaveRows, IsAsked, LeadsTo, pointers_of, terms_of}
 use Rattle.region_typing_rules.proofs.Alike.{alike_here}
 use Rattle.region_typing_rules.proofs.Assigns.{IsGivenTo}
 use Rattle.region_typing_rules.proofs.Keeping.{IsAfter}
-use Rattle.region_typing_rules.proofs.Given.{AreGivenAt, IsGivenIf, given_later}
+use Rattle.region_typing_rules.proofs.Given.{AreGiven, AreGivenAt, IsGivenIf, given_later}
 use Rattle.region_typing_rules.proofs.Terms.{IsOfTerm, formed_later, term_formed}
 use Rattle.region_typing_rules.proofs.Told.{pointer_is}
 
@@ -242,11 +244,17 @@ pub entered_later : (structs : List Structure) (bs : List (Option Bounds)) (s u 
 entered_later structs bs s u grows same h x b l is there = grown_valid structs (Some b) l s u grows same (h x b l is (subst (λ ls. slice_get ls x ≡ Some l) same there))
 
 -- a pointer is valid with the bounds that it is asked for, where what it is given is so
-pub asked_valid : (structs : List Structure) (here : Scope) (s : State) → IsKnown structs here s → HasLocals here.locals s → (m : Mode) (t : CType) (e : core.Expression) (v : Value) (d : Bounds) → IsAsked structs here e d → (is_null e ≡ true → v ≡ Null) → AreGivenAt structs (Pointer m kinds.Array t) e v s
-    → IsValid structs (Some d) (record { type = Pointer m kinds.Array t; value = v }) s
-asked_valid structs here s known has m t e v d (typed.null is) null given = null_valid structs (Some d) (record { type = Pointer m kinds.Array t; value = v }) s (null (ap is_null is))
-asked_valid structs here s known has m t e v d (typed.own {b = b} is leads) null given = leads s has known _ (subst (λ o. IsGivenIf structs (Pointer m kinds.Array t) o v s) is given.0).0
-asked_valid structs here s known has m t e v d (typed.based {b = b} is leads) null given = leads s has known _ (subst (λ o. IsGivenIf structs (Pointer m kinds.Array t) o v s) is given.1).0
+pub asked_valid : (structs : List Structure) (here : Scope) (s : State) → IsKnown structs here s → HasLocals here.locals s → (m : Mode) (kind : Kind) (t : CType) (e : core.Expression) (v : Value) (d : Bounds) → IsAsked structs here e d → (is_null e ≡ true → v ≡ Null) → AreGivenAt structs (Pointer m kind t) e v s
+    → IsValid structs (Some d) (record { type = Pointer m kind t; value = v }) s
+asked_valid structs here s known has m kind t e v d (typed.null is) null given = null_valid structs (Some d) (record { type = Pointer m kind t; value = v }) s (null (ap is_null is))
+asked_valid structs here s known has m kind t e v d (typed.own {b = b} is leads) null given = leads s has known _ (subst (λ o. IsGivenIf structs (Pointer m kind t) o v s) is given.0).0
+asked_valid structs here s known has m kind t e v d (typed.based {b = b} is leads) null given = leads s has known _ (subst (λ o. IsGivenIf structs (Pointer m kind t) o v s) is given.1).0
+
+-- a pointer that counts elements is given its bounds
+pub given_there : (structs : List Structure) (n : ℕ) (m : Mode) (kind : Kind) (t : CType) (e : core.Expression) (v : Value) (s : State) → Counts kind → IsGivenTo structs n (Pointer m kind t) e v s → AreGiven structs n (Pointer m kind t) e v s
+given_there structs n m kinds.One t e v s counts h = absurd counts
+given_there structs n m kinds.Array t e v s counts h = h
+given_there structs n m kinds.Nt t e v s counts h = h
 
 -- where the arguments are passed, the function is entered so
 module _ (structs : List Structure) (here : Scope) (s : State) (known : IsKnown structs here s) (has : HasLocals here.locals s) (locals : List CType) (parameters : ℕ) (arguments : Arguments) (vs : List Value) (bs : List (Option Bounds))
@@ -277,18 +285,19 @@ module _ (structs : List Structure) (here : Scope) (s : State) (known : IsKnown 
       record { there = it.there; here = record { type = it.type; value = it.value }; found = it.found; holds = local_of p it.type it.value it.typed it.passed; same = it.same }
 
   -- and in the function that is called, with those of its parameter
-  argument_valid : (m : Mode) (t : CType) (e : core.Expression) (v : Value) (b : Bounds) → typed.IsAskedAt structs here terms pointers e (Some b) → IsPassed structs (length here.locals) here.locals (Pointer m kinds.Array t) e v s → IsValid structs (Some b) (record { type = Pointer m kinds.Array t; value = v }) callee
-  argument_valid m t e v b (inl is) h = null_valid structs (Some b) (record { type = Pointer m kinds.Array t; value = v }) callee (h.null (ap is_null is))
-  argument_valid m t e v b (inr (d, at, asked)) h =
-      entered_valid structs terms pointers s callee hold point b d (record { type = Pointer m kinds.Array t; value = v }) at (local_grows (shapes s.blocks))
-      (asked_valid structs here s known has m t e v d asked h.null (h.given s (alike_here (length here.locals) s)))
+  argument_valid : (m : Mode) (kind : Kind) (t : CType) (e : core.Expression) (v : Value) (b : Bounds) → Counts kind → typed.IsAskedAt structs here terms pointers e (Some b) → IsPassed structs (length here.locals) here.locals (Pointer m kind t) e v s → IsValid structs (Some b) (record { type = Pointer m kind t; value = v }) callee
+  argument_valid m kind t e v b counts (inl is) h = null_valid structs (Some b) (record { type = Pointer m kind t; value = v }) callee (h.null (ap is_null is))
+  argument_valid m kind t e v b counts (inr (d, at, asked)) h =
+      entered_valid structs terms pointers s callee hold point b d (record { type = Pointer m kind t; value = v }) at (local_grows (shapes s.blocks))
+      (asked_valid structs here s known has m kind t e v d asked h.null (given_there structs (length here.locals) m kind t e v s counts h.given s (alike_here (length here.locals) s)))
 
   pub entered : AreAsked structs here terms pointers arguments bs → AreEntered structs bs callee
   entered asked x b l is there =
       let row = rows x b is in
-      let it = argument_at structs (length here.locals) here.locals s good has here terms pointers arguments (take parameters locals) vs bs x (Pointer row.0 kinds.Array row.1) b is row.2 asked passed in
-      subst (λ l. IsValid structs (Some b) l callee) (same_local (sym (local_of x (Pointer row.0 kinds.Array row.1) it.value row.2 it.there) ∙ there))
-      (argument_valid row.0 row.1 it.expression it.value b it.asked it.passed)
+      let type = Pointer row.0 row.1 row.2 in
+      let it = argument_at structs (length here.locals) here.locals s good has here terms pointers arguments (take parameters locals) vs bs x type b is row.3 asked passed in
+      subst (λ l. IsValid structs (Some b) l callee) (same_local (sym (local_of x type it.value row.3 it.there) ∙ there))
+      (argument_valid row.0 row.1 row.2 it.expression it.value b row.4 it.asked it.passed)
     where
       same_local : {a b : Local} → Some a ≡ Some b → a ≡ b
       same_local q = cc

@@ -1,26 +1,29 @@
 -- The cells of a file-level variable: copies of those of one value, with a number each, one behind another.
-use Rattle.std.proofs.Common.{◌≡◌, ℕ, zero, suc, ◌+◌, ◌*◌, ◌<◌, ◌^◌, Bool, true, false, ℤ, pos, List, [], ◌∷◌, ◌++◌, length, Option, Some, None, refl, sym, ap, ◌∙◌, subst, arith, append-nil}
+use Rattle.std.proofs.Common.{◌≡◌, ℕ, zero, suc, ◌+◌, ◌*◌, ◌<◌, ◌^◌, Bool, true, false, ℤ, pos, List, [], ◌∷◌, ◌++◌, length, replicate, Option, Some, None, refl, sym, ap, ◌∙◌, subst, append_assoc, arith, append-nil}
 use Rattle.std.specs.Prelude.{◌==◌, ◌-◌, cond, nat_lt, slice_get}
 use Rattle.std.specs.List.{AllByRecursion}
 use Rattle.std.specs.Option.{option_and_then, option_map}
-use Rattle.std.proofs.lemmas.List.{length-append}
+use Rattle.std.proofs.lemmas.List.{length-append, length-replicate}
+use Rattle.std.proofs.lemmas.Option.{same_Some}
 use Rattle.act_words.specs.Checks.{is_word_number}
 use Rattle.ckc_text.specs.declared.place.Span.{Span}
 use Rattle.ckc_tree.specs.declared.stmt.SignedConstant.{SignedConstant}
 use Rattle.pointer_modes.specs.Types.{CType, Int, Char, Struct, Pointer, Member, Structure, members_of}
 use Rattle.pointer_modes.specs.Layout.{size_of}
 use Rattle.ckc_core.specs.Programs.{Initial}
-use Rattle.ckc_core.specs.States.{Shape, number_at, type_at}
-use Rattle.ckc_core.specs.Steps.{low_byte}
+use Rattle.ckc_core.specs.States.{Shape, number_at, type_at, initial_value}
+use Rattle.ckc_core.specs.Steps.{low_byte, is_zero}
 use Rattle.ckc_names_rules.specs.declared.given.Given.{Given}
 use Rattle.ckc_text.specs.declared.code.Code.TheVariants.{E13}
 use Rattle.region_typing_rules.specs.Verdicts.{picked}
+use Rattle.region_typing_rules.specs.Types.{is_number}
+use Rattle.region_typing_rules.specs.Statements.{before_end}
 use Rattle.region_typing_rules.specs.Cells.{strides_of, cell_types, numbered_cells, cells_with}
-use Rattle.region_typing_rules.specs.Items.{negative, unsigned_number, signed_number, Walked, Missing, Written, Constants, zeros_of, are_zeros, cells_listed, cells_or_break, object_cells, count_of}
+use Rattle.region_typing_rules.specs.Items.{negative, unsigned_number, signed_number, Walked, Missing, Written, Constants, zeros_of, are_zeros, cells_listed, cells_or_break, listed_cells, closed, object_cells, count_of}
 use Rattle.bounds_flow_meaning.specs.Rows.{Slot, slots, HasRow}
 use Rattle.region_typing_rules.specs.Typed.{IsScalar, AreRows}
 use Rattle.region_typing_rules.specs.Lowerable.{cells_size, IsRoomy}
-use Rattle.region_typing_rules.proofs.Verdicts.{Promises, needs_promises, promised_so, Extends}
+use Rattle.region_typing_rules.proofs.Verdicts.{Promises, passing_promises, needs_promises, anything_promised, both_promise, promised_so, Extends}
 use Rattle.region_typing_rules.proofs.Layouts.{IsStart, AreCellsOf, AreSmall, IsWalked, behind_cell, shape_of, scalar_width, bytes_kept, row_kept, strides_whole, cells_row, whole_size, negative_fits, int_of, char_of, zero_cells, written_promises}
 
 -- ---- cells in front of others
@@ -196,15 +199,119 @@ module _ (structs : List Structure) (scalars : (n : ℕ) → AllByRecursion (λ 
   one_copy : (t : CType) (cells : List Initial) → AreCellsOf structs t cells → Copies structs t 1 cells
   one_copy t cells is = subst (Copies structs t 1) (append-nil cells) (one_more is no_copy)
 
-  pub object_promises : (given : Given) (t : CType) (length : Option ℕ) (x : Walked) (span : Span) → IsWalked x → Promises (Copies structs t (count_of length)) (object_cells given structs t length x span)
-  object_promises given t None Missing span h = one_copy t (cells_with structs t (pos 0)) (zero_cells structs t scalars)
-  object_promises given t None (Written value x) span h =
-      promised_so (AreCellsOf structs t) (Copies structs t 1) _ (written_promises given structs t value x span (h given)) (λ cells is. one_copy t cells is)
-  object_promises given t None (Constants cs) span h = tt
-  object_promises given t (Some n) Missing span h = zeros_copies t n
-  object_promises given t (Some n) (Written value x) span h = tt
-  object_promises given Int (Some n) (Constants cs) span h = listed_copies Int (λ z. z) n cs span (ints_listed cs h)
-  object_promises given Char (Some n) (Constants cs) span h = listed_copies Char low_byte n cs span (chars_listed cs)
-  object_promises given (Struct k) (Some n) (Constants cs) span h = tt
-  object_promises given (Pointer m k t) (Some n) (Constants cs) span h =
+  list_promises : (t : CType) (n : ℕ) (cs : List SignedConstant) (span : Span) → AreSmall cs → Promises (Copies structs t n) (listed_cells structs t n cs span)
+  list_promises Int n cs span h = listed_copies Int (λ z. z) n cs span (ints_listed cs h)
+  list_promises Char n cs span h = listed_copies Char low_byte n cs span (chars_listed cs)
+  list_promises (Struct k) n cs span h = tt
+  list_promises (Pointer m k t) n cs span h =
       needs_promises (Copies structs (Pointer m k t) n) (are_zeros cs) E13 span _ (λ zeros. listed_copies (Pointer m k t) (λ z. pos 0) n cs span (nulls_listed (Pointer m k t) cs))
+
+  -- the zero that ends an array is one of its elements
+  one_behind : (t : CType) (n : ℕ) (cells : List Initial) → Copies structs t n cells → Copies structs t (suc n) (cells ++ zeros_of 1 structs t)
+  one_behind t n _ no_copy = zeros_copies t 1
+  one_behind t n _ (one_more {n = k} {cells = cells} {others = others} is more) = rw append_assoc (one_more is (one_behind t k others more))
+
+  closed_copies : (ended : Bool) (t : CType) (n : ℕ) (cells : List Initial) → 0 < n → Copies structs t (before_end ended n) cells → Copies structs t n (closed ended structs t cells)
+  closed_copies false t n cells some h = h
+  closed_copies true t n cells some h =
+      let whole : suc (n - 1) ≡ n = omega arith in
+      subst (λ k. Copies structs t k (cells ++ zeros_of 1 structs t)) whole (one_behind t (n - 1) cells h)
+
+  pub object_promises : (given : Given) (t : CType) (length : Option ℕ) (ended : Bool) (x : Walked) (span : Span) → 0 < count_of length → IsWalked x → Promises (Copies structs t (count_of length)) (object_cells given structs t length ended x span)
+  object_promises given t None ended Missing span some h = one_copy t (cells_with structs t (pos 0)) (zero_cells structs t scalars)
+  object_promises given t None ended (Written value x) span some h =
+      promised_so (AreCellsOf structs t) (Copies structs t 1) _ (written_promises given structs t value x span (h given)) (λ cells is. one_copy t cells is)
+  object_promises given t None ended (Constants cs) span some h = tt
+  object_promises given t (Some n) ended Missing span some h = zeros_copies t n
+  object_promises given t (Some n) ended (Written value x) span some h = tt
+  object_promises given t (Some n) ended (Constants cs) span some h =
+      passing_promises (Copies structs t (before_end ended n)) (Copies structs t n) (listed_cells structs t (before_end ended n) cs span) _ (list_promises t (before_end ended n) cs span h) (λ cells copies. closed_copies ended t n cells some copies)
+
+-- ---- the cells of arrays that a zero ends
+
+-- the last of these cells begins as 0
+abbrev pub LastIsZero : List Initial → Type 0
+LastIsZero cells = (k : ℕ) (i : Initial) → slice_get cells k ≡ Some i → suc k ≡ length cells → is_zero (initial_value i.type i.number) ≡ true
+
+-- so many numbers, a cell each, of which the last one is the zero
+pub record AreEnded (structs : List Structure) (t : CType) (n : ℕ) (cells : List Initial) : Type 0 where
+  pub number : is_number t ≡ true
+  pub types : (shape_of cells).types ≡ replicate n t
+  pub strides : (shape_of cells).strides ≡ replicate n (size_of structs t)
+  pub last : LastIsZero cells
+
+-- they stay so when more structs are declared
+pub ended_kept : (a b : List Structure) (t : CType) (n : ℕ) (cells : List Initial) → AreEnded a t n cells → AreEnded b t n cells
+ended_kept a b t n cells h = record { number = h.number; types = h.types; strides = subst (λ size. (shape_of cells).strides ≡ replicate n size) (same t h.number) h.strides; last = h.last }
+  where
+    same : (t : CType) → is_number t ≡ true → size_of a t ≡ size_of b t
+    same Int h = refl
+    same Char h = refl
+    same (Struct k) h = absurd (cc)
+    same (Pointer m k t) h = absurd (cc)
+
+types_long : (cells : List Initial) → length (shape_of cells).types ≡ length cells
+types_long [] = refl
+types_long (i ∷ cells) = ap suc (types_long cells)
+
+pub ended_long : (structs : List Structure) (t : CType) (n : ℕ) (cells : List Initial) → AreEnded structs t n cells → length cells ≡ n
+ended_long structs t n cells h = sym (types_long cells) ∙ (ap length h.types ∙ length-replicate n t)
+
+module _ (structs : List Structure) where
+  -- a number has one cell
+  one_type : (t : CType) → is_number t ≡ true → (z : ℤ) (others : List Initial) → (shape_of (cells_with structs t z ++ others)).types ≡ t ∷ (shape_of others).types
+  one_type Int h z others = refl
+  one_type Char h z others = refl
+  one_type (Struct k) h z others = absurd (cc)
+  one_type (Pointer m k t) h z others = absurd (cc)
+
+  one_stride : (t : CType) → is_number t ≡ true → (z : ℤ) (others : List Initial) → (shape_of (cells_with structs t z ++ others)).strides ≡ size_of structs t ∷ (shape_of others).strides
+  one_stride Int h z others = refl
+  one_stride Char h z others = refl
+  one_stride (Struct k) h z others = absurd (cc)
+  one_stride (Pointer m k t) h z others = absurd (cc)
+
+  number_types : (t : CType) → is_number t ≡ true → (n : ℕ) (cells : List Initial) → Copies structs t n cells → (shape_of cells).types ≡ replicate n t
+  number_types t number n _ no_copy = refl
+  number_types t number n _ (one_more {n = k} {cells = cells} {others = others} is more) =
+      ap (λ c. (shape_of (c ++ others)).types) is.same ∙ (one_type t number is.number others ∙ ap (λ ts. t ∷ ts) (number_types t number k others more))
+
+  number_strides : (t : CType) → is_number t ≡ true → (n : ℕ) (cells : List Initial) → Copies structs t n cells → (shape_of cells).strides ≡ replicate n (size_of structs t)
+  number_strides t number n _ no_copy = refl
+  number_strides t number n _ (one_more {n = k} {cells = cells} {others = others} is more) =
+      ap (λ c. (shape_of (c ++ others)).strides) is.same ∙ (one_stride t number is.number others ∙ ap (λ ss. size_of structs t ∷ ss) (number_strides t number k others more))
+
+  -- each of zeros is one
+  zero_cell : (t : CType) → is_number t ≡ true → (n k : ℕ) (i : Initial) → slice_get (zeros_of n structs t) k ≡ Some i → is_zero (initial_value i.type i.number) ≡ true
+  zero_cell t h zero k i found = absurd (cc)
+  zero_cell Int h (suc n) zero i found = subst (λ (i : Initial). is_zero (initial_value i.type i.number) ≡ true) (same_Some (record { type = Int; stride = 4; number = pos 0 }) i found) refl
+  zero_cell Int h (suc n) (suc k) i found = zero_cell Int h n k i found
+  zero_cell Char h (suc n) zero i found = subst (λ (i : Initial). is_zero (initial_value i.type i.number) ≡ true) (same_Some (record { type = Char; stride = 1; number = pos 0 }) i found) refl
+  zero_cell Char h (suc n) (suc k) i found = zero_cell Char h n k i found
+  zero_cell (Struct m) h (suc n) k i found = absurd (cc)
+  zero_cell (Pointer m kind t) h (suc n) k i found = absurd (cc)
+
+  one_long : (t : CType) → is_number t ≡ true → length (zeros_of 1 structs t) ≡ 1
+  one_long Int h = refl
+  one_long Char h = refl
+  one_long (Struct k) h = absurd (cc)
+  one_long (Pointer m k t) h = absurd (cc)
+
+  -- and so is the one behind the elements of a list
+  zero_behind : (t : CType) → is_number t ≡ true → (cells : List Initial) → LastIsZero (cells ++ zeros_of 1 structs t)
+  zero_behind t number [] k i found last = zero_cell t number 1 k i found
+  zero_behind t number (c ∷ cells) zero i found last = absurd (omega (arith, last, length-append cells (zeros_of 1 structs t), one_long t number))
+  zero_behind t number (c ∷ cells) (suc k) i found last = zero_behind t number cells k i found (omega (arith, last))
+
+  last_promises : (given : Given) (t : CType) (n : ℕ) (x : Walked) (span : Span) → is_number t ≡ true → Promises LastIsZero (object_cells given structs t (Some n) true x span)
+  last_promises given t n Missing span number = λ k i found last. zero_cell t number n k i found
+  last_promises given t n (Written value x) span number = tt
+  last_promises given t n (Constants cs) span number =
+      passing_promises (λ (cells : List Initial). Unit {0}) LastIsZero (listed_cells structs t (before_end true n) cs span) _ (anything_promised (listed_cells structs t (before_end true n) cs span)) (λ cells _. zero_behind t number cells)
+
+  pub ended_promises : ((n : ℕ) → AllByRecursion (λ (m : Member). IsScalar m.ctype) (members_of structs n)) → (given : Given) (t : CType) (n : ℕ) (x : Walked) (span : Span) → is_number t ≡ true → 0 < n → IsWalked x
+      → Promises (AreEnded structs t n) (object_cells given structs t (Some n) true x span)
+  ended_promises scalars given t n x span number some h =
+      promised_so (λ (cells : List Initial). Copies structs t n cells × LastIsZero cells) (AreEnded structs t n) (object_cells given structs t (Some n) true x span)
+      (both_promise (Copies structs t n) LastIsZero (object_cells given structs t (Some n) true x span) (object_promises structs scalars given t (Some n) true x span some h) (last_promises given t n x span number))
+      (λ cells both. record { number = number; types = number_types t number n cells both.0; strides = number_strides t number n cells both.0; last = both.1 })

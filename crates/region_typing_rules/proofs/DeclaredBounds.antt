@@ -32,10 +32,10 @@ use Rattle.bounds_flow_meaning.proofs.Validity.{both_true, int_from, int_to}
 use Rattle.ckc_core.specs.States.{same_mode, same_type}
 use Rattle.region_typing_rules.specs.Verdicts.{Verdict, Passes, Stops, passing, needs, picked}
 use Rattle.region_typing_rules.specs.Scopes.{Scope}
-use Rattle.region_typing_rules.specs.Types.{type_named, is_row}
+use Rattle.region_typing_rules.specs.Types.{Counts, type_named, is_number, is_row}
 use Rattle.region_typing_rules.specs.Knowing.{local_number}
 use Rattle.region_typing_rules.specs.KnownIsSo.{AreLimited}
-use Rattle.region_typing_rules.specs.DeclaredBounds.{Bounded, local_sum, name_sum, operation_sum, sum_written, all_written, parts_written, how_written, normal_bounds, bounded_of, declared_bounds}
+use Rattle.region_typing_rules.specs.DeclaredBounds.{Bounded, local_sum, name_sum, operation_sum, sum_written, all_written, parts_written, how_written, normal_bounds, row_of, unwritten_bounds, bounded_of, declared_bounds}
 use Rattle.region_typing_rules.specs.DeclaredFormed.{IsFormedIf, DeclaredFormed}
 use Rattle.region_typing_rules.specs.Typed.{AreConstant}
 use Rattle.region_typing_rules.proofs.Verdicts.{Promises, passing_promises, needs_promises, anything_promised, promised_so, promise_kept}
@@ -311,29 +311,50 @@ module _ (s : Scope) (p : Bounded) where
 
 -- ---- what is declared
 
+row_counts : (mode : Mode) (kind : Kind) (target : CType) → is_row (Pointer mode kind target) ≡ true → Counts kind
+row_counts mode kinds.One target row = absurd (cc)
+row_counts mode kinds.Array target row = tt
+row_counts mode kinds.Nt target row = tt
+
 -- bounds of a pointer to an array, which are formed for one like it
 for_row : (structs : List Structure) (types : List CType) (own : ℕ) (t : CType) → is_row t ≡ true → nat_lt 0 (size_of structs (bounded_of own t).element) ≡ true → (o : Option Bounds) → AreFormedIf types (bounded_of own t) o → IsFormedIf structs types t o
 for_row structs types own t row bytes None h = tt
 for_row structs types own Int row bytes (Some b) h = absurd (cc)
 for_row structs types own Char row bytes (Some b) h = absurd (cc)
 for_row structs types own (Struct number) row bytes (Some b) h = absurd (cc)
-for_row structs types own (Pointer mode kinds.One target) row bytes (Some b) h = absurd (cc)
-for_row structs types own (Pointer mode kinds.Nt target) row bytes (Some b) h = absurd (cc)
-for_row structs types own (Pointer mode kinds.Array target) row bytes (Some b) h = record {
+for_row structs types own (Pointer mode kind target) row bytes (Some b) h = record {
   mode = mode;
+  kind = kind;
+  counts = row_counts mode kind target row;
   element = target;
   own = refl;
   some = ltb-true 0 (size_of structs target) bytes;
   ints = h.ints;
-  base = λ q e. (let is = subst (IsBase types (bounded_of own (Pointer mode kinds.Array target))) e h.base in (is.0, is.1));
+  base = λ q e. (let is = subst (IsBase types (bounded_of own (Pointer mode kind target))) e h.base in (is.0, is.1));
   limited = h.limited;
 }
 
+-- bounds that aren't written are none, or those of a null-terminated pointer to numbers
+unwritten_so : (P : Option Bounds → Type 0) (t : CType) → P None → ((mode : Mode) (target : CType) → t ≡ Pointer mode kinds.Nt target → is_number target ≡ true → P (Some (row_of 0)))
+    → P (unwritten_bounds t)
+unwritten_so P Int none more = none
+unwritten_so P Char none more = none
+unwritten_so P (Struct number) none more = none
+unwritten_so P (Pointer mode kinds.One target) none more = none
+unwritten_so P (Pointer mode kinds.Array target) none more = none
+unwritten_so P (Pointer mode kinds.Nt target) none more = picked_so P (is_number target) (Some (row_of 0)) None (more mode target refl) (λ other. none)
+
+pub number_sized : (structs : List Structure) (t : CType) → is_number t ≡ true → 0 < size_of structs t
+number_sized structs Int number = omega arith
+number_sized structs Char number = omega arith
+number_sized structs (Struct n) number = absurd (cc)
+number_sized structs (Pointer mode kind target) number = absurd (cc)
+
 -- what is so of bounds that are formed for a pointer to an array is so of what is declared
-declared_promises : (P : Option Bounds → Type 0) (s : Scope) (t : CType) (own : ℕ) (o : Option e.Bounds) → P None
+declared_promises : (P : Option Bounds → Type 0) (s : Scope) (t : CType) (own : ℕ) (o : Option e.Bounds) → P (unwritten_bounds t)
     → (is_row t ≡ true → nat_lt 0 (size_of s.structs (bounded_of own t).element) ≡ true → (o : Option Bounds) → AreFormedIf s.locals (bounded_of own t) o → P o) → Promises P (declared_bounds s t own o)
-declared_promises P s t own None none more = none
-declared_promises P s t own (Some b) none more =
+declared_promises P s t own None unwritten more = unwritten
+declared_promises P s t own (Some b) unwritten more =
     let p : Bounded = bounded_of own t in
     let size : ℕ = size_of s.structs p.element in
     passing_promises (IsHow s.locals p) P (how_written s p b) (λ how. needs (is_row t && nat_lt 0 size) E16 (bounds_span b) (normal_bounds how size (bounds_span b))) (how_is s p b) (λ how h.
@@ -341,17 +362,35 @@ declared_promises P s t own (Some b) none more =
     let parts = and_parts (is_row t) (nat_lt 0 size) both in
     promised_so (AreFormedIf s.locals p) P (normal_bounds how size (bounds_span b)) (bounds_formed s.locals p how size (bounds_span b) h) (more parts.0 parts.1)))
 
+unwritten_formed : (structs : List Structure) (types : List CType) (t : CType) → IsFormedIf structs types t (unwritten_bounds t)
+unwritten_formed structs types t =
+    unwritten_so (IsFormedIf structs types t) t tt
+    (λ mode target own number.
+    record {
+      mode = mode;
+      kind = kinds.Nt;
+      counts = tt;
+      element = target;
+      own = own;
+      some = number_sized structs target number;
+      ints = record { lo = tt; hi = tt };
+      base = λ q e. absurd (cc);
+      limited = record { low = refl; high = refl };
+    })
+
 -- what is declared is formed
 pub declared_formed : (s : Scope) (t : CType) (own : ℕ) (o : Option e.Bounds) → Promises (IsFormedIf s.structs s.locals t) (declared_bounds s t own o)
-declared_formed s t own o = declared_promises (IsFormedIf s.structs s.locals t) s t own o tt (for_row s.structs s.locals own t)
+declared_formed s t own o = declared_promises (IsFormedIf s.structs s.locals t) s t own o (unwritten_formed s.structs s.locals t) (for_row s.structs s.locals own t)
 
 -- ---- bounds that name nothing but their pointer
 
 -- bounds of a pointer to an array of elements that have bytes, which count from the pointer itself, between constants
 pub record IsConstantFor (structs : List Structure) (t : CType) (b : Bounds) : Type 0 where
   pub mode : Mode
+  pub kind : Kind
+  pub counts : Counts kind
   pub element : CType
-  pub own : t ≡ Pointer mode kinds.Array element
+  pub own : t ≡ Pointer mode kind element
   pub some : 0 < size_of structs element
   pub limited : AreLimited b
   pub constant : AreConstant b
@@ -383,24 +422,39 @@ for_own structs t row bytes None h = tt
 for_own structs Int row bytes (Some b) h = absurd (cc)
 for_own structs Char row bytes (Some b) h = absurd (cc)
 for_own structs (Struct number) row bytes (Some b) h = absurd (cc)
-for_own structs (Pointer mode kinds.One target) row bytes (Some b) h = absurd (cc)
-for_own structs (Pointer mode kinds.Nt target) row bytes (Some b) h = absurd (cc)
-for_own structs (Pointer mode kinds.Array target) row bytes (Some b) h = record {
+for_own structs (Pointer mode kind target) row bytes (Some b) h = record {
   mode = mode;
+  kind = kind;
+  counts = row_counts mode kind target row;
   element = target;
   own = refl;
   some = ltb-true 0 (size_of structs target) bytes;
   limited = h.limited;
   constant = record {
-    base = no_base mode kinds.Array target b.base h.base;
-    lo = no_variable mode kinds.Array target b.lo.var h.ints.lo;
-    hi = no_variable mode kinds.Array target b.hi.var h.ints.hi;
+    base = no_base mode kind target b.base h.base;
+    lo = no_variable mode kind target b.lo.var h.ints.lo;
+    hi = no_variable mode kind target b.hi.var h.ints.hi;
   };
 }
 
+unwritten_constant : (structs : List Structure) (t : CType) → IsConstantIf structs t (unwritten_bounds t)
+unwritten_constant structs t =
+    unwritten_so (IsConstantIf structs t) t tt
+    (λ mode target own number.
+    record {
+      mode = mode;
+      kind = kinds.Nt;
+      counts = tt;
+      element = target;
+      own = own;
+      some = number_sized structs target number;
+      limited = record { low = refl; high = refl };
+      constant = record { base = refl; lo = refl; hi = refl };
+    })
+
 pub own_formed : (s : Scope) (t : CType) (o : Option e.Bounds) → s.locals ≡ t ∷ [] → Promises (IsConstantIf s.structs t) (declared_bounds s t 0 o)
 own_formed s t o alone =
-    declared_promises (IsConstantIf s.structs t) s t 0 o tt
+    declared_promises (IsConstantIf s.structs t) s t 0 o (unwritten_constant s.structs t)
     (λ row bytes b h. for_own s.structs t row bytes b (subst (λ types. AreFormedIf types (bounded_of 0 t) b) alone h))
 
 -- what is no pointer has none

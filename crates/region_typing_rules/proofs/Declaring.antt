@@ -1,6 +1,6 @@
 -- What is known behind an assignment or a declaration is so, once it is settled.
 use Rattle.std.proofs.Common.{◌≡◌, ℕ, ◌+◌, ◌<◌, ◌≤◌, pos, Bool, true, false, ◌==◌, List, [], ◌∷◌, ◌++◌, length, Option, Some, None, refl, sym, ap, ◌∙◌, subst, arith, suc}
-use Rattle.std.specs.Prelude.{nat_lt, slice_get, slice_set, nat_le, ◌^◌}
+use Rattle.std.specs.Prelude.{◌-◌, nat_lt, slice_get, slice_set, nat_le, ◌^◌}
 use Rattle.std.proofs.lemmas.Bool.{ltb-true, leb-true, and_parts, le-leb}
 use Rattle.std.proofs.lemmas.Bool.Decides.{nat_tests}
 use Rattle.std.proofs.lemmas.List.{length-append}
@@ -12,10 +12,9 @@ use Rattle.ckc_tree.specs.Statements.{Initializer, Declarator, Declaration, Assi
 use Rattle.bounds_exprs.specs.declared.term.Bounds.{Bounds}
 use Rattle.pointer_modes.specs.declared.ctype.Mode.{Mode}
 use Rattle.pointer_modes.specs.declared.ctype.Kind.{Kind}
-use Rattle.pointer_modes.specs.declared.ctype.Kind.TheVariants as kinds
 use Rattle.pointer_modes.specs.declared.ctype.Mode.TheVariants as modes
 use Rattle.pointer_modes.specs.Types.{CType, Int, Char, Struct, Pointer, Structure}
-use Rattle.bounds_flow.specs.Flows.{Knowledge, held_at}
+use Rattle.bounds_flow.specs.Flows.{Knowledge}
 use Rattle.bounds_flow_meaning.specs.Holding.{Fits, IsValid, target_size, types_of}
 use Rattle.bounds_flow_meaning.specs.Laws.{MayDeclare}
 use Rattle.bounds_flow_meaning.proofs.AllSteps.{flows_hold}
@@ -27,21 +26,24 @@ use Rattle.ckc_core.specs.States.{Value, Number, Null, Local, State, has_type}
 use Rattle.ckc_core.specs.Steps.{Result, Flow, Next, Broke, Continued, Returned, on_next, set_if, set_local, set_over}
 use Rattle.ckc_core.specs.Meaning.{Knot, Setting, effect, effects, knot, value}
 use Rattle.region_typing_rules.specs.Scopes.{Scope}
-use Rattle.region_typing_rules.specs.Types.{is_scalar, base_type}
-use Rattle.region_typing_rules.specs.Expressions.{Places, site_at, row_of}
+use Rattle.region_typing_rules.specs.Types.{is_scalar, base_type, Counts, may_lead_to}
+use Rattle.region_typing_rules.specs.Expressions.{Places, site_at}
 use Rattle.region_typing_rules.specs.Knowing.{assigned_by, settling, knowing}
-use Rattle.region_typing_rules.specs.Statements.{Walked, both, assignment, assigning, zero_value, with_local, initialised, first_value, declared, bounded_local, declarator, declarators, declaration, optional_step, first_part, row_type, with_array, first_length}
-use Rattle.region_typing_rules.specs.DeclaredBounds.{declared_bounds}
+use Rattle.region_typing_rules.specs.Statements.{Walked, both, assignment, assigning, zero_value, with_local, initialised, first_value, declared, bounded_local, declarator, declarators, declaration, optional_step, first_part, row_type, with_array, first_length, array_kind, before_end}
+use Rattle.region_typing_rules.specs.DeclaredBounds.{declared_bounds, row_of}
 use Rattle.region_typing_rules.specs.DeclaredFormed.{IsFormedIf}
-use Rattle.region_typing_rules.specs.KnownIsSo.{WhereGiven, AreLimitedIf, declared_at, HoldsAlike, FitsAlike, IsKnown, IsDeclared, IsWalk, HasLocals}
+use Rattle.region_typing_rules.specs.KnownIsSo.{WhereGiven, HoldsAlike, FitsAlike, IsKnown, IsDeclared, HasLocals}
 use Rattle.region_typing_rules.proofs.DeclaredBounds.{declared_formed, formed_below}
 use Rattle.region_typing_rules.proofs.Sure.{sure_further}
 use Rattle.region_typing_rules.proofs.Terms.{formed_later, so_both}
 use Rattle.region_typing_rules.proofs.Verdicts.{Promises, passing_promises, needs_promises, both_promise, later_promises, Extends, extends_append, extends_last, extends_length}
 use Rattle.region_typing_rules.proofs.Moving.{IsMovedTo, KnotMoves, effect_moves, knots_move}
 use Rattle.region_typing_rules.proofs.Alike.{fits_moved, has_alike}
-use Rattle.region_typing_rules.proofs.Between.{IsAmid, IsSettling, assigned_amid, settling_promises, settled_beside, between_settled}
-use Rattle.region_typing_rules.proofs.Assigns.{OnNext, IsBehind, IsGivenTo, IsPlain, AreMoving, itself_equal, plain_so, set_again}
+use Rattle.region_typing_rules.proofs.Between.{MayStand, IsAmid, IsSettling, assigned_amid, settling_promises, settled_beside, between_settled}
+use Rattle.region_typing_rules.proofs.Assigns.{OnNext, IsBehind, IsGivenTo, IsPlain, IsRight, AreMoving, itself_equal, plain_so, set_again}
+use Rattle.region_typing_rules.proofs.CountedTexts.{IsRightLength}
+use Rattle.region_typing_rules.proofs.RightNodes.{counted_text}
+use Rattle.region_typing_rules.proofs.NotedTexts.{IsNotedLength, IsNotedStatement, assignment_noted, initialised_noted}
 use Rattle.region_typing_rules.specs.Typed as typed
 use Rattle.region_typing_rules.specs.Typed.{Frame, HasType, IsScalar, IsSimple}
 use Rattle.region_typing_rules.proofs.Known.{IsKnown as IsKnownType, base_known, without_known}
@@ -53,9 +55,13 @@ use Rattle.region_typing_rules.proofs.Soundness.{simple_runs, behind_so, given_t
 use Rattle.std.specs.List.{AllByRecursion}
 use Rattle.ckc_core.specs.States.{shapes}
 use Rattle.region_typing_rules.proofs.Marks.{IsAssignment, IsFirst, target_of, assignment_plain, initialised_plain}
-use Rattle.region_typing_rules.proofs.Ways.{Declares, MayCome, declares_here, declares_knowing, declares_local, declares_on, fits_further, walk_knowing, walk_local, walk_arrays, declares_arrays}
+use Rattle.region_typing_rules.proofs.Ways.{IsWalk, Declares, MayCome, declares_here, declares_knowing, declares_local, declares_on, fits_further, walk_knowing, walk_local, walk_arrays, declares_arrays}
 use Rattle.region_typing_rules.proofs.LocalArrays.{memory_of, settled_array, declarator_promises}
-use Rattle.region_typing_rules.proofs.Expressions.{memory_typed}
+use Rattle.region_typing_rules.proofs.Nodes.{number_sized}
+use Rattle.region_typing_rules.proofs.Expressions.{memory_typed, ended_memory_typed}
+use Rattle.region_typing_rules.proofs.Memory.{MayConsist}
+use Rattle.region_typing_rules.proofs.InForce.{AreSo}
+use Rattle.ckc_core.specs.declared.program.Site.{Site}
 use Rattle.region_typing_rules.specs.Cells.{is_length}
 use Rattle.region_typing_rules.specs.Verdicts.{Passes, passing}
 use Rattle.pointer_modes.specs.Layout.{size_of}
@@ -118,13 +124,13 @@ module _ (frame : Frame) (types : List CType) (all_scalar : AllByRecursion IsSca
   nothing_goes g w = record { walk = w; breaks = refl; continues = refl; more = λ k x e. e; keeps = declares_here g; typed = λ reaches. simple_any frame types all_scalar g core.Nothing typed.nothing; runs = λ reaches n knots low s at. ((refl, at.known), at.kept) }
 
   -- behind a settling
-  settled_fits : (n : ℕ) (f mid k : Knowledge) (s : State) → IsAmid f mid → IsSettling mid k → HoldsAlike frame.structs n mid s → FitsAlike frame.structs n k s
+  settled_fits : {known : List Structure} {ts : List CType} (n : ℕ) (f mid k : Knowledge) (s : State) → IsAmid known ts f mid → IsSettling mid k → HoldsAlike frame.structs n mid s → FitsAlike frame.structs n k s
   settled_fits n f mid k s amid is h t alike = subst (λ k. Fits frame.structs k t) (sym is.is) ((flows_hold frame.structs mid amid.flow).settle t is.met (h t alike))
 
   -- ---- simple statements
 
   -- what is assigned to a pointer is so many elements behind a local, where the walk says so
-  are_moving : (n low : ℕ) (knots : Knots n) (g : Scope) (w : IsWalk vars g) (reaches : Reaching g) (few : length g.locals ≤ g.flow.vars) {x : core.Statement} → IsSimple frame types g x → (s : State) → IsAt n low g s → AreMoving true running (ticking n) (moving n) frame.structs g.locals g.flow w.between.flow few x s
+  are_moving : (n low : ℕ) (knots : Knots n) (g : Scope) (w : IsWalk vars g) (reaches : Reaching g) (few : length g.locals ≤ g.flow.vars) {x : core.Statement} → IsSimple frame types g x → (s : State) → IsAt n low g s → AreMoving true running (ticking n) (moving n) frame.structs g.structs g.locals g.flow w.between.flow few x s
   are_moving n low knots g w reaches few typed.nothing s at = tt
   are_moving n low knots g w reaches few (typed.set_local {k = x} {t = t} {e = e} found h) s at = λ c is.
       so_both (IsBehind frame.structs g.locals e) (IsGivenTo frame.structs (length g.locals) c e) (value true running (ticking n) e s)
@@ -134,7 +140,7 @@ module _ (frame : Frame) (types : List CType) (all_scalar : AllByRecursion IsSca
       same_type : (a b : CType) → Some a ≡ Some b → a ≡ b
       same_type a b q = cc
   are_moving n low knots g w reaches few (typed.store scalar place h) s at = tt
-  are_moving n low knots g w reaches few (typed.store_bounded is h asked) s at = tt
+  are_moving n low knots g w reaches few (typed.store_bounded counts is h asked) s at = tt
   are_moving n low knots g w reaches few (typed.update_local found number char h) s at = tt
   are_moving n low knots g w reaches few (typed.update number place h) s at = tt
   are_moving n low knots g w reaches few (typed.evaluate h) s at = tt
@@ -142,19 +148,36 @@ module _ (frame : Frame) (types : List CType) (all_scalar : AllByRecursion IsSca
   are_moving n low knots g w reaches few (typed.print h) s at = tt
   are_moving n low knots g w reaches few (typed.put_byte h) s at = tt
 
+  -- a count is of a local with right bounds at its node, where the walk says so
+  length_right : (g : Scope) → IsWalk vars g → (e : core.Expression) {t : CType} → HasType frame types g e t → IsNotedLength g e → IsRightLength g.structs g.locals g.flow e
+  length_right g w (core.Length (core.Local k b) site) h noted = λ p e.
+      let text = counted_text frame types h k b site refl in
+      record { mode = text.mode; pointer = text.pointer; size = text.size p e; same = noted p e; stands = λ d is. ((w.between.bounds k).bounds d is).0 }
+  length_right g w e h noted = tt
+
+  right_of : (g : Scope) → IsWalk vars g → {x : core.Statement} → IsSimple frame types g x → IsNotedStatement g x → IsRight g.structs g.locals g.flow x
+  right_of g w (typed.set_local {e = e} found h) noted = length_right g w e h noted
+  right_of g w simple noted = tt
+
+  zero_right : (known : List Structure) (ts : List CType) (f : Knowledge) (t : CType) → IsRightLength known ts f (zero_value t)
+  zero_right known ts f Int = tt
+  zero_right known ts f Char = tt
+  zero_right known ts f (Struct number) = tt
+  zero_right known ts f (Pointer mode kind target) = tt
+
   -- a simple statement, and what is known in the midst of it
-  simple_goes : (g : Scope) → IsWalk vars g → (x : core.Statement) → IsPlain g.locals x → Reaching g → IsSimple frame types g x → (n : ℕ) → Knots n → (low : ℕ) (s : State) → IsAt n low g s
+  simple_goes : (g : Scope) → IsWalk vars g → (x : core.Statement) → IsPlain g.locals x → IsNotedStatement g x → Reaching g → IsSimple frame types g x → (n : ℕ) → Knots n → (low : ℕ) (s : State) → IsAt n low g s
       → Runs frame budget n low types (Onward (HoldsAlike frame.structs (length g.locals) (assigned_by g.locals x g.flow))) (effect true running (ticking n) x s)
-  simple_goes g w x plain reaches simple n knots low s at =
+  simple_goes g w x plain noted reaches simple n knots low s at =
       runs_further frame budget n low types (λ flow t. IsNext flow t × OnNext (HoldsAlike frame.structs (length g.locals) (assigned_by g.locals x g.flow)) flow t) (Onward (HoldsAlike frame.structs (length g.locals) (assigned_by g.locals x g.flow))) (effect true running (ticking n) x s)
       (runs_both frame budget n low types IsNext (OnNext (HoldsAlike frame.structs (length g.locals) (assigned_by g.locals x g.flow))) (effect true running (ticking n) x s)
       (simple_runs frame budget n sandbox trusted (ticking n) (knots n (omega arith)) low types g w.between.flow (few_vars g w) reaches simple s (at.known, at.kept))
-      (plain_so true running (ticking n) (moving n) frame.structs g.locals g.flow w.between.flow (few_vars g w) x plain s (are_moving n low knots g w reaches (few_vars g w) simple s at) (has_of n low g s reaches at.kept) (λ t alike. (at.known t alike).holds)))
+      (plain_so true running (ticking n) (moving n) frame.structs g.structs g.locals g.flow w.between.flow (few_vars g w) x plain (right_of g w simple noted) s (are_moving n low knots g w reaches (few_vars g w) simple s at) (has_of n low g s reaches at.kept) (λ t alike. (at.known t alike).holds)))
       (onward_of (HoldsAlike frame.structs (length g.locals) (assigned_by g.locals x g.flow)))
 
   -- and once it is settled
-  assigned_goes : (g : Scope) → IsWalk vars g → (x : core.Statement) → IsPlain g.locals x → (Reaching g → IsSimple frame types g x) → (k : Knowledge) → IsSettling (assigned_by g.locals x g.flow) k → GoesOn g (x, knowing k g)
-  assigned_goes g w x plain simple k is =
+  assigned_goes : (g : Scope) → IsWalk vars g → (x : core.Statement) → IsPlain g.locals x → IsNotedStatement g x → (Reaching g → IsSimple frame types g x) → (k : Knowledge) → IsSettling (assigned_by g.locals x g.flow) k → GoesOn g (x, knowing k g)
+  assigned_goes g w x plain noted simple k is =
       let amid = assigned_amid vars g.locals g.flow x w.between (few_vars g w) in
       let beside = settled_beside g.flow (assigned_by g.locals x g.flow) k amid is in
       record {
@@ -166,16 +189,17 @@ module _ (frame : Frame) (types : List CType) (all_scalar : AllByRecursion IsSca
         typed = λ reaches. simple_any frame types all_scalar g x (simple reaches);
         runs = λ reaches n knots low s at.
             runs_further frame budget n low types (Onward (HoldsAlike frame.structs (length g.locals) (assigned_by g.locals x g.flow))) (Onward (IsKnown frame.structs (knowing k g))) (effect true running (ticking n) x s)
-            (simple_goes g w x plain reaches (simple reaches) n knots low s at)
+            (simple_goes g w x plain noted reaches (simple reaches) n knots low s at)
             (λ flow t q. (q.0, settled_fits (length g.locals) g.flow (assigned_by g.locals x g.flow) k t amid is q.1));
       }
 
-  -- a pointer whose bounds are in force has elements, and its bounds are limited
-  pointers_known : (g : Scope) → IsWalk vars g → (k : ℕ) (b : Bounds) → (held_at g.flow.held k).bounds ≡ Some b → IsPointing g k b
-  pointers_known g w k b e =
-      let declared : declared_at g.flow k ≡ Some b = sym (w.between.limited k).in_force ∙ e in
-      let it = w.declared k b declared in
-      record { mode = it.mode; element = it.element; own = it.own; some = it.some; limited = subst AreLimitedIf declared (w.between.limited k).declared; ints = it.ints; base = it.base }
+  -- a pointer with bounds has elements, and its bounds are limited
+  stands_known : (g : Scope) (k : ℕ) (b : Bounds) → MayStand g.structs g.locals k b → IsPointing g k b
+  stands_known g k b it =
+      record { mode = it.0.mode; kind = it.0.kind; counts = it.0.counts; element = it.0.element; own = it.0.own; some = it.0.some; limited = it.1; ints = it.0.ints; base = it.0.base }
+
+  pointers_known : (g : Scope) → IsWalk vars g → AreSo (IsPointing g) g.flow
+  pointers_known g w k = let so = w.between.bounds k in record { bounds = λ b e. stands_known g k b (so.bounds b e); declared = λ b e. stands_known g k b (so.declared b e) }
 
   -- what is known of the file where a walk stands
   pub knows_here : (g : Scope) → IsWalk vars g → KnowsFile frame g → Reaching g → Knows frame types g
@@ -186,11 +210,12 @@ module _ (frame : Frame) (types : List CType) (all_scalar : AllByRecursion IsSca
 
   pub assigning_goes : (at : Places) (g : Scope) → IsWalk vars g → KnowsFile frame g → (a : Assignment) → Promises (GoesOn g) (assigning at g a)
   assigning_goes at g w file a =
-      passing_promises (λ (x : core.Statement). IsAssignment g (target_of a) x × (Reaching g → IsSimple frame types g x)) (GoesOn g) (assignment at g a) _
-      (both_promise (IsAssignment g (target_of a)) (λ (x : core.Statement). Reaching g → IsSimple frame types g x) (assignment at g a) (assignment_plain at g a)
+      passing_promises (λ (x : core.Statement). (IsAssignment g (target_of a) x × IsNotedStatement g x) × (Reaching g → IsSimple frame types g x)) (GoesOn g) (assignment at g a) _
+      (both_promise (λ (x : core.Statement). IsAssignment g (target_of a) x × IsNotedStatement g x) (λ (x : core.Statement). Reaching g → IsSimple frame types g x) (assignment at g a)
+      (both_promise (IsAssignment g (target_of a)) (IsNotedStatement g) (assignment at g a) (assignment_plain at g a) (assignment_noted at g a))
       (later_promises (Reaching g) (IsSimple frame types g) (assignment at g a) (λ reaches. assignment_promises frame types all_scalar at g (knows_here g w file reaches) a)))
       (λ x h. passing_promises (IsSettling (assigned_by g.locals x g.flow)) (GoesOn g) (settling (assigned_by g.locals x g.flow) (assignment_span a)) _ (settling_promises (assigned_by g.locals x g.flow) (assignment_span a))
-      (λ k is. assigned_goes g w x h.0.plain h.1 k is))
+      (λ k is. assigned_goes g w x h.0.0.plain h.0.1 h.1 k is))
 
   pub step_goes : (at : Places) (g : Scope) → IsWalk vars g → KnowsFile frame g → (o : Option Assignment) → Promises (GoesOn g) (optional_step at g o)
   step_goes at g w file None = nothing_goes g w
@@ -259,13 +284,13 @@ module _ (frame : Frame) (types : List CType) (all_scalar : AllByRecursion IsSca
   may_declare : (structs : List Structure) (g : Scope) (t : CType) (declared : Option Bounds) → MayCome vars g.structs g.locals t declared → (z : State) → HasLocals (g.locals ++ t ∷ []) z → MayDeclare frame.structs (types_of z.locals) (length g.locals) declared
   may_declare structs g t None may z has = record { ints = tt; size = λ c e. tt }
   may_declare structs g t (Some b) may z has =
-      let it = may.formed b refl in
+      let it = (may.formed b refl).0 in
       record {
         ints = record { lo = formed_later (g.locals ++ t ∷ []) z b.lo.var has it.ints.lo; hi = formed_later (g.locals ++ t ∷ []) z b.hi.var has it.ints.hi };
         size = λ c e q d from there.
             let base = it.base q from in
             let d_is : d ≡ Pointer it.mode base.0 it.element = same_some d _ (sym there ∙ has q (Pointer it.mode base.0 it.element) base.1) in
-            let c_is : c ≡ Pointer it.mode kinds.Array it.element = same_some c _ (sym e ∙ has (length g.locals) (Pointer it.mode kinds.Array it.element) it.own) in
+            let c_is : c ≡ Pointer it.mode it.kind it.element = same_some c _ (sym e ∙ has (length g.locals) (Pointer it.mode it.kind it.element) it.own) in
             ap (target_size frame.structs) d_is ∙ sym (ap (target_size frame.structs) c_is);
       }
     where
@@ -294,12 +319,12 @@ module _ (frame : Frame) (types : List CType) (all_scalar : AllByRecursion IsSca
       valid : (o : Option Bounds) → MayCome vars g.structs g.locals t o → (l : Local) → slice_get z.locals (length g.locals) ≡ Some l → IsValid frame.structs o l z
       valid None may l there = tt
       valid (Some b) may l there =
-          let it = may.formed b refl in
-          let type : t ≡ Pointer it.mode kinds.Array it.element = same_some t _ (sym (extends_last g.locals t) ∙ it.own) in
+          let it = (may.formed b refl).0 in
+          let type : t ≡ Pointer it.mode it.kind it.element = same_some t _ (sym (extends_last g.locals t) ∙ it.own) in
           let low : length g.locals < length (with_local name t declared g).locals = (let e = longer in omega (arith, e)) in
-          let same = alike.tracked (length g.locals) low (other (slice_get (types_of u.locals) (length g.locals)) (Pointer it.mode kinds.Array it.element) (has (length g.locals) (Pointer it.mode kinds.Array it.element) it.own) (λ q. absurd (cc))) in
+          let same = alike.tracked (length g.locals) low (other (slice_get (types_of u.locals) (length g.locals)) (Pointer it.mode it.kind it.element) (has (length g.locals) (Pointer it.mode it.kind it.element) it.own) (λ q. absurd (cc))) in
           let l_is : zero.0 ≡ l = same_local zero.0 l (sym zero.1 ∙ (sym same ∙ there)) in
-          null_valid frame.structs (Some b) l z (ap (λ (l : Local). l.value) (sym l_is) ∙ (zero.2 ∙ null_of it.mode kinds.Array it.element type))
+          null_valid frame.structs (Some b) l z (ap (λ (l : Local). l.value) (sym l_is) ∙ (zero.2 ∙ null_of it.mode it.kind it.element type))
         where
           same_some : (a b : CType) → Some a ≡ Some b → a ≡ b
           same_some a b q = cc
@@ -336,7 +361,7 @@ module _ (frame : Frame) (types : List CType) (all_scalar : AllByRecursion IsSca
     set_again_so : (n : ℕ) → Knots n → (low : ℕ) (u : State) → Reaching within → IsZero (length g.locals) t u → IsAt n low within u → HoldsAlike frame.structs (length within.locals) (assigned_by within.locals zero within.flow) u
     set_again_so n knots low u reaches z at =
         subst (WhereGiven (OnNext (HoldsAlike frame.structs (length within.locals) (assigned_by within.locals zero within.flow)))) (zero_again (length g.locals) t n u scalar z)
-        (plain_so true running (ticking n) (moving n) frame.structs within.locals within.flow inside.between.flow (few_vars within inside) zero zero_plain u
+        (plain_so true running (ticking n) (moving n) frame.structs within.structs within.locals within.flow inside.between.flow (few_vars within inside) zero zero_plain (zero_right within.structs within.locals within.flow t) u
         (are_moving n low knots within inside reaches (few_vars within inside) (zero_in within reaches) u at) (has_of n low within u reaches at.kept) (λ z alike. (at.known z alike).holds))
 
     -- the local is set to zero or null
@@ -353,22 +378,22 @@ module _ (frame : Frame) (types : List CType) (all_scalar : AllByRecursion IsSca
         ((k.0.0, (entered, set_again_so n knots low u reaches k.0.1.1 (record { kept = k.1; known = entered }))), k.1))
 
     -- behind the zero it is assigned
-    assigned_runs : (initial : core.Statement) → IsPlain within.locals initial → (reaches : Reaching within) → IsSimple frame types within initial → (n : ℕ) → Knots n → (low : ℕ) (s : State) → IsAt n low g s
+    assigned_runs : (initial : core.Statement) → IsPlain within.locals initial → IsNotedStatement within initial → (reaches : Reaching within) → IsSimple frame types within initial → (n : ℕ) → Knots n → (low : ℕ) (s : State) → IsAt n low g s
         → Runs frame budget n low types (Onward (HoldsAlike frame.structs (length within.locals) (assigned_by within.locals initial within.flow))) (effect true running (ticking n) (both zero initial) s)
-    assigned_runs initial plain reaches simple n knots low s at =
+    assigned_runs initial plain noted reaches simple n knots low s at =
         both_runs n low IsEntered (λ u. HoldsAlike frame.structs (length within.locals) (assigned_by within.locals initial within.flow) u) zero initial s (zero_goes reaches n knots low s at)
-        (λ u kept entered. simple_goes within inside initial plain reaches simple n knots low u (record { kept = kept; known = entered.0 }))
+        (λ u kept entered. simple_goes within inside initial plain noted reaches simple n knots low u (record { kept = kept; known = entered.0 }))
 
     -- the assignment that a declaration is, and what is left to do behind the zero
-    declared_runs : (o : Option Initializer) (initial : core.Statement) → IsFirst within.locals (length g.locals) o initial → (reaches : Reaching within) → IsSimple frame types within initial → (n : ℕ) → Knots n → (low : ℕ) (s : State) → IsAt n low g s
+    declared_runs : (o : Option Initializer) (initial : core.Statement) → IsFirst within.locals (length g.locals) o initial → IsNotedStatement within initial → (reaches : Reaching within) → IsSimple frame types within initial → (n : ℕ) → Knots n → (low : ℕ) (s : State) → IsAt n low g s
         → Runs frame budget n low types (Onward (HoldsAlike frame.structs (length within.locals) (assigned_by within.locals (first_value o initial (length g.locals) t) within.flow))) (effect true running (ticking n) (both zero initial) s)
-    declared_runs None initial first reaches simple n knots low s at =
+    declared_runs None initial first noted reaches simple n knots low s at =
         both_runs n low IsEntered Q zero initial s (zero_goes reaches n knots low s at)
         (λ u kept q. subst (λ x. Runs frame budget n low types (Onward Q) (effect true running (ticking n) x u)) (sym (first.none refl)) ((refl, q.1), kept))
       where
         Q : State → Type 0
         Q u = HoldsAlike frame.structs (length within.locals) (assigned_by within.locals zero within.flow) u
-    declared_runs (Some i) initial first reaches simple n knots low s at = assigned_runs initial first.plain reaches simple n knots low s at
+    declared_runs (Some i) initial first noted reaches simple n knots low s at = assigned_runs initial first.plain noted reaches simple n knots low s at
 
     -- once it is settled, where the declaration counts as the assignment of a value
     value_goes : (value initial : core.Statement) (span : Span) → (Reaching within → IsSimple frame types within initial)
@@ -393,9 +418,9 @@ module _ (frame : Frame) (types : List CType) (all_scalar : AllByRecursion IsSca
               (λ flow u q. (q.0, settled_fits (length within.locals) within.flow mid k u amid is q.1));
         })
 
-    declared_goes : (o : Option Initializer) (span : Span) (initial : core.Statement) → IsFirst within.locals (length g.locals) o initial → (Reaching within → IsSimple frame types within initial) → Promises (GoesOn g) (declared within o t (length g.locals) span initial)
-    declared_goes o span initial first simple =
-        value_goes (first_value o initial (length g.locals) t) initial span simple (λ reaches. declared_runs o initial first reaches (simple reaches))
+    declared_goes : (o : Option Initializer) (span : Span) (initial : core.Statement) → IsFirst within.locals (length g.locals) o initial → IsNotedStatement within initial → (Reaching within → IsSimple frame types within initial) → Promises (GoesOn g) (declared within o t (length g.locals) span initial)
+    declared_goes o span initial first noted simple =
+        value_goes (first_value o initial (length g.locals) t) initial span simple (λ reaches. declared_runs o initial first noted reaches (simple reaches))
 
   known_inside : (g : Scope) (name : ℕ) (t : CType) (bounds : Option Bounds) (arrays : List ℕ) → IsKnownType g.structs t → KnowsFile frame g → KnowsFile frame (record (with_local name t bounds g) { arrays = arrays })
   known_inside g name t bounds arrays known_t file =
@@ -403,15 +428,11 @@ module _ (frame : Frame) (types : List CType) (all_scalar : AllByRecursion IsSca
 
   -- bounds that are declared may be those of the local that comes next
   declared_may : (g : Scope) (t : CType) (bounds : Option Bounds) → length (g.locals ++ t ∷ []) ≤ vars → IsFormedIf g.structs (g.locals ++ t ∷ []) t bounds → MayCome vars g.structs g.locals t bounds
-  declared_may g t bounds few formed = record { below = formed_below g.structs (g.locals ++ t ∷ []) t vars bounds few formed; limited = limited bounds formed; formed = λ b e. by bounds b e formed }
+  declared_may g t bounds few formed = record { below = formed_below g.structs (g.locals ++ t ∷ []) t vars bounds few formed; formed = λ b e. by bounds b e formed }
     where
-      limited : (o : Option Bounds) → IsFormedIf g.structs (g.locals ++ t ∷ []) t o → AreLimitedIf o
-      limited None h = tt
-      limited (Some b) h = h.limited
-
-      by : (o : Option Bounds) (b : Bounds) → o ≡ Some b → IsFormedIf g.structs (g.locals ++ t ∷ []) t o → IsDeclared g.structs (g.locals ++ t ∷ []) (length g.locals) b
+      by : (o : Option Bounds) (b : Bounds) → o ≡ Some b → IsFormedIf g.structs (g.locals ++ t ∷ []) t o → MayStand g.structs (g.locals ++ t ∷ []) (length g.locals) b
       by None b e h = absurd (cc)
-      by (Some c) b e h = subst (IsDeclared g.structs (g.locals ++ t ∷ []) (length g.locals)) (same_bounds c b e) (record { mode = h.mode; element = h.element; own = extends_last g.locals t ∙ ap Some h.own; some = h.some; ints = h.ints; base = h.base })
+      by (Some c) b e h = subst (MayStand g.structs (g.locals ++ t ∷ []) (length g.locals)) (same_bounds c b e) (record { mode = h.mode; kind = h.kind; counts = h.counts; element = h.element; own = extends_last g.locals t ∙ ap Some h.own; some = h.some; ints = h.ints; base = h.base }, h.limited)
         where
           same_bounds : (a b : Bounds) → Some a ≡ Some b → a ≡ b
           same_bounds a b q = cc
@@ -420,13 +441,14 @@ module _ (frame : Frame) (types : List CType) (all_scalar : AllByRecursion IsSca
       → Promises (GoesOn g) (bounded_local at g d t span bounds)
   bounded_goes at g w file d t span bounds may known_t room =
       let within = with_local d.name.number t bounds g in
-      passing_promises (λ (x : core.Statement). IsFirst within.locals (length g.locals) d.initializer x × (Reaching within → IsSimple frame types within x)) (GoesOn g) (initialised at within d.initializer t (length g.locals) span) _
-      (both_promise (IsFirst within.locals (length g.locals) d.initializer) (λ (x : core.Statement). Reaching within → IsSimple frame types within x) (initialised at within d.initializer t (length g.locals) span)
-      (initialised_plain at within d.initializer t (length g.locals) span (extends_last g.locals t))
+      passing_promises (λ (x : core.Statement). (IsFirst within.locals (length g.locals) d.initializer x × IsNotedStatement within x) × (Reaching within → IsSimple frame types within x)) (GoesOn g) (initialised at within d.initializer t (length g.locals) span) _
+      (both_promise (λ (x : core.Statement). IsFirst within.locals (length g.locals) d.initializer x × IsNotedStatement within x) (λ (x : core.Statement). Reaching within → IsSimple frame types within x) (initialised at within d.initializer t (length g.locals) span)
+      (both_promise (IsFirst within.locals (length g.locals) d.initializer) (IsNotedStatement within) (initialised at within d.initializer t (length g.locals) span)
+      (initialised_plain at within d.initializer t (length g.locals) span (extends_last g.locals t)) (initialised_noted at within d.initializer t (length g.locals) span))
       (later_promises (Reaching within) (IsSimple frame types within) (initialised at within d.initializer t (length g.locals) span)
       (λ reaches. initialised_promises frame types all_scalar at within (knows_here within (walk_local vars d.name.number t bounds g may w room) (known_inside g d.name.number t bounds g.arrays known_t file) reaches) d.initializer t (length g.locals) span (reaches (length g.locals) t (extends_last g.locals t)))))
       (λ initial first. needs_promises (GoesOn g) (is_scalar t) E13 span _
-      (λ scalar. declared_goes g w d.name.number t bounds may scalar room g.arrays d.initializer span initial first.0 first.1))
+      (λ scalar. declared_goes g w d.name.number t bounds may scalar room g.arrays d.initializer span initial first.0.0 first.0.1 first.1))
 
   -- a length is a constant that a term may have, and an `int`
   length_limited : (n : ℕ) → is_length (Some n) ≡ true → is_within term_limit (pos n) ≡ true
@@ -439,29 +461,59 @@ module _ (frame : Frame) (types : List CType) (all_scalar : AllByRecursion IsSca
       let few = leb-true n 8192 (and_parts (nat_lt 0 n) (nat_le n 8192) h).1 in
       le-leb (suc n) (2 ^ 31) (omega (arith, few))
 
-  -- of so many elements
-  array_may : (g : Scope) (t : CType) (count : ℕ) → is_length (Some count) ≡ true → nat_lt 0 (size_of g.structs t) ≡ true → MayCome vars g.structs g.locals (row_type t) (Some (row_of count))
-  array_may g t count counted bytes = record { below = record { lo = tt; hi = tt }; limited = record { low = refl; high = length_limited count counted }; formed = λ b e. subst (IsDeclared g.structs (g.locals ++ row_type t ∷ []) (length g.locals)) (same_bounds _ b e) formed }
+  -- of so many elements, without the zero that ends them
+  before_limited : (ended : Bool) (count : ℕ) → is_length (Some count) ≡ true → is_within term_limit (pos (before_end ended count)) ≡ true
+  before_limited false count counted = length_limited count counted
+  before_limited true count counted = (let few = leb-true count 8192 (and_parts (nat_lt 0 count) (nat_le count 8192) counted).1 in le-leb (count - 1) term_limit (omega (arith, few)))
+
+  array_counts : (ended : Bool) → Counts (array_kind ended)
+  array_counts true = tt
+  array_counts false = tt
+
+  array_may : (g : Scope) (t : CType) (count : ℕ) (ended : Bool) → is_length (Some count) ≡ true → 0 < size_of g.structs t → MayCome vars g.structs g.locals (row_type ended t) (Some (row_of (before_end ended count)))
+  array_may g t count ended counted some = record { below = record { lo = tt; hi = tt }; formed = λ b e. subst (MayStand g.structs (g.locals ++ row_type ended t ∷ []) (length g.locals)) (same_bounds _ b e) (formed, record { low = refl; high = before_limited ended count counted }) }
     where
       same_bounds : (a b : Bounds) → Some a ≡ Some b → a ≡ b
       same_bounds a b q = cc
 
-      formed : IsDeclared g.structs (g.locals ++ row_type t ∷ []) (length g.locals) (row_of count)
-      formed = record { mode = modes.Checked; element = t; own = extends_last g.locals (row_type t); some = ltb-true 0 (size_of g.structs t) bytes; ints = record { lo = tt; hi = tt }; base = λ q e. absurd (cc) }
+      formed : IsDeclared g.structs (g.locals ++ row_type ended t ∷ []) (length g.locals) (row_of (before_end ended count))
+      formed = record { mode = modes.Checked; kind = array_kind ended; counts = array_counts ended; element = t; own = extends_last g.locals (row_type ended t); some = some; ints = record { lo = tt; hi = tt }; base = λ q e. absurd (cc) }
 
-  array_goes : (at : Places) (g : Scope) → IsWalk vars g → KnowsFile frame g → (d : Declarator) (t : CType) (count : ℕ) (span : Span) → is_length (Some count) ≡ true → nat_lt 0 (size_of g.structs t) ≡ true → IsKnownType g.structs t → length (g.locals ++ row_type t ∷ []) ≤ vars
-      → Promises (GoesOn g) (settled_array (with_array d.name.number t count g) (length g.locals) (memory_of (with_array d.name.number t count g) t count (site_at at span)) span)
-  array_goes at g w file d t count span counted bytes known_t room =
-      let within = with_array d.name.number t count g in
-      let may = array_may g t count counted bytes in
-      let set = core.SetLocal (length g.locals) (memory_of within t count (site_at at span)) in
-      let inside = walk_arrays vars within.arrays (with_local d.name.number (row_type t) (Some (row_of count)) g) (walk_local vars d.name.number (row_type t) (Some (row_of count)) g may w room) in
-      let knows = known_inside g d.name.number (row_type t) (Some (row_of count)) within.arrays known_t file in
+  before_word : (ended : Bool) (count : ℕ) → is_length (Some count) ≡ true → nat_lt (before_end ended count) (2 ^ 31) ≡ true
+  before_word false count counted = length_word count counted
+  before_word true count counted = (let few = leb-true count 8192 (and_parts (nat_lt 0 count) (nat_le count 8192) counted).1 in le-leb (suc (count - 1)) (2 ^ 31) (omega (arith, few)))
+
+  consists : (structs : List Structure) (ended : Bool) (t : CType) → MayConsist structs ended t → 0 < size_of structs t
+  consists structs false t may = ltb-true 0 (size_of structs t) may
+  consists structs true t may = number_sized structs t may
+
+  leads : (structs : List Structure) (ended : Bool) (t : CType) → MayConsist structs ended t → may_lead_to (array_kind ended) t ≡ true
+  leads structs false t may = refl
+  leads structs true t may = may
+
+  memory_noted : (within : Scope) (ended : Bool) (t : CType) (count : ℕ) (site : Site) → IsNotedLength within (memory_of within ended t count site)
+  memory_noted within false t count site = tt
+  memory_noted within true t count site = tt
+
+  -- its memory has its type
+  array_made : (within : Scope) → Knows frame types within → (ended : Bool) (t : CType) (count : ℕ) (site : Site) → is_length (Some count) ≡ true → MayConsist within.structs ended t → HasType frame types within (memory_of within ended t count site) (row_type ended t)
+  array_made within knows false t count site counted may = memory_typed frame types within knows t (core.Number (pos count)) site (typed.word (before_word false count counted)) may
+  array_made within knows true t count site counted may = ended_memory_typed frame types within knows t (core.Number (pos (count - 1))) site (typed.word (before_word true count counted)) may
+
+  array_goes : (at : Places) (g : Scope) → IsWalk vars g → KnowsFile frame g → (d : Declarator) (t : CType) (count : ℕ) (ended : Bool) (span : Span) → is_length (Some count) ≡ true → MayConsist g.structs ended t → IsKnownType g.structs t → length (g.locals ++ row_type ended t ∷ []) ≤ vars
+      → Promises (GoesOn g) (settled_array (with_array d.name.number t count ended g) (length g.locals) (memory_of (with_array d.name.number t count ended g) ended t count (site_at at span)) span)
+  array_goes at g w file d t count ended span counted consist known_t room =
+      let type = row_type ended t in
+      let declared = Some (row_of (before_end ended count)) in
+      let within = with_array d.name.number t count ended g in
+      let may = array_may g t count ended counted (consists g.structs ended t consist) in
+      let set = core.SetLocal (length g.locals) (memory_of within ended t count (site_at at span)) in
+      let inside = walk_arrays vars within.arrays (with_local d.name.number type declared g) (walk_local vars d.name.number type declared g may w room) in
+      let knows = known_inside g d.name.number type declared within.arrays (leads g.structs ended t consist, known_t) file in
       let simple : Reaching within → IsSimple frame types within set =
-      λ reaches. typed.set_local (reaches (length g.locals) (row_type t) (extends_last g.locals (row_type t)))
-      (memory_typed frame types within (knows_here within inside knows reaches) t (core.Number (pos count)) (site_at at span) (typed.word (length_word count counted)) bytes) in
-      value_goes g w d.name.number (row_type t) (Some (row_of count)) may refl room within.arrays set set span simple
-      (λ reaches. assigned_runs g w d.name.number (row_type t) (Some (row_of count)) may refl room within.arrays set (row_type t, extends_last g.locals (row_type t)) reaches (simple reaches))
+      λ reaches. typed.set_local (reaches (length g.locals) type (extends_last g.locals type)) (array_made within (knows_here within inside knows reaches) ended t count (site_at at span) counted consist) in
+      value_goes g w d.name.number type declared may refl room within.arrays set set span simple
+      (λ reaches. assigned_runs g w d.name.number type declared may refl room within.arrays set (type, extends_last g.locals type) (memory_noted within ended t count (site_at at span)) reaches (simple reaches))
 
   declarator_goes : (at : Places) (g : Scope) → IsWalk vars g → KnowsFile frame g → (base : TypeTree) (type : CType) (span : Span) (d : Declarator) → IsKnownType g.structs type → Promises (GoesOn g) (declarator at g base type span d)
   declarator_goes at g w file base type span d known_type =
@@ -469,7 +521,7 @@ module _ (frame : Frame) (types : List CType) (all_scalar : AllByRecursion IsSca
       (λ few t known_t. passing_promises (IsFormedIf g.structs (g.locals ++ t ∷ []) t) (GoesOn g) (declared_bounds (with_local d.name.number t None g) t (length g.locals) d.bounds) (bounded_local at g d t span)
       (declared_formed (with_local d.name.number t None g) t (length g.locals) d.bounds)
       (λ bounds formed. bounded_goes at g w file d t span bounds (declared_may g t bounds (room t few) formed) known_t (room t few)))
-      (λ few t known_t count here counted bytes. array_goes at g w file d t count span counted bytes known_t (room (row_type t) few))
+      (λ few t known_t count here counted ended consist. array_goes at g w file d t count ended span counted consist known_t (room (row_type ended t) few))
     where
       room : (t : CType) → nat_lt (length g.locals) g.flow.vars ≡ true → length (g.locals ++ t ∷ []) ≤ vars
       room t few = let low = ltb-true (length g.locals) g.flow.vars few in let e = length-append g.locals (t ∷ []) in let size = w.between.size in omega (arith, low, e, size)

@@ -20,11 +20,12 @@ use Rattle.ckc_core.specs.Bounds.{Ends, block_size, ends_at, is_valid, lie_withi
 use Rattle.ckc_core.specs.Pointers.{lies_below, lies_up_to}
 use Rattle.bounds_flow_meaning.specs.Holding.{IsValid, at_node}
 use Rattle.bounds_flow_meaning.specs.Rows.{AreElements, LeadsOn, IsEndedPlace, IsPlace, ends_at_number, is_zero_at}
-use Rattle.bounds_flow_meaning.proofs.Validity.{both_true, less_inside, int_from, int_to, valid_from, valid_to}
+use Rattle.bounds_flow_meaning.proofs.Validity.{both_true, less_inside, int_from, int_to, null_valid, valid_from, valid_to}
 use Rattle.bounds_flow_meaning.proofs.Widening.{row_number, row_size}
-use Rattle.region_typing_rules.specs.Types.{is_number}
-use Rattle.region_typing_rules.specs.Expressions.{one_element, row_of}
-use Rattle.region_typing_rules.specs.Typed.{Counts, CountsAs, IsEndedRow, HasValue, IsScalar}
+use Rattle.region_typing_rules.specs.Types.{is_number, Counts}
+use Rattle.region_typing_rules.specs.Expressions.{one_element}
+use Rattle.region_typing_rules.specs.DeclaredBounds.{row_of}
+use Rattle.region_typing_rules.specs.Typed.{CountsAs, IsEndedRow, HasValue, IsScalar}
 use Rattle.region_typing_rules.proofs.Elements.{below_up_to, one_below, pointing}
 use Rattle.region_typing_rules.proofs.Values.{HasCell, cell_there, mapped_from, scalar_stands}
 
@@ -195,6 +196,90 @@ below_or_at e x upto other =
   where
     less : (a b : ℤ) → int_le a b ≡ true → int_eq a b ≡ false → int_lt a b ≡ true
     less a b le other = grind (arith, ints)
+
+times_step : (a b n : ℕ) → a < b → a * n + n ≤ b * n
+times_step a zero n less = absurd (omega (arith, less))
+times_step zero (suc b) n less = omega arith
+times_step (suc a) (suc b) n less = let more = times_step a b n (omega (arith, less)) in omega (arith, more)
+
+stands_fits : (e : Ends) (room byte : ℕ) → e.low ≡ pos byte → e.high ≡ pos byte → byte ≤ room → lie_within e room ≡ true
+stands_fits e room byte low high le = by (int_le e.low e.high) refl
+  where
+    by : (test : Bool) → int_le e.low e.high ≡ test → lie_within e room ≡ true
+    by false is = rw is refl
+    by true is = rw is (and_from (int_le (pos 0) e.low) (int_le e.high (pos room)) (int_to (pos 0) e.low (omega (arith, ints, low))) (int_to e.high (pos room) (omega (arith, ints, high, le))))
+
+-- a pointer to a cell of such a row is valid where the end may be, whatever its bounds are
+module _ (structs : List Structure) (m : Mode) (t : CType) (s : State) (block byte : ℕ) (h : IsEndedPlace structs (shapes s.blocks) t block byte false) where
+  abbrev cell : ℕ
+  cell = size_of structs t
+
+  abbrev ends_here : Ends
+  ends_here = record { low = pos byte +ℤ ((pos 0 +ℤ pos 0) *ℤ pos cell); high = pos byte +ℤ ((pos 0 +ℤ pos 0) *ℤ pos cell); size = cell }
+
+  stands : ends_here.low ≡ pos byte
+  stands = omega (arith, ints)
+
+  held_here : (b : Block) × (slice_get s.blocks block ≡ Some b) × (shape b ≡ h.shape)
+  held_here = mapped_from shape s.blocks block h.shape h.found
+
+  all_bytes : block_size held_here.0 ≡ h.cells * cell
+  all_bytes = ap (λ (x : Shape). sum x.strides) held_here.2 ∙ (ap sum h.strides ∙ row_size cell h.cells)
+
+  behind : byte + cell ≤ block_size held_here.0
+  behind = let all = all_bytes in let less = times_step h.number h.cells cell h.below in omega (arith, all, less, h.is)
+
+  passes_here : (site : Site) → is_valid (at_node (row_of 0) cell true site) (At block byte) s ≡ true
+  passes_here site =
+      let most = behind in
+      valid_to (at_node (row_of 0) cell true site) block byte s (record {
+        held = held_here.0;
+        ends = ends_here;
+        found = held_here.1;
+        are = refl;
+        place = grind (arith, nat_tests, most);
+        fits = stands_fits ends_here (room_of true held_here.0 cell) byte stands stands (omega (arith, most));
+      })
+
+  leads_here : (n : ℤ) (place : ℕ) → pos place ≡ pos byte +ℤ (n *ℤ pos cell) → lies_up_to ends_here (pos place) ≡ true → IsEndedPlace structs (shapes s.blocks) t block place (lies_below ends_here (pos place))
+  leads_here n place is lies =
+      let parts = both_true (int_le ends_here.low (pos place)) (int_le (pos place) ends_here.high) lies in
+      let low = int_from ends_here.low (pos place) parts.0 in
+      let high = int_from (pos place) ends_here.high parts.1 in
+      let low_is = stands in
+      let same : byte ≡ place = omega (arith, ints, low, high, low_is) in
+      let above : lies_below ends_here (pos place) ≡ false = not_below place same in
+      subst (λ inside. IsEndedPlace structs (shapes s.blocks) t block place inside) (sym above) (subst (λ byte. IsEndedPlace structs (shapes s.blocks) t block byte false) same h)
+    where
+      none : (b : Bool) → (b && false) ≡ false
+      none true = refl
+      none false = refl
+
+      not_below : (place : ℕ) → byte ≡ place → lies_below ends_here (pos place) ≡ false
+      not_below place same =
+          let no : int_lt (pos place) ends_here.high ≡ false = ap (int_lt (pos place)) stands ∙ (ap (λ n. int_lt (pos place) (pos n)) same ∙ below_none place) in
+          ap (λ test. int_le ends_here.low (pos place) && test) no ∙ none (int_le ends_here.low (pos place))
+        where
+          below_none : (n : ℕ) → int_lt (pos n) (pos n) ≡ false
+          below_none n = grind (arith, ints)
+
+pub cell_valid : (structs : List Structure) (m : Mode) (t : CType) (s : State) (v : Value) → HasValue structs (shapes s.blocks) (Pointer m kinds.Nt t) v → IsValid structs (Some (row_of 0)) (pointing (Pointer m kinds.Nt t) v) s
+cell_valid structs m t s (Number z) typed = absurd typed
+cell_valid structs m t s Null typed = null_valid structs (Some (row_of 0)) (pointing (Pointer m kinds.Nt t) Null) s refl
+cell_valid structs m t s (At block byte) typed = record { passes = passes_here structs m t s block byte typed.1; leads = leads }
+  where
+    leads : (site : Site) (other place : ℕ) (e : Ends) → At block byte ≡ At other place → ends_at (at_node (row_of 0) (size_of structs t) true site) s.locals other place ≡ Some e → LeadsOn structs (shapes s.blocks) (Pointer m kinds.Nt t) other place e
+    leads site other place e at are =
+        let block_is : block ≡ other = cc in
+        let byte_is : byte ≡ place = cc in
+        let here = ends_here structs m t s block byte typed.1 in
+        let ends_is : here ≡ e = some_same here e (subst (λ byte. ends_at (at_node (row_of 0) (size_of structs t) true site) s.locals other byte ≡ Some e) (sym byte_is) are) in
+        subst (λ other. LeadsOn structs (shapes s.blocks) (Pointer m kinds.Nt t) other place e) block_is
+        (subst (λ byte. LeadsOn structs (shapes s.blocks) (Pointer m kinds.Nt t) block byte e) byte_is
+        (subst (λ e. LeadsOn structs (shapes s.blocks) (Pointer m kinds.Nt t) block byte e) ends_is (λ z place is lies. leads_here structs m t s block byte typed.1 z place is lies)))
+      where
+        some_same : (a b : Ends) → Some a ≡ Some b → a ≡ b
+        some_same a b q = cc
 
 -- ---- whole rows
 

@@ -1,13 +1,11 @@
 -- The scope in which the body of a function stands: what is known there is so, whatever its locals hold.
-use Rattle.std.proofs.Common.{◌≡◌, ℕ, zero, suc, ◌+◌, ◌≤◌, Bool, true, false, List, [], ◌∷◌, ◌++◌, map, length, replicate, Option, Some, None, refl, sym, ap, ◌∙◌, subst, append_assoc, inl, inr, arith}
+use Rattle.std.proofs.Common.{◌≡◌, ℕ, zero, suc, ◌+◌, ◌≤◌, Bool, true, false, List, [], ◌∷◌, ◌++◌, map, length, replicate, Option, Some, None, refl, sym, ap, ◌∙◌, subst, append_assoc, arith}
 use Rattle.std.specs.Prelude.{nat_lt, slice_get, slice_index_or}
-use Rattle.std.proofs.lemmas.Bool.{cases_eq}
 use Rattle.std.proofs.lemmas.Bool.Decides.{nat_tests}
 use Rattle.std.proofs.lemmas.Option.{slice_get_within}
 use Rattle.std.proofs.lemmas.List.{append-nil, length-append, length-map}
 use Rattle.ckc_tree.specs.Statements.{Statements}
 use Rattle.bounds_exprs.specs.declared.term.Bounds.{Bounds}
-use Rattle.pointer_modes.specs.declared.ctype.Kind.TheVariants as kinds
 use Rattle.pointer_modes.specs.Types.{CType, Char, Pointer, Structure}
 use Rattle.bounds_flow.specs.Pointers.{no_pointer}
 use Rattle.bounds_flow.specs.Flows.{Knowledge, at_entry, entered, held_at}
@@ -23,15 +21,16 @@ use Rattle.region_typing_rules.specs.Scopes.{Scope, Signature, bounds_in}
 use Rattle.region_typing_rules.specs.Knowing.{all_declared, knowing}
 use Rattle.region_typing_rules.specs.Statements.{with_local}
 use Rattle.region_typing_rules.specs.Items.{Parameter, variables_in, with_parameters, with_bounds, before_bounds, inside}
-use Rattle.region_typing_rules.specs.KnownIsSo.{AreLimited, AreLimitedIf, HasLocals, IsAlike, IsDeclared, IsKnown, IsLimited, IsBetween, declared_at, AreBetween, IsWalk}
+use Rattle.region_typing_rules.specs.KnownIsSo.{HasLocals, IsAlike, IsDeclared, IsKnown, declared_at}
 use Rattle.region_typing_rules.proofs.Alike.{has_alike}
-use Rattle.region_typing_rules.proofs.Between.{between_entered, entered_here, entered_other}
+use Rattle.region_typing_rules.proofs.Between.{AreBetween, IsBetween, MayStand, between_entered, entered_other}
 use Rattle.region_typing_rules.proofs.Calls.{AreEntered}
 use Rattle.region_typing_rules.proofs.DeclaredBounds.{int_below}
 use Rattle.region_typing_rules.proofs.Given.{valid_alike}
+use Rattle.region_typing_rules.proofs.InForce.{IsSoOf}
 use Rattle.region_typing_rules.proofs.Parameters.{AreFormed, all_bounds, all_declared_so}
 use Rattle.region_typing_rules.proofs.Terms.{formed_later}
-use Rattle.region_typing_rules.proofs.Ways.{fits_further, none_comes, walk_local}
+use Rattle.region_typing_rules.proofs.Ways.{IsWalk, fits_further, none_comes, walk_local}
 
 none_held : (n p : ℕ) → held_at (replicate n no_pointer) p ≡ no_pointer
 none_held zero p = refl
@@ -43,12 +42,12 @@ none_assigned zero x = refl
 none_assigned (suc n) zero = refl
 none_assigned (suc n) (suc x) = none_assigned n x
 
-entry_between : (vars : ℕ) → vars ≤ 4096 → IsBetween vars (at_entry vars)
-entry_between vars few = record {
+entry_between : (structs : List Structure) (types : List CType) (vars : ℕ) → vars ≤ 4096 → IsBetween structs types vars (at_entry vars)
+entry_between structs types vars few = record {
   flow = are_kept.entry vars few;
   size = refl;
   settled = record { marks = λ p. ap (λ h. h.mark) (none_held vars p); assigned = none_assigned vars };
-  limited = λ p. subst IsLimited (sym (none_held vars p)) (record { declared = tt; in_force = refl });
+  bounds = λ p. subst (IsSoOf (MayStand structs types p)) (sym (none_held vars p)) (record { bounds = λ b e. absurd (cc); declared = λ b e. absurd (cc) });
 }
 
 limited_few : (limit n : ℕ) (test : Bool) → nat_lt limit n ≡ test → picked test limit n ≤ limit
@@ -83,14 +82,13 @@ with_entry vars (p ∷ ps) g few e =
 entry : (vars : ℕ) (g : Scope) → vars ≤ 4096 → g.locals ≡ [] → g.flow ≡ at_entry vars → g.result_bounds ≡ None → g.outside ≡ 0 → g.breaks ≡ None → g.continues ≡ None → IsEntry vars g
 entry vars g few locals flow bounds outside breaks continues = record {
   walk = record {
-    between = subst (IsBetween vars) (sym flow) (entry_between vars few);
+    between = subst (IsBetween g.structs g.locals vars) (sym flow) (entry_between g.structs g.locals vars few);
     few = (let e = ap length locals in omega (arith, e));
     beyond = λ p far. none p;
-    declared = λ p b e. absurd (let q : None ≡ Some b = sym (none p) ∙ e in cc);
     result = λ b e. absurd (let q : None ≡ Some b = sym bounds ∙ e in cc);
     outside = omega (arith, outside);
-    breaks = subst (λ o. AreBetween vars g.outside g.flow o) (sym breaks) tt;
-    continues = subst (λ o. AreBetween vars g.outside g.flow o) (sym continues) tt;
+    breaks = subst (λ o. AreBetween g.structs g.locals vars g.outside g.flow o) (sym breaks) tt;
+    continues = subst (λ o. AreBetween g.structs g.locals vars g.outside g.flow o) (sym continues) tt;
   };
   free = λ structs s good u alike. subst (λ f. Fits structs f u) (sym flow) (entries_fit structs vars u (alike.types good));
 }
@@ -127,53 +125,45 @@ continues_alone [] g = refl
 continues_alone (p ∷ ps) g = continues_alone ps (with_local p.name p.type None g)
 
 -- a scope whose flow is another one
-walk_between : (vars : ℕ) (g : Scope) (f : Knowledge) (r : Option Bounds) → IsBetween vars f → ((p : ℕ) → length g.locals ≤ p → declared_at f p ≡ None) → ((p : ℕ) (b : Bounds) → declared_at f p ≡ Some b → IsDeclared g.structs g.locals p b)
+walk_between : (vars : ℕ) (g : Scope) (f : Knowledge) (r : Option Bounds) → IsBetween g.structs g.locals vars f → ((p : ℕ) → length g.locals ≤ p → declared_at f p ≡ None)
     → ((b : Bounds) → r ≡ Some b → AreInts g.locals b) → g.breaks ≡ None → g.continues ≡ None → IsWalk vars g → IsWalk vars (record (knowing f g) { result_bounds = r })
-walk_between vars g f r between beyond declared result breaks continues w = record {
+walk_between vars g f r between beyond result breaks continues w = record {
   between = between;
   few = w.few;
   beyond = beyond;
-  declared = declared;
   result = result;
   outside = w.outside;
-  breaks = subst (λ o. AreBetween vars g.outside f o) (sym breaks) tt;
-  continues = subst (λ o. AreBetween vars g.outside f o) (sym continues) tt;
+  breaks = subst (λ o. AreBetween g.structs g.locals vars g.outside f o) (sym breaks) tt;
+  continues = subst (λ o. AreBetween g.structs g.locals vars g.outside f o) (sym continues) tt;
 }
 
 -- which bounds are declared for each number, from one on
 abbrev AreOf : Scope → (local : ℕ) → List Parameter → Type 0
-AreOf g local ps = (x : ℕ) (b : Bounds) → slice_get (all_bounds ps) x ≡ Some (Some b) → IsDeclared g.structs g.locals (local + x) b × AreLimited b
+AreOf g local ps = (x : ℕ) (b : Bounds) → slice_get (all_bounds ps) x ≡ Some (Some b) → MayStand g.structs g.locals (local + x) b
 
 -- a flow in which bounds of parameters are declared
 record IsEntered (vars : ℕ) (g : Scope) (f : Knowledge) : Type 0 where
-  between : IsBetween vars f
+  between : IsBetween g.structs g.locals vars f
   beyond : (p : ℕ) → length g.locals ≤ p → declared_at f p ≡ None
-  declared : (p : ℕ) (b : Bounds) → declared_at f p ≡ Some b → IsDeclared g.structs g.locals p b
 
-first_of : (g : Scope) (local : ℕ) (p : Parameter) (ps : List Parameter) → AreOf g local (p ∷ ps) → (b : Bounds) → bounds_in p.bounds ≡ Some b → IsDeclared g.structs g.locals local b × AreLimited b
-first_of g local p ps are b is = let same : local + 0 ≡ local = omega arith in subst (λ n. IsDeclared g.structs g.locals n b × AreLimited b) same (are 0 b (ap Some is))
+first_of : (g : Scope) (local : ℕ) (p : Parameter) (ps : List Parameter) → AreOf g local (p ∷ ps) → (b : Bounds) → bounds_in p.bounds ≡ Some b → MayStand g.structs g.locals local b
+first_of g local p ps are b is = let same : local + 0 ≡ local = omega arith in subst (λ n. MayStand g.structs g.locals n b) same (are 0 b (ap Some is))
 
 rest_of : (g : Scope) (local : ℕ) (p : Parameter) (ps : List Parameter) → AreOf g local (p ∷ ps) → AreOf g (suc local) ps
-rest_of g local p ps are x b is = let same : local + suc x ≡ suc local + x = omega arith in subst (λ n. IsDeclared g.structs g.locals n b × AreLimited b) same (are (suc x) b is)
+rest_of g local p ps are x b is = let same : local + suc x ≡ suc local + x = omega arith in subst (λ n. MayStand g.structs g.locals n b) same (are (suc x) b is)
 
-declared_below : (vars : ℕ) (g : Scope) (local : ℕ) (o : Option Bounds) → length g.locals ≤ vars → ((b : Bounds) → o ≡ Some b → IsDeclared g.structs g.locals local b × AreLimited b) → AreBoundsBelow vars o × AreLimitedIf o
-declared_below vars g local None few is = (tt, tt)
-declared_below vars g local (Some b) few is =
-    let it = is b refl in
-    (record { lo = int_below g.locals vars b.lo.var few it.0.ints.lo; hi = int_below g.locals vars b.hi.var few it.0.ints.hi }, it.1)
+declared_below : (vars : ℕ) (g : Scope) (local : ℕ) (o : Option Bounds) → length g.locals ≤ vars → ((b : Bounds) → o ≡ Some b → MayStand g.structs g.locals local b) → AreBoundsBelow vars o
+declared_below vars g local None few is = tt
+declared_below vars g local (Some b) few is = let it = (is b refl).0 in record { lo = int_below g.locals vars b.lo.var few it.ints.lo; hi = int_below g.locals vars b.hi.var few it.ints.hi }
 
 module _ (vars : ℕ) (g : Scope) (few : length g.locals ≤ vars) where
   all_entered : (local : ℕ) (ps : List Parameter) (f : Knowledge) → local + length ps ≤ length g.locals → AreOf g local ps → IsEntered vars g f → IsEntered vars g (with_bounds local ps f)
   all_entered local [] f low are e = e
   all_entered local (p ∷ ps) f low are e =
-      let below = declared_below vars g local (bounds_in p.bounds) few (first_of g local p ps are) in
+      let first = first_of g local p ps are in
       all_entered (suc local) ps (entered local (bounds_in p.bounds) f) (omega (arith, low)) (rest_of g local p ps are) (record {
-        between = between_entered vars local (bounds_in p.bounds) f below.0 below.1 e.between;
+        between = between_entered vars local (bounds_in p.bounds) f (declared_below vars g local (bounds_in p.bounds) few first) first e.between;
         beyond = λ q far. entered_other local q (bounds_in p.bounds) f (λ same. absurd (omega (arith, far, low, same))) ∙ e.beyond q far;
-        declared = λ q b is. elim (cases_eq q local) [
-          | inl same ↦ subst (λ q. IsDeclared g.structs g.locals q b) (sym same) (first_of g local p ps are b (entered_here local (bounds_in p.bounds) f b (subst (λ q. declared_at (entered local (bounds_in p.bounds) f) q ≡ Some b) same is))).0
-          | inr ne ↦ e.declared q b (sym (entered_other local q (bounds_in p.bounds) f ne) ∙ is)
-        ];
       })
 
   -- where the locals are valid with them
@@ -181,7 +171,7 @@ module _ (vars : ℕ) (g : Scope) (few : length g.locals ≤ vars) where
   AreValid structs local ps s = (x : ℕ) (b : Bounds) (l : Local) → slice_get (all_bounds ps) x ≡ Some (Some b) → slice_get s.locals (local + x) ≡ Some l → IsValid structs (Some b) l s
 
   -- bounds may be declared
-  may_declare : (structs : List Structure) (local : ℕ) (o : Option Bounds) (z : State) → ((b : Bounds) → o ≡ Some b → IsDeclared g.structs g.locals local b × AreLimited b) → HasLocals g.locals z → MayDeclare structs (types_of z.locals) local o
+  may_declare : (structs : List Structure) (local : ℕ) (o : Option Bounds) (z : State) → ((b : Bounds) → o ≡ Some b → MayStand g.structs g.locals local b) → HasLocals g.locals z → MayDeclare structs (types_of z.locals) local o
   may_declare structs local None z is has = record { ints = tt; size = λ c e. tt }
   may_declare structs local (Some b) z is has =
       let it = (is b refl).0 in
@@ -190,7 +180,7 @@ module _ (vars : ℕ) (g : Scope) (few : length g.locals ≤ vars) where
         size = λ c e q d from there.
             let base = it.base q from in
             let d_is : d ≡ Pointer it.mode base.0 it.element = same_type d _ (sym there ∙ has q (Pointer it.mode base.0 it.element) base.1) in
-            let c_is : c ≡ Pointer it.mode kinds.Array it.element = same_type c _ (sym e ∙ has local (Pointer it.mode kinds.Array it.element) it.own) in
+            let c_is : c ≡ Pointer it.mode it.kind it.element = same_type c _ (sym e ∙ has local (Pointer it.mode it.kind it.element) it.own) in
             ap (target_size structs) d_is ∙ sym (ap (target_size structs) c_is);
       }
     where
@@ -201,7 +191,6 @@ module _ (vars : ℕ) (g : Scope) (few : length g.locals ≤ vars) where
       → Fits structs (with_bounds local ps f) z
   all_fit structs local [] f z low are e has valid h = h
   all_fit structs local (p ∷ ps) f z low are e has valid h =
-      let below = declared_below vars g local (bounds_in p.bounds) few (first_of g local p ps are) in
       all_fit structs (suc local) ps (entered local (bounds_in p.bounds) f) z (omega (arith, low)) (rest_of g local p ps are) (one_entered local p ps f low are e) has
       (λ x b l is there. let same : suc local + x ≡ local + suc x = omega arith in valid (suc x) b l is (subst (λ n. slice_get z.locals n ≡ Some l) same there))
       ((flows_hold structs f e.between.flow).enter_between local (bounds_in p.bounds) z (may_declare structs local (bounds_in p.bounds) z (first_of g local p ps are) has) (λ l there. first_valid (bounds_in p.bounds) refl l there) h)
@@ -209,7 +198,7 @@ module _ (vars : ℕ) (g : Scope) (few : length g.locals ≤ vars) where
       one_entered : (local : ℕ) (p : Parameter) (ps : List Parameter) (f : Knowledge) → local + length (p ∷ ps) ≤ length g.locals → AreOf g local (p ∷ ps) → IsEntered vars g f → IsEntered vars g (entered local (bounds_in p.bounds) f)
       one_entered local p ps f low are e = all_entered local (p ∷ []) f (omega (arith, low)) (λ x b is. one_of x b is) e
         where
-          one_of : (x : ℕ) (b : Bounds) → slice_get (all_bounds (p ∷ [])) x ≡ Some (Some b) → IsDeclared g.structs g.locals (local + x) b × AreLimited b
+          one_of : (x : ℕ) (b : Bounds) → slice_get (all_bounds (p ∷ [])) x ≡ Some (Some b) → MayStand g.structs g.locals (local + x) b
           one_of zero b is = are 0 b is
           one_of (suc x) b is = absurd (cc)
 
@@ -221,8 +210,8 @@ module _ (vars : ℕ) (g : Scope) (few : length g.locals ≤ vars) where
 valid_there : (structs declared : List Structure) (types : List CType) (s z : State) → HasLocals types s → IsAlike (length types) s z → (x : ℕ) (b : Bounds) (l : Local) → IsDeclared declared types x b
     → ((l : Local) → slice_get s.locals x ≡ Some l → IsValid structs (Some b) l s) → slice_get z.locals x ≡ Some l → IsValid structs (Some b) l z
 valid_there structs declared types s z has alike x b l d valid there =
-    let type : slice_get (types_of s.locals) x ≡ Some (Pointer d.mode kinds.Array d.element) = has x (Pointer d.mode kinds.Array d.element) d.own in
-    let same = alike.tracked x (slice_get_within types x (Pointer d.mode kinds.Array d.element) d.own) (λ c. absurd (let q : Some (Pointer d.mode kinds.Array d.element) ≡ Some Char = sym type ∙ c in cc)) in
+    let type : slice_get (types_of s.locals) x ≡ Some (Pointer d.mode d.kind d.element) = has x (Pointer d.mode d.kind d.element) d.own in
+    let same = alike.tracked x (slice_get_within types x (Pointer d.mode d.kind d.element) d.own) (λ c. absurd (let q : Some (Pointer d.mode d.kind d.element) ≡ Some Char = sym type ∙ c in cc)) in
     valid_alike structs declared types s z has alike x b l d (valid l (sym same ∙ there))
 
 -- where a state enters the function whose parameters are valid with their bounds, what is known is so
@@ -238,12 +227,12 @@ inside_entry structs f ps body g few formed result =
     let e = before_entry f ps body g few in
     let locals : base.locals ≡ map (λ (p : Parameter). p.type) ps = parameters_alone ps _ in
     let at : (x : ℕ) → x ≡ 0 + x = λ x. omega arith in
-    let are : AreOf base 0 ps = λ x b is. subst (λ n. IsDeclared base.structs base.locals n b × AreLimited b) (at x) (subst (λ ts. IsDeclared base.structs ts x b × AreLimited b) (sym locals) (subst (λ structs. IsDeclared structs (map (λ (p : Parameter). p.type) ps) x b × AreLimited b) (sym (structs_alone ps _)) (all_declared_so g.structs ps formed x b is))) in
+    let are : AreOf base 0 ps = λ x b is. subst (λ n. MayStand base.structs base.locals n b) (at x) (subst (λ ts. MayStand base.structs ts x b) (sym locals) (subst (λ structs. MayStand structs (map (λ (p : Parameter). p.type) ps) x b) (sym (structs_alone ps _)) (all_declared_so g.structs ps formed x b is))) in
     let many : 0 + length ps ≤ length base.locals = (let q = ap length locals in let m = length-map ps (λ (p : Parameter). p.type) in omega (arith, q, m)) in
-    let first : IsEntered vars base base.flow = record { between = e.walk.between; beyond = e.walk.beyond; declared = e.walk.declared } in
+    let first : IsEntered vars base base.flow = record { between = e.walk.between; beyond = e.walk.beyond } in
     let it = all_entered vars base e.walk.few 0 ps base.flow many are first in
     record {
-      walk = walk_between vars base (with_bounds 0 ps base.flow) (bounds_in f.result_bounds) it.between it.beyond it.declared (λ b e. subst (λ ts. AreInts ts b) (sym locals) (result b e)) (breaks_alone ps _) (continues_alone ps _) e.walk;
+      walk = walk_between vars base (with_bounds 0 ps base.flow) (bounds_in f.result_bounds) it.between it.beyond (λ b e. subst (λ ts. AreInts ts b) (sym locals) (result b e)) (breaks_alone ps _) (continues_alone ps _) e.walk;
       free = λ s good has entered z alike.
           let has_z = has_alike base.locals s z alike has in
           all_fit vars base e.walk.few structs 0 ps base.flow z many are first has_z

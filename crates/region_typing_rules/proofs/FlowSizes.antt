@@ -1,17 +1,18 @@
 -- A flow speaks of as many variables behind each step as before it.
-use Rattle.std.proofs.Common.{◌≡◌, ℕ, zero, suc, Bool, true, false, not, List, length, Option, Some, None, refl, ◌∙◌}
-use Rattle.std.specs.Prelude.{◌-◌, slice_get}
+use Rattle.std.proofs.Common.{◌≡◌, ℕ, zero, suc, Bool, true, false, not, List, length, Option, Some, None, refl, ◌∙◌, pos}
+use Rattle.std.specs.Prelude.{◌-◌, slice_get, cond}
 use Rattle.ckc_text.specs.declared.place.Span.{Span}
 use Rattle.bounds_exprs.specs.declared.term.Term.{Term}
 use Rattle.act_words.specs.declared.operator.Comparison.{Comparison}
-use Rattle.bounds_flow.specs.Flows.{Knowledge, left}
+use Rattle.bounds_flow.specs.Flows.{Knowledge, left, measured_by, number_assigned}
 use Rattle.bounds_flow.specs.Settling.{Finding, Meets, WasLost, Falls}
 use Rattle.pointer_modes.specs.Types.{CType, Int, Char, Struct, Pointer}
+use Rattle.ckc_core.specs.declared.program.Direction.TheVariants as directions
 use Rattle.ckc_core.specs.Core as core
 use Rattle.region_typing_rules.specs.Verdicts.{picked}
 use Rattle.region_typing_rules.specs.Scopes.{Scope}
-use Rattle.region_typing_rules.specs.Readings.{compared, pointer_local, is_null, null_told, same_told, term, told}
-use Rattle.region_typing_rules.specs.Knowing.{value_assigned, assigned_by, first_found, settled_as, settling, without_locals, outside_of, with_others}
+use Rattle.region_typing_rules.specs.Readings.{compared, pointer_local, is_null, null_told, same_told, is_ended_local, element_told, elements_told, place_told, term, told}
+use Rattle.region_typing_rules.specs.Knowing.{measured_local, count_assigned, value_assigned, assigned_by, first_found, settled_as, settling, without_locals, outside_of, with_others}
 use Rattle.region_typing_rules.proofs.Verdicts.{Promises}
 
 compared_size : (c : Comparison) (a b : Option Term) (truth : Bool) (f : Knowledge) → (compared c a b truth f).vars ≡ f.vars
@@ -33,12 +34,28 @@ same_told_size types left right truth f =
     one_of_size (is_null right) (null_told (pointer_local types left) (not truth) f) _ f.vars (null_told_size (pointer_local types left) (not truth) f)
     (one_of_size (is_null left) (null_told (pointer_local types right) (not truth) f) f f.vars (null_told_size (pointer_local types right) (not truth) f) refl)
 
+element_told_size : (test : Bool) (local : ℕ) (index : Option Term) (f : Knowledge) → (element_told test local index f).vars ≡ f.vars
+element_told_size false local index f = refl
+element_told_size true local None f = refl
+element_told_size true local (Some index) f = refl
+
+elements_told_size : (types : List CType) (pointer number : core.Expression) (f : Knowledge) → (elements_told types pointer number f).vars ≡ f.vars
+elements_told_size types (core.Local local bounds) number f = element_told_size (is_ended_local (slice_get types local)) local (term types number) f
+elements_told_size types (core.Sum (core.Local local bounds) directions.Forward elements site own) (core.Number (pos ℕ.zero)) f =
+    element_told_size (is_ended_local (slice_get types local)) local (term types elements) f
+elements_told_size types _ number f = refl
+
+place_told_size : (types : List CType) (p : core.Place) (f : Knowledge) → (place_told types p f).vars ≡ f.vars
+place_told_size types (core.Through pointer (core.Element number true) offset site) f = elements_told_size types pointer number f
+place_told_size types _ f = refl
+
 -- behind a condition
 pub told_size : (types : List CType) (c : core.Expression) (truth : Bool) (f : Knowledge) → (told types c truth f).vars ≡ f.vars
 told_size types (core.Number number) truth f = refl
 told_size types core.Null truth f = refl
 told_size types (core.Local local bounds) truth f = null_told_size (pointer_local types (core.Local local bounds)) truth f
-told_size types (core.Load type place bounds) truth f = refl
+told_size types (core.Load type place bounds) true f = place_told_size types place f
+told_size types (core.Load type place bounds) false f = refl
 told_size types (core.AddressOf place bounds) truth f = refl
 told_size types (core.Negate operand site) truth f = refl
 told_size types (core.Complement operand) truth f = refl
@@ -59,9 +76,17 @@ told_size types (core.Allocate count element terminated bounds) truth f = refl
 told_size types (core.Length pointer site) truth f = refl
 told_size types (core.Cast pointer bounds) truth f = refl
 
+either_size : (test : Bool) (f g : Knowledge) (n : ℕ) → f.vars ≡ n → g.vars ≡ n → (cond test f g).vars ≡ n
+either_size true f g n h h' = h
+either_size false f g n h h' = h'
+
+count_assigned_size : (local : ℕ) (pointer : Option ℕ) (to : Option Term) (f : Knowledge) → (count_assigned local pointer to f).vars ≡ f.vars
+count_assigned_size local None to f = refl
+count_assigned_size local (Some pointer) to f = either_size _ (measured_by local pointer (number_assigned local None f)) (number_assigned local None f) f.vars refl refl
+
 value_assigned_size : (t : Option CType) (types : List CType) (local : ℕ) (value : core.Expression) (f : Knowledge) → (value_assigned t types local value f).vars ≡ f.vars
 value_assigned_size None types local value f = refl
-value_assigned_size (Some Int) types local value f = refl
+value_assigned_size (Some Int) types local value f = count_assigned_size local (measured_local types value) (term types value) f
 value_assigned_size (Some Char) types local value f = refl
 value_assigned_size (Some (Struct number)) types local value f = refl
 value_assigned_size (Some (Pointer mode kind target)) types local value f = refl

@@ -1,5 +1,5 @@
 -- Pointers that are valid with the bounds that an assignment takes from their expressions, whatever those locals hold that a flow can't tell.
-use Rattle.std.proofs.Common.{◌≡◌, ℕ, List, length, Option, Some, None, refl, sym, ap, ◌∙◌, subst}
+use Rattle.std.proofs.Common.{◌≡◌, Bool, ℕ, List, length, Option, Some, None, refl, sym, ap, ◌∙◌, subst}
 use Rattle.std.specs.Prelude.{is_some, slice_get, option_map}
 use Rattle.std.proofs.lemmas.Option.{slice_get_within}
 use Rattle.bounds_exprs.specs.declared.term.Bounds.{Bounds}
@@ -17,8 +17,8 @@ use Rattle.ckc_core.specs.Meaning.{bounds_of}
 use Rattle.bounds_exprs.specs.declared.term.Term.{Term}
 use Rattle.bounds_flow.specs.declared.held.Held.{Held}
 use Rattle.bounds_flow.specs.Flows.{held_at}
-use Rattle.ckc_core.specs.Bounds.{base_byte, term_value}
-use Rattle.bounds_flow_meaning.specs.Holding.{AreDeclared, AreInts, HasSize, HaveTypes, IsInt, IsValid, target_size, types_of}
+use Rattle.ckc_core.specs.Bounds.{Ends, base_byte, ends_at, term_value}
+use Rattle.bounds_flow_meaning.specs.Holding.{at_node, AreDeclared, AreInts, HasSize, HaveTypes, IsInt, IsValid, target_size, types_of}
 use Rattle.bounds_flow_meaning.proofs.Sums.{variables_are_bases}
 use Rattle.bounds_flow_meaning.proofs.Validity.{alike_here as local_alike, carried, grown_valid, grows_here, stay_ends}
 use Rattle.region_typing_rules.specs.Verdicts.{picked}
@@ -170,6 +170,10 @@ module _ (structs declared : List Structure) (types : List CType) (u v : State) 
   same_base None h block byte = refl
   same_base (Some q) h block byte = let it = h q refl in rw (same_local q (Pointer it.0 it.1 it.2) it.3 (λ q. absurd (cc))) refl
 
+  -- such bounds have their ends where they had them
+  pub ends_alike : (size : ℕ) (ended : Bool) (p : ℕ) (b : Bounds) → IsDeclared declared types p b → (site : Site) (block byte : ℕ) (e : Ends) → ends_at (at_node b size ended site) u.locals block byte ≡ Some e → ends_at (at_node b size ended site) v.locals block byte ≡ Some e
+  ends_alike size ended p b d = stay_ends size b b u.locals v.locals (same_base b.base (λ q e. let it = d.base q e in (d.mode, it.0, d.element, it.1))) (same_term b.lo d.ints.lo) (same_term b.hi d.ints.hi)
+
   pub valid_alike : (p : ℕ) (b : Bounds) (l : Local) → IsDeclared declared types p b → IsValid structs (Some b) l u → IsValid structs (Some b) l v
   valid_alike p b l d h =
       carried structs b b l l u v (subst (λ x. Grows (shapes u.blocks) (shapes x)) (sym alike.blocks) (grows_here (shapes u.blocks))) (local_alike l)
@@ -195,5 +199,5 @@ module _ (structs declared : List Structure) (types : List CType) (u v : State) 
       by None e = subst (λ o. IsValid structs o l v) (sym e) tt
       by (Some b) e =
           let it = formed p b e in
-          let there_u : slice_get u.locals p ≡ Some l = sym (same_local p (Pointer it.mode kinds.Array it.element) it.own (λ q. absurd (cc))) ∙ there in
+          let there_u : slice_get u.locals p ≡ Some l = sym (same_local p (Pointer it.mode it.kind it.element) it.own (λ q. absurd (cc))) ∙ there in
           subst (λ o. IsValid structs o l v) (sym e) (valid_alike p b l it (subst (λ o. IsValid structs o l u) e (d p l there_u)))

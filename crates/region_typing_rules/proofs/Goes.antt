@@ -16,7 +16,7 @@ use Rattle.ckc_core.specs.declared.program.PointerBounds.{PointerBounds}
 use Rattle.ckc_core.specs.declared.program.Direction.{Direction}
 use Rattle.bounds_exprs.specs.declared.term.Bounds.{Bounds}
 use Rattle.ckc_core.specs.Steps.{Result, Flow, locals_for, Next, Broke, Continued, Returned, asked, parameters_of}
-use Rattle.ckc_core.specs.Meaning.{Knot, bounds_of, value}
+use Rattle.ckc_core.specs.Meaning.{Knot, bounds_of}
 use Rattle.region_typing_rules.specs.Scopes.{Scope}
 use Rattle.bounds_exprs.specs.Terms.{is_within, term_limit}
 use Rattle.region_typing_rules.specs.Verdicts.{picked}
@@ -118,7 +118,7 @@ module _ (g : Frame) (types : List CType) (here : Scope) (reaches : Extends here
   base_of (typed.allocate_ended h fresh bounds) b is m d target same = absurd (cc)
   base_of (typed.cast h elements counts within size limited ints bases) b is m d target same = absurd (cc)
   base_of (typed.cast_single h elements within bounds) b is m d target same = absurd (cc)
-  base_of (typed.cast_unbounded h elements) b is m d target same = absurd (cc)
+  base_of (typed.cast_unbounded h elements counts) b is m d target same = absurd (cc)
 
 -- the shapes of the blocks of a state
 abbrev pub shaped : State → List Shape
@@ -172,7 +172,9 @@ HasResult structs (Some Int) b v s = Unit {0}
 HasResult structs (Some Char) b v s = Unit {0}
 HasResult structs (Some (Struct number)) b v s = Unit {0}
 HasResult structs (Some (Pointer m kinds.One t)) b v s = Unit {0}
-HasResult structs (Some (Pointer m kinds.Nt t)) b v s = Unit {0}
+HasResult structs (Some (Pointer m kinds.Nt t)) None v s = Unit {0}
+HasResult structs (Some (Pointer m kinds.Nt t)) (Some b) None s = Unit {0}
+HasResult structs (Some (Pointer m kinds.Nt t)) (Some b) (Some v) s = IsValid structs (Some b) (record { type = Pointer m kinds.Nt t; value = v }) s
 HasResult structs (Some (Pointer m kinds.Array t)) None v s = Unit {0}
 HasResult structs (Some (Pointer m kinds.Array t)) (Some b) None s = Unit {0}
 HasResult structs (Some (Pointer m kinds.Array t)) (Some b) (Some v) s = IsValid structs (Some b) (record { type = Pointer m kinds.Array t; value = v }) s

@@ -14,19 +14,20 @@ use Rattle.ckc_core.specs.Core as core
 use Rattle.region_typing_rules.specs.Verdicts.{Verdict, Passes, Stops, passing}
 use Rattle.region_typing_rules.specs.Scopes.{Scope, Signature, FileVariable, function_named}
 use Rattle.region_typing_rules.specs.Types.{is_scalar, base_type}
-use Rattle.region_typing_rules.specs.Expressions.{Places, is_import, side_number, call_typed, site_at, row_of}
+use Rattle.region_typing_rules.specs.Expressions.{Places, is_import, side_number, call_typed, site_at}
 use Rattle.bounds_flow.specs.Flows.{Knowledge, cut_off}
 use Rattle.bounds_exprs.specs.declared.term.Bounds.{Bounds}
-use Rattle.region_typing_rules.specs.DeclaredBounds.{declared_bounds}
+use Rattle.region_typing_rules.specs.DeclaredBounds.{declared_bounds, row_of}
 use Rattle.region_typing_rules.specs.Readings.{told}
 use Rattle.region_typing_rules.specs.Knowing.{assigned_by, settling, knowing, when, cut, broken, continued, at_loop}
 use Rattle.region_typing_rules.specs.Cells.{is_length}
-use Rattle.region_typing_rules.specs.Statements.{Walked, both, assignment, assigning, initialised, zero_value, with_local, first_value, declared, bounded_local, declarator, declarators, declaration, behind_block, behind_branch, at_alternative, behind_both, behind_loop, before_step, in_loop, is_unchecked, condition, optional_condition, optional_step, first_part, return, statement, statements, with_array, row_type, first_length}
+use Rattle.region_typing_rules.specs.Statements.{Walked, both, assignment, assigning, initialised, zero_value, with_local, first_value, declared, bounded_local, declarator, declarators, declaration, behind_block, behind_branch, at_alternative, behind_both, behind_loop, before_step, in_loop, is_unchecked, condition, optional_condition, optional_step, first_part, return, statement, statements, with_array, before_end, row_type, first_length}
 use Rattle.region_typing_rules.specs.Typed.{Frame, IsScalar}
 use Rattle.region_typing_rules.proofs.Verdicts.{Promises, passing_promises, needs_promises, anything_promised, later_promises, Extends, extends_append}
 use Rattle.region_typing_rules.proofs.Known.{IsKnown, IsClosed, base_known}
 use Rattle.region_typing_rules.proofs.Knowledge.{IsTrusted, IsTainted, IsVariable, KnowsFile}
 use Rattle.region_typing_rules.proofs.FlowSizes.{told_size, assigned_size, settling_size, outside_size, others_size}
+use Rattle.region_typing_rules.proofs.Memory.{may_lead}
 use Rattle.region_typing_rules.proofs.LocalArrays.{memory_of, settled_array, declarator_promises}
 
 -- what stands at file level stays, and so do the result and the loop; locals are added, which are scalars
@@ -217,13 +218,15 @@ bounded_local_grows at g d t span b few named =
     (λ initial _. needs_promises (GrowsTo {A = core.Statement} g) (is_scalar t) E13 span _ (λ scalar.
     declared_grows g inner d.initializer t (length g.locals) span initial (local_grows d.name.number t b g scalar few named)))
 
-array_grows : (at : Places) (g : Scope) (d : Declarator) (t : CType) (count : ℕ) (span : Span) → length g.locals < g.flow.vars → IsNamedIn g t
-    → Promises (GrowsTo {A = core.Statement} g) (settled_array (with_array d.name.number t count g) (length g.locals) (memory_of (with_array d.name.number t count g) t count (site_at at span)) span)
-array_grows at g d t count span few named =
-    let inner = with_array d.name.number t count g in
-    let set = core.SetLocal (length g.locals) (memory_of inner t count (site_at at span)) in
-    further_promised g inner (settled_array inner (length g.locals) (memory_of inner t count (site_at at span)) span)
-    (arrays_grow inner.arrays g (with_local d.name.number (row_type t) (Some (row_of count)) g) (local_grows d.name.number (row_type t) (Some (row_of count)) g refl few named))
+array_grows : (at : Places) (g : Scope) (d : Declarator) (t : CType) (count : ℕ) (ended : Bool) (span : Span) → length g.locals < g.flow.vars → IsNamedIn g (row_type ended t)
+    → Promises (GrowsTo {A = core.Statement} g) (settled_array (with_array d.name.number t count ended g) (length g.locals) (memory_of (with_array d.name.number t count ended g) ended t count (site_at at span)) span)
+array_grows at g d t count ended span few named =
+    let inner = with_array d.name.number t count ended g in
+    let memory = memory_of inner ended t count (site_at at span) in
+    let set = core.SetLocal (length g.locals) memory in
+    let bounds = Some (row_of (before_end ended count)) in
+    further_promised g inner (settled_array inner (length g.locals) memory span)
+    (arrays_grow inner.arrays g (with_local d.name.number (row_type ended t) bounds g) (local_grows d.name.number (row_type ended t) bounds g refl few named))
     (settled_grows inner (both (core.SetLocal (length g.locals) core.Null) set) (assigned_by inner.locals set inner.flow) span (assigned_size inner.locals set inner.flow))
 
 pub declarator_grows : (at : Places) (g : Scope) (base : TypeTree) (type : CType) (span : Span) (d : Declarator) → IsNamedIn g type → Promises (GrowsTo {A = core.Statement} g) (declarator at g base type span d)
@@ -232,7 +235,7 @@ declarator_grows at g base type span d named =
     (λ few t named_t. passing_promises (λ (b : Option Bounds). Unit {0}) (GrowsTo {A = core.Statement} g) (declared_bounds (with_local d.name.number t None g) t (length g.locals) d.bounds) _
     (anything_promised (declared_bounds (with_local d.name.number t None g) t (length g.locals) d.bounds))
     (λ b _. bounded_local_grows at g d t span b (ltb-true (length g.locals) g.flow.vars few) named_t))
-    (λ few t named_t count here counted bytes. array_grows at g d t count span (ltb-true (length g.locals) g.flow.vars few) named_t)
+    (λ few t named_t count here counted ended may. array_grows at g d t count ended span (ltb-true (length g.locals) g.flow.vars few) (λ tagged. (may_lead g.structs t ended may, named_t tagged)))
 
 pub declarators_grow : (at : Places) (g : Scope) (base : TypeTree) (type : CType) (span : Span) (ds : List Declarator) → IsNamedIn g type → Promises (GrowsTo {A = core.Statement} g) (declarators at g base type span ds)
 declarators_grow at g base type span [] named = stays g

@@ -19,6 +19,8 @@ use Rattle.built_forms.specs.Built.{is_number_result, is_number_parameter, built
 use Rattle.ckc_tree.specs.Items.{Item}
 use Rattle.ckc_tree.specs.Heights.{◌beside◌, statements_reach, optional_bounds_reach, result_reach, parameters_reach, optional_body_reach, item_reach, items_reach}
 use Rattle.bounds_exprs.specs.declared.term.Bounds.{Bounds}
+use Rattle.pointer_modes.specs.declared.ctype.Mode.{Mode}
+use Rattle.pointer_modes.specs.declared.ctype.Kind.{Kind}
 use Rattle.pointer_modes.specs.declared.ctype.Kind.TheVariants as kinds
 use Rattle.pointer_modes.specs.Types.{CType, Int, Char, Struct, Pointer, Structure}
 use Rattle.pointer_modes.specs.Layout.{size_of}
@@ -42,11 +44,12 @@ use Rattle.region_typing_rules.proofs.Growth.{Grows, stays, grows_further, file_
 use Rattle.region_typing_rules.proofs.Stacks.{beside_first, beside_second, around_higher, HasFew}
 use Rattle.region_typing_rules.proofs.StatementStacks.{HaveFew, statements_low}
 use Rattle.region_typing_rules.proofs.Signatures.{named_further, named_last, side_further, Agrees, agrees_equal, scalars_all, result_scalar, IsDeclared}
-use Rattle.region_typing_rules.specs.KnownIsSo.{IsSo, IsWalk}
+use Rattle.region_typing_rules.specs.KnownIsSo.{IsSo}
+use Rattle.region_typing_rules.proofs.Ways.{IsWalk}
 use Rattle.region_typing_rules.proofs.Sound.{AreSound, statements_sound}
 use Rattle.region_typing_rules.proofs.Goes.{EndsAs, has_locals, runs_further, types_held}
 use Rattle.region_typing_rules.proofs.Calls.{AreEntered}
-use Rattle.region_typing_rules.proofs.Parameters.{AreForResult, AreFormed, AreParameters, all_bounds, all_formed, bounds_size, few_parameters, have_rows, none_listed, number_base, number_parameters, parameters_are, parameters_known, result_formed, starred_number}
+use Rattle.region_typing_rules.proofs.Parameters.{IsForResult, AreForResult, AreFormed, AreParameters, all_bounds, all_formed, bounds_size, few_parameters, have_rows, none_listed, number_base, number_parameters, parameters_are, parameters_known, result_formed, starred_number}
 use Rattle.region_typing_rules.proofs.KeptParameters.{body_keeps}
 use Rattle.region_typing_rules.proofs.Entries.{inside_entry}
 use Rattle.region_typing_rules.proofs.Safe.{IsSafe, setting_of}
@@ -365,21 +368,21 @@ module _ (height entry : ℕ) where
       is_known : IsKnownAs (with_function known f w.scope) f
 
     -- a result with bounds is sized
+    row_sized : (structs : List Structure) (types : List CType) (m : Mode) (kind : Kind) (t : CType) (b : Bounds) → IsForResult structs types (Some (Pointer m kind t)) b → 0 < size_of structs t
+    row_sized structs types m kind t b it = let same : it.are.element ≡ t = (let q = it.are.is in cc) in subst (λ c. 0 < size_of structs c) same it.some
+
     sized_result : (structs : List Structure) (types : List CType) (result : Option CType) (written : WrittenBounds) → AreForResult structs types result written → IsSizedResult structs result (bounds_in written)
     sized_result structs types None written h = tt
     sized_result structs types (Some Int) written h = tt
     sized_result structs types (Some Char) written h = tt
     sized_result structs types (Some (Struct n)) written h = tt
     sized_result structs types (Some (Pointer m kinds.One t)) written h = tt
-    sized_result structs types (Some (Pointer m kinds.Nt t)) written h = tt
-    sized_result structs types (Some (Pointer m kinds.Array t)) written h = by (bounds_in written) refl
-      where
-        by : (o : Option Bounds) → bounds_in written ≡ o → IsSizedResult structs (Some (Pointer m kinds.Array t)) o
-        by None e = tt
-        by (Some b) e =
-            let it = h b e in
-            let same : it.are.element ≡ t = (let q = it.are.is in cc) in
-            subst (λ c. 0 < size_of structs c) same it.some
+    sized_result structs types (Some (Pointer m kinds.Nt t)) None h = tt
+    sized_result structs types (Some (Pointer m kinds.Nt t)) (Some None) h = tt
+    sized_result structs types (Some (Pointer m kinds.Nt t)) (Some (Some b)) h = row_sized structs types m kinds.Nt t b (h b refl)
+    sized_result structs types (Some (Pointer m kinds.Array t)) None h = tt
+    sized_result structs types (Some (Pointer m kinds.Array t)) (Some None) h = tt
+    sized_result structs types (Some (Pointer m kinds.Array t)) (Some (Some b)) h = row_sized structs types m kinds.Array t b (h b refl)
 
     -- those that are found are found among one more
     named_so_far : (f : Signature) (functions : List Signature) → AllByRecursion (IsNamed w.scope.functions) functions → AllByRecursion (IsNamed (w.scope.functions ++ f ∷ [])) functions

@@ -1,6 +1,7 @@
--- An expression leaves the locals as they are, and blocks are only added.
-use Rattle.std.proofs.Common.{◌≡◌, ℕ, zero, suc, ◌+◌, ◌*◌, Bool, true, false, ℤ, ◌+ℤ◌, List, [], ◌∷◌, length, Option, Some, None, refl, ◌∙◌, subst}
+-- An expression leaves the locals as they are, and blocks are only added, of which each that a zero ends keeps it.
+use Rattle.std.proofs.Common.{◌≡◌, ℕ, zero, suc, ◌+◌, ◌*◌, Bool, true, false, ℤ, ◌+ℤ◌, List, [], ◌∷◌, ◌++◌, length, Option, Some, None, refl, sym, ◌∙◌, subst}
 use Rattle.std.specs.Ordering.{int_eq}
+use Rattle.std.specs.List.{AllByRecursion}
 use Rattle.std.specs.Prelude.{◌==◌, ◌||◌, not, nat_lt, slice_get, pos, negsuc}
 use Rattle.flat_bytes.specs.Blocks.{first_offset, is_refused}
 use Rattle.act_words.specs.Acts.{Passed}
@@ -20,13 +21,16 @@ use Rattle.ckc_core.specs.declared.program.Direction.TheVariants as directions
 use Rattle.ckc_core.specs.declared.program.PointerBounds.{PointerBounds}
 use Rattle.ckc_core.specs.Bounds.{Ends as EndsOf, ends_at, Pointed, with_ends, is_valid}
 use Rattle.ckc_core.specs.Core as core
-use Rattle.ckc_core.specs.States.{Value, Number, Null, At, Cell, Local, State, Grows, shapes, shape, in_world, cell_at, same_type}
+use Rattle.ckc_core.specs.States.{Value, Number, Null, At, Cell, Local, State, Grows, shapes, shape, in_world, cell_at, same_type, zero_of}
 use Rattle.ckc_core.specs.Steps.{variable_if, Result, given, checked, value_if, value_in, load_at, place_if, pointer_to, truth, same_place, test_given, result_of, arithmetic_of, compared, negated, complemented, is_zero, low_byte_of, asked, words_of, reply_as, passed, cross, cross_if, call_tainted, takes, enter_if, called, result_given, choose, back, place_at}
 use Rattle.ckc_core.specs.Meaning.{Knot, bounds_of, Setting, audit, cast_to, cast_if, cast_within, element, element_within, end_kept, length_of, number_of, place, storable, Target, reached, site_of, sound_if, summed, value, values}
-use Rattle.ckc_core.specs.Pointers.{new_block, number_given, bytes_of_block, byte_read, checked_if, counted, counted_from, counted_if, distance, lies_in, lies_up_to, made_elements, read_as, are_within, cell_behind, reaches, pointer_if, pointer_at, ordered_if, ordered, not_null, counter_behind, element_size, made_if, allocated}
+use Rattle.ckc_core.specs.Pointers.{cells_of_elements, element_cells, new_block, number_given, bytes_of_block, byte_read, checked_if, counted, counted_from, counted_if, distance, lies_in, lies_up_to, made_elements, read_as, are_within, cell_behind, reaches, pointer_if, pointer_at, ordered_if, ordered, not_null, counter_behind, element_size, made_if, allocated}
 use Rattle.ckc_text.specs.declared.code.Code.{Code}
 use Rattle.ckc_text.specs.declared.code.Code.TheVariants.{C2, C3, C5}
 use Rattle.std.proofs.lemmas.List.{map-append}
+use Rattle.std.proofs.lemmas.Option.{same_Some}
+use Rattle.bounds_flow_meaning.specs.Zeros.{EndInZeros}
+use Rattle.region_typing_rules.proofs.LastZeros.{LastIsZero, zeros_made}
 use Rattle.region_typing_rules.proofs.Values.{grows_here, grows_on}
 use Rattle.region_typing_rules.specs.KnownIsSo.{WhereGiven}
 
@@ -40,22 +44,36 @@ after_here s = (grows_here (shapes s.blocks), refl)
 pub after_on : (r s t : State) → IsAfter r s → IsAfter s t → IsAfter r t
 after_on r s t h k = (grows_on (shapes r.blocks) (shapes s.blocks) (shapes t.blocks) h.0 k.0, k.1 ∙ h.1)
 
+-- and blocks that a zero ends keep it
+abbrev pub IsLater : State → State → Type 0
+IsLater r s = IsAfter r s × (EndInZeros r.blocks → EndInZeros s.blocks)
+
+pub later_here : (s : State) → IsLater s s
+later_here s = (after_here s, λ h. h)
+
+later_on : (r s t : State) → IsLater r s → IsLater s t → IsLater r t
+later_on r s t h k = (after_on r s t h.0 k.0, λ x. k.1 (h.1 x))
+
 -- blocks are only added to those of this state
 abbrev pub Grown : {A : Type 0} → State → Result A → Type 0
 Grown r o = WhereGiven (λ v s. Grows (shapes r.blocks) (shapes s.blocks)) o
 
+-- the same, and those that a zero ends keep it
+abbrev pub Adds : {A : Type 0} → State → Result A → Type 0
+Adds r o = WhereGiven (λ v s. Grows (shapes r.blocks) (shapes s.blocks) × (EndInZeros r.blocks → EndInZeros s.blocks)) o
+
 -- what is given comes behind this state, among the same locals
 abbrev pub Keeps : State → {A : Type 0} → Result A → Type 0
-Keeps r o = WhereGiven (λ v s. IsAfter r s) o
+Keeps r o = WhereGiven (λ v s. IsLater r s) o
 
-pub keeps_on : {A B : Type 0} (r : State) (o : Result A) (next : A → State → Result B) → Keeps r o → ((v : A) (s : State) → IsAfter r s → Keeps r (next v s)) → Keeps r (and_then o next)
+pub keeps_on : {A B : Type 0} (r : State) (o : Result A) (next : A → State → Result B) → Keeps r o → ((v : A) (s : State) → IsLater r s → Keeps r (next v s)) → Keeps r (and_then o next)
 keeps_on r (Gives v s) next h more = more v s h
 keeps_on r (Ends ending s) next h more = tt
 keeps_on r (Stuck site s) next h more = tt
 keeps_on r (Unsound site s) next h more = tt
 keeps_on r Short next h more = tt
 
-pub asked_keeps : {A B : Type 0} (r : State) (o : Asked A) (s : State) (next : A → State → Result B) → IsAfter r s → ((v : A) (t : State) → IsAfter r t → Keeps r (next v t)) → Keeps r (asked o s next)
+pub asked_keeps : {A B : Type 0} (r : State) (o : Asked A) (s : State) (next : A → State → Result B) → IsLater r s → ((v : A) (t : State) → IsLater r t → Keeps r (next v t)) → Keeps r (asked o s next)
 asked_keeps r (Got v w) s next kept more = more v (in_world w s) kept
 asked_keeps r (Ended ending w) s next kept more = tt
 
@@ -64,23 +82,54 @@ chosen_keeps r true first second h other = h
 chosen_keeps r false first second h other = other
 
 -- a call that is over stands among the locals of the function that called
-pub back_keeps : {A : Type 0} (r s u : State) (o : Result A) → IsAfter r s → u.blocks ≡ s.blocks → Grown u o → Keeps r (and_then o (back s))
-back_keeps r s u (Gives v t) kept same grown =
-    (grows_on (shapes r.blocks) (shapes s.blocks) (shapes t.blocks) kept.0 (subst (λ b. Grows (shapes b) (shapes t.blocks)) same grown), kept.1)
+pub back_keeps : {A : Type 0} (r s u : State) (o : Result A) → IsLater r s → u.blocks ≡ s.blocks → Adds u o → Keeps r (and_then o (back s))
+back_keeps r s u (Gives v t) kept same grown = (
+  (grows_on (shapes r.blocks) (shapes s.blocks) (shapes t.blocks) kept.0.0 (subst (λ b. Grows (shapes b) (shapes t.blocks)) same grown.0), kept.0.1),
+  λ h. grown.1 (subst EndInZeros (sym same) (kept.1 h)),
+)
 back_keeps r s u (Ends ending t) kept same grown = tt
 back_keeps r s u (Stuck site t) kept same grown = tt
 back_keeps r s u (Unsound site t) kept same grown = tt
 back_keeps r s u Short kept same grown = tt
 
 -- and behind an earlier one
-pub later : {A : Type 0} (r s : State) (o : Result A) → IsAfter r s → Keeps s o → Keeps r o
-later r s (Gives v t) kept h = after_on r s t kept h
+pub later : {A : Type 0} (r s : State) (o : Result A) → IsLater r s → Keeps s o → Keeps r o
+later r s (Gives v t) kept h = later_on r s t kept h
 later r s (Ends ending t) kept h = tt
 later r s (Stuck site t) kept h = tt
 later r s (Unsound site t) kept h = tt
 later r s Short kept h = tt
 
-module _ (r : State) (s : State) (kept : IsAfter r s) where
+-- ---- new blocks begin with zeros
+
+zero_value : (t : CType) → is_zero (zero_of t) ≡ true
+zero_value Int = refl
+zero_value Char = refl
+zero_value (Struct number) = refl
+zero_value (Pointer mode kind target) = refl
+
+abbrev AreZeros : List Cell → Type 0
+AreZeros cells = AllByRecursion (λ (c : Cell). is_zero c.value ≡ true) cells
+
+zeros_in : (element : List Initial) (cells : List Cell) → AreZeros cells → AreZeros (element_cells element ++ cells)
+zeros_in [] cells h = h
+zeros_in (i ∷ element) cells h = (zero_value i.type, zeros_in element cells h)
+
+zeros_of_elements : (n : ℕ) (element : List Initial) → AreZeros (cells_of_elements n element)
+zeros_of_elements zero element = tt
+zeros_of_elements (suc n) element = zeros_in element (cells_of_elements n element) (zeros_of_elements n element)
+
+zero_at : (cells : List Cell) → AreZeros cells → (k : ℕ) (c : Cell) → slice_get cells k ≡ Some c → is_zero c.value ≡ true
+zero_at [] h k c e = absurd (cc)
+zero_at (x ∷ cells) h zero c e = subst (λ (c : Cell). is_zero c.value ≡ true) (same_Some x c e) h.0
+zero_at (x ∷ cells) h (suc k) c e = zero_at cells h.1 k c e
+
+new_last : (terminated : Bool) (n : ℕ) (element : List Initial) → LastIsZero (new_block terminated n element)
+new_last terminated n element ended k c found last = zero_at (cells_of_elements (made_elements terminated n) element) (zeros_of_elements (made_elements terminated n) element) k c found
+
+-- ---- steps
+
+module _ (r : State) (s : State) (kept : IsLater r s) where
   pub given_keeps : (o : Option Local) → Keeps r (given o s)
   given_keeps None = tt
   given_keeps (Some v) = kept
@@ -183,8 +232,10 @@ module _ (r : State) (s : State) (kept : IsAfter r s) where
 
   pub made_keeps_if : (test terminated : Bool) (n : ℕ) (element : List Initial) → Keeps r (made_if test terminated n element s)
   made_keeps_if true terminated n element = kept
-  made_keeps_if false terminated n element =
-      (grows_on (shapes r.blocks) (shapes s.blocks) _ kept.0 (shape (new_block terminated n element) ∷ [], map-append shape s.blocks (new_block terminated n element ∷ [])), kept.1)
+  made_keeps_if false terminated n element = (
+    (grows_on (shapes r.blocks) (shapes s.blocks) _ kept.0.0 (shape (new_block terminated n element) ∷ [], map-append shape s.blocks (new_block terminated n element ∷ [])), kept.0.1),
+    λ h. zeros_made s.blocks (new_block terminated n element) (kept.1 h) (new_last terminated n element),
+  )
 
   pub allocated_keeps : (size : ℕ) (terminated : Bool) (element : List Initial) (z : ℤ) → Keeps r (allocated size terminated element z s)
   allocated_keeps size terminated element (negsuc n) = kept
@@ -256,7 +307,7 @@ module _ (r : State) (s : State) (kept : IsAfter r s) where
   result_keeps (Some v) = kept
 
 -- bytes are counted, each for a tick
-read_keeps : (r : State) (type : CType) (v : Value) (site : Option Site) (n : ℕ) (more : Result Value) (s : State) → IsAfter r s → Keeps r more → Keeps r (read_as type v site n more s)
+read_keeps : (r : State) (type : CType) (v : Value) (site : Option Site) (n : ℕ) (more : Result Value) (s : State) → IsLater r s → Keeps r more → Keeps r (read_as type v site n more s)
 read_keeps r Int v site n more s kept h = tt
 read_keeps r (Struct number) v site n more s kept h = tt
 read_keeps r (Pointer mode kind target) v site n more s kept h = tt
@@ -268,18 +319,18 @@ read_keeps r Char (Number z) site n more s kept h = by (is_zero (Number z))
     by true = kept
     by false = h
 
-byte_read_keeps : (r : State) (o : Option Cell) (site : Option Site) (n : ℕ) (more : Result Value) (s : State) → IsAfter r s → Keeps r more → Keeps r (byte_read o site n more s)
+byte_read_keeps : (r : State) (o : Option Cell) (site : Option Site) (n : ℕ) (more : Result Value) (s : State) → IsLater r s → Keeps r more → Keeps r (byte_read o site n more s)
 byte_read_keeps r None site n more s kept h = tt
 byte_read_keeps r (Some cell) site n more s kept h = read_keeps r cell.type cell.value site n more s kept h
 
-counted_keeps : (r : State) (more budget : ℕ) (site : Option Site) (block byte n : ℕ) (s : State) → IsAfter r s → Keeps r (counted_from more budget site block byte n s)
+counted_keeps : (r : State) (more budget : ℕ) (site : Option Site) (block byte n : ℕ) (s : State) → IsLater r s → Keeps r (counted_from more budget site block byte n s)
 counted_keeps r zero budget site block byte n s kept = tt
 counted_keeps r (suc more) budget site block byte n s kept =
     asked_keeps r (spend_tick budget s.world) s _ kept
     (λ _ t t_kept. byte_read_keeps r (cell_at t.blocks block byte) site n (counted_from more budget site block (byte + 1) (n + 1) t) t t_kept
     (counted_keeps r more budget site block (byte + 1) (n + 1) t t_kept))
 
-pub length_keeps : (r s : State) → IsAfter r s → (budget : ℕ) (site : Site) (v : Value) (ends : Option EndsOf) → Keeps r (length_of budget site v ends s)
+pub length_keeps : (r s : State) → IsLater r s → (budget : ℕ) (site : Site) (v : Value) (ends : Option EndsOf) → Keeps r (length_of budget site v ends s)
 length_keeps r s kept budget site (Number z) ends = tt
 length_keeps r s kept budget site Null ends = tt
 length_keeps r s kept budget site (At block byte) None = tt
@@ -289,10 +340,10 @@ length_keeps r s kept budget site (At block byte) (Some e) =
 
 -- calls of functions keep the locals of the one that calls, and those and the sandbox only add blocks
 abbrev pub CallsKeep : Knot → Type 0
-CallsKeep k = ((function : ℕ) (vs : List Value) (s : State) → Keeps s (k.call function vs s)) × ((s : State) → Grown s (k.sandbox s))
+CallsKeep k = ((function : ℕ) (vs : List Value) (s : State) → Keeps s (k.call function vs s)) × ((s : State) → Adds s (k.sandbox s))
 
 module _ (audited : Bool) (g : Setting) (k : Knot) (calls : CallsKeep k) where
-  pub reply_keeps : (r : State) (type : Option CType) (site : Site) (reply : ℕ) (s : State) → IsAfter r s → Keeps r (reply_as type site reply s)
+  pub reply_keeps : (r : State) (type : Option CType) (site : Site) (reply : ℕ) (s : State) → IsLater r s → Keeps r (reply_as type site reply s)
   reply_keeps r None site reply s kept = kept
   reply_keeps r (Some Int) site reply s kept = kept
   reply_keeps r (Some Char) site reply s kept = by_size (nat_lt reply 256) refl
@@ -303,41 +354,41 @@ module _ (audited : Bool) (g : Setting) (k : Knot) (calls : CallsKeep k) where
   reply_keeps r (Some (Struct number)) site reply s kept = tt
   reply_keeps r (Some (Pointer mode kind target)) site reply s kept = tt
 
-  pub called_at : (function : ℕ) (vs : List Value) (r : State) (s : State) → IsAfter r s → Keeps r (k.call function vs s)
+  pub called_at : (function : ℕ) (vs : List Value) (r : State) (s : State) → IsLater r s → Keeps r (k.call function vs s)
   called_at function vs r s kept = later r s (k.call function vs s) kept (calls.0 function vs s)
 
-  pub passed_keeps : (i : Import) (site : Site) (r : State) (s : State) → IsAfter r s → Keeps r (passed k i site s)
+  pub passed_keeps : (i : Import) (site : Site) (r : State) (s : State) → IsLater r s → Keeps r (passed k i site s)
   passed_keeps i site r s kept =
       keeps_on r (and_then (k.sandbox (record s { depth = s.depth + 1 })) (back s)) (reply_as i.result site)
       (back_keeps r s (record s { depth = s.depth + 1 }) (k.sandbox (record s { depth = s.depth + 1 })) kept refl (calls.1 (record s { depth = s.depth + 1 })))
       (λ reply t t_kept. reply_keeps r i.result site reply t t_kept)
 
-  pub cross_keeps : (import : ℕ) (i : Import) (site : Site) (o : Option (List ℕ)) (r : State) (s : State) → IsAfter r s → Keeps r (cross g k import i site o s)
+  pub cross_keeps : (import : ℕ) (i : Import) (site : Site) (o : Option (List ℕ)) (r : State) (s : State) → IsLater r s → Keeps r (cross g k import i site o s)
   cross_keeps import i site None r s kept = tt
   cross_keeps import i site (Some words) r s kept =
       asked_keeps r (spend_tick g.budget s.world) s _ kept (λ _ t t_kept. asked_keeps r (enter_call t.depth t.world) t _ t_kept
       (λ _ u u_kept. asked_keeps r (touch (Passed import words) u.world) u _ u_kept (λ _ v v_kept. passed_keeps i site r v v_kept)))
 
-  pub crossed_keeps : (test : Bool) (import : ℕ) (i : Import) (site : Site) (vs : List Value) (r : State) (s : State) → IsAfter r s → Keeps r (cross_if test g k import i site vs s)
+  pub crossed_keeps : (test : Bool) (import : ℕ) (i : Import) (site : Site) (vs : List Value) (r : State) (s : State) → IsLater r s → Keeps r (cross_if test g k import i site vs s)
   crossed_keeps true import i site vs r s kept = cross_keeps import i site (words_of vs) r s kept
   crossed_keeps false import i site vs r s kept = tt
 
-  pub tainted_keeps : (import : ℕ) (o : Option Import) (site : Site) (vs : List Value) (r : State) (s : State) → IsAfter r s → Keeps r (call_tainted g k import o site vs s)
+  pub tainted_keeps : (import : ℕ) (o : Option Import) (site : Site) (vs : List Value) (r : State) (s : State) → IsLater r s → Keeps r (call_tainted g k import o site vs s)
   tainted_keeps import None site vs r s kept = tt
   tainted_keeps import (Some i) site vs r s kept = crossed_keeps (i.parameters == length vs) import i site vs r s kept
 
-  pub entered_keeps : (test : Bool) (function : ℕ) (vs : List Value) (r : State) (s : State) → IsAfter r s → Keeps r (enter_if test g k function vs s)
+  pub entered_keeps : (test : Bool) (function : ℕ) (vs : List Value) (r : State) (s : State) → IsLater r s → Keeps r (enter_if test g k function vs s)
   entered_keeps false function vs r s kept = tt
   entered_keeps true function vs r s kept =
       asked_keeps r (spend_tick g.budget s.world) s _ kept (λ _ t t_kept. asked_keeps r (enter_call t.depth t.world) t _ t_kept (λ _ u u_kept. called_at function vs r u u_kept))
 
-  pub called_keeps : (r : State) (callee : Callee) (vs : List Value) (s : State) → IsAfter r s → Keeps r (called g k callee vs s)
+  pub called_keeps : (r : State) (callee : Callee) (vs : List Value) (s : State) → IsLater r s → Keeps r (called g k callee vs s)
   called_keeps r (callees.Trusted function) vs s kept = entered_keeps (takes (slice_get g.program.functions function) vs) function vs r s kept
   called_keeps r (callees.Tainted import site) vs s kept = tainted_keeps import (slice_get g.program.imports import) site vs r s kept
 
   module _ (r : State) where
     mutual
-      pub value_keeps : (e : core.Expression) (s : State) → IsAfter r s → Keeps r (value audited g k e s)
+      pub value_keeps : (e : core.Expression) (s : State) → IsLater r s → Keeps r (value audited g k e s)
       value_keeps (core.Number z) s kept = value_keeps_if r s kept (is_word_number z) None (Number z)
       value_keeps core.Null s kept = kept
       value_keeps (core.Local i bounds) s kept =
@@ -406,20 +457,31 @@ module _ (audited : Bool) (g : Setting) (k : Knot) (calls : CallsKeep k) where
           (λ v t t_kept. cast_keeps r t t_kept bounds (with_ends (bounds_of pointer) v t.locals)))
           (λ v t t_kept. audit_keeps r t t_kept audited bounds v)
 
-      pub values_keep : (es : core.Arguments) (s : State) → IsAfter r s → Keeps r (values audited g k es s)
+      pub values_keep : (es : core.Arguments) (s : State) → IsLater r s → Keeps r (values audited g k es s)
       values_keep core.Done s kept = kept
       values_keep (core.More first rest) s kept =
           keeps_on r (value audited g k first s) _ (value_keeps first s kept)
           (λ v t t_kept. keeps_on r (values audited g k rest t) _ (values_keep rest t t_kept) (λ vs u u_kept. u_kept))
 
-      pub place_keeps : (p : core.Place) (s : State) → IsAfter r s → Keeps r (place audited g k p s)
+      pub place_keeps : (p : core.Place) (s : State) → IsLater r s → Keeps r (place audited g k p s)
       place_keeps (core.Direct object offset) s kept = variable_keeps r s kept (nat_lt object (length g.program.objects)) object offset
       place_keeps (core.Through pointer index offset site) s kept =
           keeps_on r (value audited g k pointer s) _ (value_keeps pointer s kept)
           (λ v t t_kept. keeps_on r (number_of audited g k index t) _ (index_keeps index t t_kept)
           (λ n u u_kept. reached_keeps r u u_kept index offset site (record { pointer = with_ends (bounds_of pointer) v t.locals; number = n })))
 
-      pub index_keeps : (index : core.Index) (s : State) → IsAfter r s → Keeps r (number_of audited g k index s)
+      pub index_keeps : (index : core.Index) (s : State) → IsLater r s → Keeps r (number_of audited g k index s)
       index_keeps core.First s kept = kept
       index_keeps (core.Element number terminated) s kept =
           keeps_on r (value audited g k number s) (number_given None) (value_keeps number s kept) (λ v t t_kept. number_keeps r t t_kept None v)
+
+  -- of its locals and its blocks alone
+  pub value_after : (e : core.Expression) (s : State) → WhereGiven (λ v t. IsAfter s t) (value audited g k e s)
+  value_after e s = by (value audited g k e s) (value_keeps s e s (later_here s))
+    where
+      by : (o : Result Value) → Keeps s o → WhereGiven (λ v t. IsAfter s t) o
+      by (Gives v t) h = h.0
+      by (Ends ending t) h = tt
+      by (Stuck site t) h = tt
+      by (Unsound site t) h = tt
+      by Short h = tt

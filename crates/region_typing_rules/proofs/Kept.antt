@@ -1,21 +1,20 @@
 -- What the walk over a program keeps, where it is said of the functions and the bodies that are known.
-use Rattle.std.proofs.Common.{◌≡◌, ℕ, true, List, [], ◌∷◌, ◌++◌, length, Option, Some, None}
+use Rattle.std.proofs.Common.{◌≡◌, ℕ, Bool, true, List, [], ◌∷◌, ◌++◌, length, Option, Some, None}
 use Rattle.std.specs.Prelude.{nat_lt, not, is_some, ◌&&◌, ◌||◌}
 use Rattle.ckc_text.specs.declared.code.Code.TheVariants.{E08, E10, E13, E15, E27, E29}
 use Rattle.ckc_text.specs.declared.place.Span.{Span}
-use Rattle.ckc_tree.specs.Types.{TypeTree}
+use Rattle.ckc_tree.specs.Types.{TypeTree, type_span}
 use Rattle.ckc_tree.specs.Statements.{Declarator}
 use Rattle.ckc_tree.specs.Items as i
 use Rattle.ckc_tree.specs.Items.{Item}
 use Rattle.pointer_modes.specs.Types as types
 use Rattle.pointer_modes.specs.Types.{CType}
 use Rattle.ckc_core.specs.Programs.{Initial}
-use Rattle.bounds_exprs.specs.declared.term.Bounds.{Bounds}
 use Rattle.region_typing_rules.specs.Verdicts.{Verdict, Passes, Stops, passing, needs, breaks, picked}
 use Rattle.region_typing_rules.specs.Scopes.{Scope, Signature, WrittenBounds, function_named}
 use Rattle.region_typing_rules.specs.Expressions.{Places, is_tainted}
-use Rattle.region_typing_rules.specs.Statements.{is_unchecked, length_of}
-use Rattle.region_typing_rules.specs.Types.{base_type, without_stars}
+use Rattle.region_typing_rules.specs.Statements.{is_unchecked, length_of, array_kind, is_ended_array, array_element}
+use Rattle.region_typing_rules.specs.Types.{may_lead_to, base_type, without_stars}
 use Rattle.region_typing_rules.specs.Items.{Defined, Parameter, Walk, Walked, WalkedVariable, in_checked_region, is_struct, member_types, member_names, with_struct, scalar_members, structure, initializer, object_cells, variables, with_variable, object_bounds, variable_of, room_for, room_for_first, with_objects, global, listed, parameter_types, bounds_of_result, first_changed_in, result_type, with_function, function_body, agrees, all_scalar, scalar_result, is_defined, function_rules, signature_of, function}
 use Rattle.region_typing_rules.proofs.Verdicts.{Promises, passing_promises, needs_promises}
 
@@ -53,17 +52,17 @@ module _ (P : List Signature → List Defined → Type 0) where
   abbrev KeepsFirst : Walk × List WalkedVariable → Type 0
   KeepsFirst x = Keeps x.0
 
-  abbrev with_one : Walk → Declarator → ℕ → CType → Option Bounds → Walk
-  with_one w d taken t bounds = record w { scope = with_variable d.name.number t (length_of d) bounds w.scope; taken = taken }
+  abbrev with_one : Walk → Declarator → ℕ → CType → WrittenBounds → Walk
+  with_one w d taken t bounds = record w { scope = with_variable d.name.number t (length_of d) (is_ended_array d) bounds w.scope; taken = taken }
 
-  abbrev behind_initial : Places → Walk → TypeTree → CType → Span → Declarator → List Declarator → List WalkedVariable → ℕ → CType → Option Bounds → Walked → Verdict (Walk × List WalkedVariable)
-  behind_initial at w base type span d ds done taken t bounds initial = variables at (with_one w d taken t bounds) base type span ds (done ++ record { type = t; length = length_of d; bounds = bounds; initial = initial } ∷ [])
+  abbrev behind_initial : Places → Walk → TypeTree → CType → Span → Declarator → List Declarator → List WalkedVariable → ℕ → CType → WrittenBounds → Walked → Verdict (Walk × List WalkedVariable)
+  behind_initial at w base type span d ds done taken t bounds initial = variables at (with_one w d taken t bounds) base type span ds (done ++ record { type = t; length = length_of d; ended = is_ended_array d; bounds = bounds; initial = initial } ∷ [])
 
-  abbrev behind_declared : Places → Walk → TypeTree → CType → Span → Declarator → List Declarator → List WalkedVariable → ℕ → CType → Option Bounds → Verdict (Walk × List WalkedVariable)
-  behind_declared at w base type span d ds done taken t bounds = passing (initializer at (with_variable d.name.number t (length_of d) bounds w.scope) d.initializer) (behind_initial at w base type span d ds done taken t bounds)
+  abbrev behind_declared : Places → Walk → TypeTree → CType → Span → Declarator → List Declarator → List WalkedVariable → ℕ → CType → WrittenBounds → Verdict (Walk × List WalkedVariable)
+  behind_declared at w base type span d ds done taken t bounds = passing (initializer at (with_variable d.name.number t (length_of d) (is_ended_array d) bounds w.scope) d.initializer) (behind_initial at w base type span d ds done taken t bounds)
 
   abbrev behind_type : Places → Walk → TypeTree → CType → Span → Declarator → List Declarator → List WalkedVariable → ℕ → CType → Verdict (Walk × List WalkedVariable)
-  behind_type at w base type span d ds done taken t = passing (object_bounds w.scope d t) (behind_declared at w base type span d ds done taken t)
+  behind_type at w base type span d ds done taken t = array_element (is_ended_array d) t base (passing (object_bounds w.scope d t) (behind_declared at w base type span d ds done taken t))
 
   abbrev behind_room : Places → Walk → TypeTree → CType → Span → Declarator → List Declarator → List WalkedVariable → ℕ → Verdict (Walk × List WalkedVariable)
   behind_room at w base type span d ds done taken = passing (without_stars base d.stars type) (behind_type at w base type span d ds done taken)
@@ -73,18 +72,19 @@ module _ (P : List Signature → List Defined → Type 0) where
   variables_kept at w base type span (d ∷ ds) done h =
       passing_any KeepsFirst (room_for w base span d) (behind_room at w base type span d ds done) (λ taken.
       passing_any KeepsFirst (without_stars base d.stars type) (behind_type at w base type span d ds done taken) (λ t.
+      needs_promises KeepsFirst (may_lead_to (array_kind (is_ended_array d)) t) E13 (type_span base) (passing (object_bounds w.scope d t) (behind_declared at w base type span d ds done taken t)) (λ ends.
       passing_any KeepsFirst (object_bounds w.scope d t) (behind_declared at w base type span d ds done taken t) (λ bounds.
-      passing_any KeepsFirst (initializer at (with_variable d.name.number t (length_of d) bounds w.scope) d.initializer) (behind_initial at w base type span d ds done taken t bounds) (λ initial.
-      variables_kept at (with_one w d taken t bounds) base type span ds (done ++ record { type = t; length = length_of d; bounds = bounds; initial = initial } ∷ []) h))))
+      passing_any KeepsFirst (initializer at (with_variable d.name.number t (length_of d) (is_ended_array d) bounds w.scope) d.initializer) (behind_initial at w base type span d ds done taken t bounds) (λ initial.
+      variables_kept at (with_one w d taken t bounds) base type span ds (done ++ record { type = t; length = length_of d; ended = is_ended_array d; bounds = bounds; initial = initial } ∷ []) h)))))
 
-  abbrev behind_cells : Walk → Span → Option Bounds → List WalkedVariable → List Initial → Verdict Walk
-  behind_cells w span bounds vs cells = needs (nat_lt 0 (length cells)) E10 span (with_objects (record w { objects = w.objects ++ variable_of bounds cells ∷ [] }) span vs)
+  abbrev behind_cells : Walk → Span → (ended : Bool) → WrittenBounds → List WalkedVariable → List Initial → Verdict Walk
+  behind_cells w span ended bounds vs cells = needs (nat_lt 0 (length cells)) E10 span (with_objects (record w { objects = w.objects ++ variable_of ended bounds cells ∷ [] }) span vs)
 
   objects_kept : (w : Walk) (span : Span) (vs : List WalkedVariable) → Keeps w → Promises Keeps (with_objects w span vs)
   objects_kept w span [] h = h
   objects_kept w span (v ∷ vs) h =
-      passing_any Keeps (object_cells w.scope.given w.scope.structs v.type v.length v.initial span) (behind_cells w span v.bounds vs) (λ cells.
-      needs_promises Keeps (nat_lt 0 (length cells)) E10 span (with_objects (record w { objects = w.objects ++ variable_of v.bounds cells ∷ [] }) span vs) (λ e. objects_kept (record w { objects = w.objects ++ variable_of v.bounds cells ∷ [] }) span vs h))
+      passing_any Keeps (object_cells w.scope.given w.scope.structs v.type v.length v.ended v.initial span) (behind_cells w span v.ended v.bounds vs) (λ cells.
+      needs_promises Keeps (nat_lt 0 (length cells)) E10 span (with_objects (record w { objects = w.objects ++ variable_of v.ended v.bounds cells ∷ [] }) span vs) (λ e. objects_kept (record w { objects = w.objects ++ variable_of v.ended v.bounds cells ∷ [] }) span vs h))
 
   abbrev behind_objects : i.Global → Walk → Verdict Walk
   behind_objects g v = in_checked_region v.scope g.span v

@@ -1,31 +1,30 @@
 -- What a walk knows of the program that it leads to, and what names stand for there.
-use Rattle.std.proofs.Common.{◌≡◌, ℕ, zero, suc, ◌+◌, ◌<◌, ◌≤◌, Bool, true, false, List, [], ◌∷◌, take, map, length, Option, Some, None, refl, ap, subst, arith}
+use Rattle.std.proofs.Common.{◌≡◌, ℕ, zero, suc, ◌+◌, ◌-◌, ◌<◌, ◌≤◌, Bool, true, false, List, [], ◌∷◌, take, map, length, Option, Some, None, refl, ap, subst, arith}
 use Rattle.std.specs.Prelude.{◌==◌, slice_get, not}
 use Rattle.std.specs.List.{AllByRecursion}
 use Rattle.ckc_text.specs.declared.place.Span.{Span}
 use Rattle.ckc_text.specs.declared.code.Code.TheVariants.{E24}
 use Rattle.pointer_modes.specs.declared.ctype.Mode.{Mode}
 use Rattle.pointer_modes.specs.declared.ctype.Kind.{Kind}
-use Rattle.pointer_modes.specs.declared.ctype.Kind.TheVariants as kinds
 use Rattle.pointer_modes.specs.Types.{CType, Int, Char, Struct, Pointer, Member, Structure, members_of}
 use Rattle.bounds_exprs.specs.declared.term.Bounds.{Bounds}
 use Rattle.bounds_flow.specs.Conditions.{IsFlow}
-use Rattle.bounds_flow.specs.Flows.{held_at}
 use Rattle.pointer_modes.specs.Layout.{placed_from, member_sizes, sizes_of, end_from, size_of, cells_of, aligned_up, scalar_size}
 use Rattle.pointer_modes.proofs.Layouts.{widths, size_behind}
 use Rattle.ckc_core.specs.Programs.{Import, Variable}
 use Rattle.ckc_core.specs.Core as core
 use Rattle.ckc_core.specs.States.{shape, object_block}
 use Rattle.region_typing_rules.specs.Verdicts.{Verdict, meant, picked}
-use Rattle.region_typing_rules.specs.Scopes.{Scope, Signature, FileVariable, Visible, Named, Local, Object, Array, Nothing, local_if, found_if, local_named, object_of, object_named, or_else, null_named, named, function_named, bounds_in}
-use Rattle.region_typing_rules.specs.Types.{is_number}
+use Rattle.region_typing_rules.specs.Scopes.{Scope, Signature, WrittenBounds, FileVariable, Visible, Named, Local, Object, Array, Nothing, local_if, found_if, local_named, object_of, object_named, or_else, null_named, named, function_named, bounds_in}
+use Rattle.region_typing_rules.specs.Types.{Counts, is_number}
 use Rattle.region_typing_rules.specs.Expressions.{Typed, is_checked_argument, without_checked, crossing, is_import, side_number, member_from, offset_among}
 use Rattle.bounds_flow_meaning.specs.Holding.{AreInts}
 use Rattle.bounds_flow_meaning.specs.Rows.{slots_from, slots, HasRow}
 use Rattle.region_typing_rules.specs.KnownIsSo.{AreLimited}
-use Rattle.region_typing_rules.specs.Typed.{Frame, IsBoundedObject, HasResultBounds, HaveRows, AreRows, IsNumberResult, IsScalar, IsScalarResult}
+use Rattle.region_typing_rules.specs.Typed.{Frame, IsBoundedObject, HasResultBounds, HaveRows, AreRows, IsEndedRow, IsNumberResult, IsScalar, IsScalarResult}
 use Rattle.region_typing_rules.proofs.Verdicts.{Promises, needs_promises, Extends}
-use Rattle.region_typing_rules.proofs.Known.{IsKnown, IsClosed}
+use Rattle.region_typing_rules.proofs.InForce.{AreSo}
+use Rattle.region_typing_rules.proofs.Known.{IsKnown, IsKnownVariable, IsClosed}
 
 abbrev pub IsNumberType : CType → Type 0
 IsNumberType t = is_number t ≡ true
@@ -61,9 +60,11 @@ pub record IsObject (g : Frame) (type : CType) (number : ℕ) : Type 0 where
 -- a pointer of the program with the bounds that are declared for it
 pub record IsBoundedPointer (g : Frame) (type : CType) (b : Bounds) (number : ℕ) : Type 0 where
   pub mode : Mode
+  pub kind : Kind
+  pub counts : Counts kind
   pub element : CType
-  pub own : type ≡ Pointer mode kinds.Array element
-  pub object : IsBoundedObject g number mode kinds.Array element b
+  pub own : type ≡ Pointer mode kind element
+  pub object : IsBoundedObject g number mode kind element b
 
 -- an array of the program, and as many values of its type in a row
 pub record IsArray (g : Frame) (type : CType) (length number : ℕ) : Type 0 where
@@ -73,14 +74,26 @@ pub record IsArray (g : Frame) (type : CType) (length number : ℕ) : Type 0 whe
   pub few : length ≤ 8192
   pub rows : AreRows g.structs (shape (object_block variable)) type length
 
+-- the same of one whose last value is the zero that ends it
+pub record IsEndedArray (g : Frame) (type : CType) (length number : ℕ) : Type 0 where
+  pub variable : Variable
+  pub found : slice_get g.program.objects number ≡ Some variable
+  pub few : length - 1 ≤ 8191
+  pub row : IsEndedRow g.structs (shape (object_block variable)) type (length - 1)
+
+abbrev pub IsArrayIf : Frame → CType → (length : ℕ) → (ended : Bool) → (number : ℕ) → Type 0
+IsArrayIf g type length false number = IsArray g type length number
+IsArrayIf g type length true number = IsEndedArray g type length number
+
 -- a file-level variable of a type: it has so many elements where it is an array, and else these bounds, where there are any
-abbrev pub IsSingle : Frame → CType → Option Bounds → (number : ℕ) → Type 0
+abbrev pub IsSingle : Frame → CType → WrittenBounds → (number : ℕ) → Type 0
 IsSingle g type None number = IsObject g type number
-IsSingle g type (Some b) number = IsBoundedPointer g type b number
+IsSingle g type (Some None) number = IsObject g type number
+IsSingle g type (Some (Some b)) number = IsBoundedPointer g type b number
 
 abbrev pub IsVariable : Frame → FileVariable → Option ℕ → (number : ℕ) → Type 0
 IsVariable g v None number = IsSingle g v.type v.bounds number
-IsVariable g v (Some length) number = IsArray g v.type length number
+IsVariable g v (Some length) number = IsArrayIf g v.type length v.ended number
 
 -- the structs, the variables and the functions that are known are those of the program
 pub record KnowsFile (g : Frame) (s : Scope) : Type 0 where
@@ -95,8 +108,10 @@ pub record KnowsFile (g : Frame) (s : Scope) : Type 0 where
 -- a local of which bounds are in force is a pointer to an array of elements that have bytes
 pub record IsPointing (s : Scope) (k : ℕ) (b : Bounds) : Type 0 where
   pub mode : Mode
+  pub kind : Kind
+  pub counts : Counts kind
   pub element : CType
-  pub own : slice_get s.locals k ≡ Some (Pointer mode kinds.Array element)
+  pub own : slice_get s.locals k ≡ Some (Pointer mode kind element)
   pub some : 0 < size_of s.structs element
   pub limited : AreLimited b
   pub ints : AreInts s.locals b
@@ -106,7 +121,7 @@ pub record IsPointing (s : Scope) (k : ℕ) (b : Bounds) : Type 0 where
 pub record Knows (g : Frame) (types : List CType) (s : Scope) : Type 0 where
   pub file : KnowsFile g s
   pub flow : IsFlow s.flow
-  pub pointers : (k : ℕ) (b : Bounds) → (held_at s.flow.held k).bounds ≡ Some b → IsPointing s k b
+  pub pointers : AreSo (IsPointing s) s.flow
   pub few : length s.locals ≤ s.flow.vars
   pub result : (b : Bounds) → s.result_bounds ≡ Some b → AreInts s.locals b
   pub locals : Extends s.locals types
@@ -164,7 +179,7 @@ crossing_promises Q false arguments next h = h
 abbrev pub StandsFor : Frame → List Structure → List CType → Named → Type 0
 StandsFor g structs types (Local k t) = slice_get types k ≡ Some t
 StandsFor g structs types (Object k t b) = IsSingle g t b k × IsKnown structs t
-StandsFor g structs types (Array k t n) = IsArray g t n k × IsKnown structs t
+StandsFor g structs types (Array k t n ended) = IsArrayIf g t n ended k × IsKnown structs t
 StandsFor g structs types Nothing = Unit {0}
 
 abbrev IfNamed : Frame → List Structure → List CType → Option Named → Type 0
@@ -188,12 +203,12 @@ module _ (g : Frame) (structs : List Structure) (types : List CType) where
   locals_stand known ext (v ∷ visible) name =
       found_stands (name == v.name) (local_if (slice_get known v.local) v.local) (local_named known visible name) (local_stands (slice_get known v.local) v.local (λ t h. ext v.local t h)) (locals_stand known ext visible name)
 
-  object_stands : (number : ℕ) (v : FileVariable) (length : Option ℕ) → IsVariable g v length number → IsKnown structs v.type → Stands (Some (object_of number v length))
-  object_stands number v None h known = (h, known)
-  object_stands number v (Some length) h known = (h, known)
+  object_stands : (number : ℕ) (v : FileVariable) (length : Option ℕ) → IsVariable g v length number → IsKnownVariable structs v → Stands (Some (object_of number v length))
+  object_stands number v None h known = (h, known.1)
+  object_stands number v (Some length) h known = (h, known.1)
 
   objects_stand : (number : ℕ) (variables : List FileVariable) (name : ℕ) → ((k : ℕ) (v : FileVariable) → slice_get variables k ≡ Some v → IsVariable g v v.length (number + k))
-      → AllByRecursion (λ (v : FileVariable). IsKnown structs v.type) variables → Stands (object_named number variables name)
+      → AllByRecursion (IsKnownVariable structs) variables → Stands (object_named number variables name)
   objects_stand number [] name h known = tt
   objects_stand number (v ∷ variables) name h known =
       let first : number + 0 ≡ number = omega arith in

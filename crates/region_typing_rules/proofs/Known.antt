@@ -1,11 +1,11 @@
 -- Types that name declared structs alone. Their values keep their sizes when more structs are declared.
-use Rattle.std.proofs.Common.{◌≡◌, ℕ, zero, suc, ◌<◌, ◌≤◌, ◌++◌, Bool, false, List, [], ◌∷◌, length, Option, Some, None, refl, subst, arith}
+use Rattle.std.proofs.Common.{◌≡◌, ℕ, zero, suc, ◌<◌, ◌≤◌, ◌++◌, Bool, true, false, List, [], ◌∷◌, length, Option, Some, None, refl, subst, arith}
 use Rattle.std.specs.Prelude.{◌==◌, slice_get, get_or}
 use Rattle.std.specs.List.{AllByRecursion}
 use Rattle.std.proofs.lemmas.List.Quantifiers.{position-Some}
 use Rattle.std.proofs.lemmas.Option.{slice_get-get_or}
 use Rattle.std.proofs.lemmas.List.{length-append}
-use Rattle.ckc_text.specs.declared.code.Code.TheVariants.{E15}
+use Rattle.ckc_text.specs.declared.code.Code.TheVariants.{E13, E15}
 use Rattle.ckc_tree.specs.Types.{TypeTree, IntType, CharType, StructType, PointerType, TypeName, type_span}
 use Rattle.bounds_exprs.specs.declared.term.Bounds.{Bounds}
 use Rattle.pointer_modes.specs.declared.ctype.Kind.TheVariants as kinds
@@ -14,17 +14,18 @@ use Rattle.pointer_modes.specs.Layout.{size_of}
 use Rattle.ckc_core.specs.declared.program.Site.{Site}
 use Rattle.region_typing_rules.specs.Verdicts.{Passes, passing, meant}
 use Rattle.region_typing_rules.specs.Scopes.{Scope, Signature, FileVariable, bounds_in, struct_named}
-use Rattle.region_typing_rules.specs.Types.{base_type, without_stars, type_named}
-use Rattle.region_typing_rules.specs.Expressions.{bounds_at}
+use Rattle.region_typing_rules.specs.Types.{kind_of, mode_of, may_lead_to, base_type, without_stars, type_named}
+use Rattle.region_typing_rules.specs.Expressions.{bounds_at, cell_bounds}
+use Rattle.region_typing_rules.specs.Statements.{array_kind}
 use Rattle.region_typing_rules.specs.Items.{with_struct}
 use Rattle.region_typing_rules.proofs.Verdicts.{Promises, passing_promises, needs_promises, Extends, extends_append}
 
--- each struct that a type names is declared
+-- a type of a source: each struct that it names is declared, and a zero ends only numbers
 abbrev pub IsKnown : List Structure → CType → Type 0
 IsKnown structs Int = Unit {0}
 IsKnown structs Char = Unit {0}
 IsKnown structs (Struct number) = number < length structs
-IsKnown structs (Pointer mode kind target) = IsKnown structs target
+IsKnown structs (Pointer mode kind target) = (may_lead_to kind target ≡ true) × IsKnown structs target
 
 abbrev pub IsKnownResult : List Structure → Option CType → Type 0
 IsKnownResult structs None = Unit {0}
@@ -34,7 +35,7 @@ pub known_later : (a b : List Structure) (t : CType) → length a ≤ length b �
 known_later a b Int le h = tt
 known_later a b Char le h = tt
 known_later a b (Struct number) le h = omega arith
-known_later a b (Pointer m k t) le h = known_later a b t le h
+known_later a b (Pointer m k t) le h = (h.0, known_later a b t le h.1)
 
 pub result_later : (a b : List Structure) (o : Option CType) → length a ≤ length b → IsKnownResult a o → IsKnownResult b o
 result_later a b None le h = tt
@@ -56,7 +57,13 @@ pub bounds_kept : (a b : List Structure) (t : CType) (site : Site) → Extends a
 bounds_kept a b Int site ext h = refl
 bounds_kept a b Char site ext h = refl
 bounds_kept a b (Struct number) site ext h = refl
-bounds_kept a b (Pointer m k t) site ext h = rw (size_kept a b t ext h) refl
+bounds_kept a b (Pointer m k t) site ext h = rw (size_kept a b t ext h.1) refl
+
+pub cell_kept : (a b : List Structure) (t : CType) (site : Site) → Extends a b → IsKnown a t → cell_bounds a t site ≡ cell_bounds b t site
+cell_kept a b Int site ext h = refl
+cell_kept a b Char site ext h = refl
+cell_kept a b (Struct number) site ext h = refl
+cell_kept a b (Pointer m k t) site ext h = rw (size_kept a b t ext h.1) refl
 
 pub all_so : {X : Type 0} (P Q : X → Type 0) → ((x : X) → P x → Q x) → (xs : List X) → AllByRecursion P xs → AllByRecursion Q xs
 all_so P Q so [] all = tt
@@ -76,7 +83,8 @@ IsSizedResult structs (Some Int) o = Unit {0}
 IsSizedResult structs (Some Char) o = Unit {0}
 IsSizedResult structs (Some (Struct number)) o = Unit {0}
 IsSizedResult structs (Some (Pointer m kinds.One t)) o = Unit {0}
-IsSizedResult structs (Some (Pointer m kinds.Nt t)) o = Unit {0}
+IsSizedResult structs (Some (Pointer m kinds.Nt t)) None = Unit {0}
+IsSizedResult structs (Some (Pointer m kinds.Nt t)) (Some b) = 0 < size_of structs t
 IsSizedResult structs (Some (Pointer m kinds.Array t)) None = Unit {0}
 IsSizedResult structs (Some (Pointer m kinds.Array t)) (Some b) = 0 < size_of structs t
 
@@ -86,9 +94,10 @@ sized_later a b (Some Int) o ext known h = tt
 sized_later a b (Some Char) o ext known h = tt
 sized_later a b (Some (Struct number)) o ext known h = tt
 sized_later a b (Some (Pointer m kinds.One t)) o ext known h = tt
-sized_later a b (Some (Pointer m kinds.Nt t)) o ext known h = tt
+sized_later a b (Some (Pointer m kinds.Nt t)) None ext known h = tt
+sized_later a b (Some (Pointer m kinds.Nt t)) (Some x) ext known h = subst (λ n. 0 < n) (size_kept a b t ext known.1) h
 sized_later a b (Some (Pointer m kinds.Array t)) None ext known h = tt
-sized_later a b (Some (Pointer m kinds.Array t)) (Some x) ext known h = subst (λ n. 0 < n) (size_kept a b t ext known) h
+sized_later a b (Some (Pointer m kinds.Array t)) (Some x) ext known h = subst (λ n. 0 < n) (size_kept a b t ext known.1) h
 
 abbrev IsSizedIn : List Structure → Signature → Type 0
 IsSizedIn structs f = IsSizedResult structs f.result (bounds_in f.result_bounds)
@@ -99,13 +108,17 @@ results_later a b (f ∷ functions) ext known all = (sized_later a b f.result (b
 
 -- ---- scopes
 
+-- the type of a file-level variable, whose elements a zero may end
+abbrev pub IsKnownVariable : List Structure → FileVariable → Type 0
+IsKnownVariable structs v = (may_lead_to (array_kind v.ended) v.type ≡ true) × IsKnown structs v.type
+
 -- all types that are in a scope name structs of the scope alone
 pub record AreClosed (tags : List ℕ) (structs : List Structure) (functions : List Signature) (variables : List FileVariable) (locals : List CType) : Type 0 where
   pub tagged : length tags ≤ length structs
   pub of_members : (n : ℕ) → AllByRecursion (λ (m : Member). IsKnown structs m.ctype) (members_of structs n)
   pub of_functions : AllByRecursion (λ (f : Signature). IsKnownResult structs f.result) functions
   pub of_results : AllByRecursion (λ (f : Signature). IsSizedResult structs f.result (bounds_in f.result_bounds)) functions
-  pub of_variables : AllByRecursion (λ (v : FileVariable). IsKnown structs v.type) variables
+  pub of_variables : AllByRecursion (IsKnownVariable structs) variables
   pub of_locals : AllByRecursion (IsKnown structs) locals
 
 abbrev pub IsClosed : Scope → Type 0
@@ -122,7 +135,7 @@ with_struct_closed s tag names tainted members known c =
       of_members = of_members (AllByRecursion (λ (m : Member). IsKnown more m.ctype)) tt s.structs new (λ n. all_so (λ (m : Member). IsKnown s.structs m.ctype) (λ (m : Member). IsKnown more m.ctype) (λ m. known_later s.structs more m.ctype longer) (members_of s.structs n) (c.of_members n)) known;
       of_functions = all_so (λ (f : Signature). IsKnownResult s.structs f.result) (λ (f : Signature). IsKnownResult more f.result) (λ f. result_later s.structs more f.result longer) s.functions c.of_functions;
       of_results = results_later s.structs more s.functions (extends_append s.structs (new ∷ [])) c.of_functions c.of_results;
-      of_variables = all_so (λ (v : FileVariable). IsKnown s.structs v.type) (λ (v : FileVariable). IsKnown more v.type) (λ v. known_later s.structs more v.type longer) s.variables c.of_variables;
+      of_variables = all_so (IsKnownVariable s.structs) (IsKnownVariable more) (λ v h. (h.0, known_later s.structs more v.type longer h.1)) s.variables c.of_variables;
       of_locals = all_so (IsKnown s.structs) (IsKnown more) (λ t. known_later s.structs more t longer) s.locals c.of_locals;
     }
 
@@ -142,7 +155,8 @@ module _ (s : Scope) (few : length s.tags ≤ length s.structs) where
       by (Some n) e = let there = (position-Some (λ other. tag.number == other) s.tags n 0 e).0 in omega arith
   base_known (PointerType word element stars span) =
       passing_promises (IsKnown s.structs) (IsKnown s.structs) (passing (base_type s element) (without_stars element stars)) _
-      (passing_promises (IsKnown s.structs) (IsKnown s.structs) (base_type s element) (without_stars element stars) (base_known element) (without_known element stars)) (λ t h. h)
+      (passing_promises (IsKnown s.structs) (IsKnown s.structs) (base_type s element) (without_stars element stars) (base_known element) (without_known element stars))
+      (λ t h. needs_promises (IsKnown s.structs) (may_lead_to (kind_of word.kind) t) E13 span (Passes (Pointer (mode_of word.mode) (kind_of word.kind) t)) (λ ends. (ends, h)))
 
   pub type_known : (t : TypeName) → Promises (IsKnown s.structs) (type_named s t)
   type_known t = passing_promises (IsKnown s.structs) (IsKnown s.structs) (base_type s t.base) (without_stars t.base t.stars) (base_known t.base) (without_known t.base t.stars)

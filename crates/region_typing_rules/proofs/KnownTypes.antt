@@ -25,14 +25,15 @@ use Rattle.ckc_core.proofs.Elements.{of_element}
 use Rattle.ckc_names_rules.specs.declared.given.Given.{Given}
 use Rattle.region_typing_rules.specs.Verdicts.{Verdict, Passes, Stops, passing, meant, picked}
 use Rattle.region_typing_rules.specs.Scopes.{Scope, Signature, WrittenBounds, FileVariable, Visible, Named, Local, Object, Array, Nothing, local_if, found_if, local_named, object_of, object_named, or_else, null_named, named, function_named, members_named}
-use Rattle.region_typing_rules.specs.Types.{type_named, is_number, is_pointer, are_comparable}
-use Rattle.region_typing_rules.specs.Expressions.{Places, OfLocal, OfCell, OfBounded, ForNothing, ForArray, For, Typed, Value, AStruct, Called, Gives, GivesNothing, site_at, bounded, number, at_place, local_typed, name_typed, pointer_typed, object_typed, member_from, member_at, dotted, with_elements, first_element, pointed_by, arrowed, pointed_at, dereferenced, address, number_of, scalar_of, unary_typed, is_single_value, lacks_bounds, two_numbers, two_scalars, operator_along, summed, sum_typed, equated, are_related, ordered, binary_typed, beside, element_at, indexed, arguments_as, is_import, call_of, declared_callee, writes, predefined_call, called, with_result, typed, all_typed, cast_typed, cast_bounds, is_array}
+use Rattle.region_typing_rules.specs.Types.{type_named, is_number, may_lead_to, is_pointer, are_comparable}
+use Rattle.region_typing_rules.specs.Expressions.{Places, OfLocal, OfCell, OfBounded, OfUnknown, ForNothing, ForArray, For, Typed, Value, AStruct, Called, Gives, GivesNothing, site_at, bounded, in_cell, with_cell_bounds, number, at_place, local_typed, name_typed, pointer_typed, unknown_typed, object_typed, member_from, member_at, dotted, with_elements, first_element, first_or_end, pointed_by, arrowed, pointed_at, dereferenced, address, number_of, scalar_of, unary_typed, is_single_value, lacks_bounds, two_numbers, two_scalars, operator_along, summed, sum_typed, equated, zero_test, are_related, ordered, binary_typed, beside, element_at, indexed, arguments_as, is_import, call_of, declared_callee, writes, is_text, length_typed, measures, predefined_call, called, with_result, typed, all_typed, cast_typed, cast_bounds, is_array}
+use Rattle.region_typing_rules.specs.Statements.{array_kind}
 use Rattle.region_typing_rules.proofs.Verdicts.{Promises, passing_promises, needs_promises, anything_promised, all_met_promise}
-use Rattle.region_typing_rules.proofs.Known.{IsKnown, IsKnownResult, IsClosed, type_known}
+use Rattle.region_typing_rules.proofs.Known.{IsKnown, IsKnownResult, IsKnownVariable, IsClosed, type_known}
 use Rattle.region_typing_rules.proofs.Knowledge.{crossing_promises}
 use Rattle.region_typing_rules.proofs.Signatures.{named_has}
 use Rattle.region_typing_rules.proofs.Kept.{passing_any}
-use Rattle.region_typing_rules.proofs.Memory.{of_any, malloc_promises, calloc_promises, cast_promises}
+use Rattle.region_typing_rules.proofs.Memory.{may_lead, of_any, malloc_promises, calloc_promises, cast_promises}
 
 abbrev pub IsKnownTyped : List Structure → Typed → Type 0
 IsKnownTyped structs (Value type zero value place) = IsKnown structs type
@@ -45,7 +46,7 @@ IsKnownCall structs (GivesNothing call) = Unit {0}
 abbrev IsKnownNamed : List Structure → Named → Type 0
 IsKnownNamed structs (Local local type) = IsKnown structs type
 IsKnownNamed structs (Object object type bounds) = IsKnown structs type
-IsKnownNamed structs (Array object type length) = IsKnown structs type
+IsKnownNamed structs (Array object type length ended) = (may_lead_to (array_kind ended) type ≡ true) × IsKnown structs type
 IsKnownNamed structs Nothing = Unit {0}
 
 abbrev IfKnown : List Structure → Option Named → Type 0
@@ -75,11 +76,11 @@ module _ (structs : List Structure) where
   locals_known locals all (v ∷ visible) name =
       found_known (name == v.name) (local_if (slice_get locals v.local) v.local) (local_named locals visible name) (local_known locals all v.local (slice_get locals v.local) refl) (locals_known locals all visible name)
 
-  object_known : (number : ℕ) (v : FileVariable) (length : Option ℕ) → IsKnown structs v.type → IfKnown structs (Some (object_of number v length))
-  object_known number v None h = h
+  object_known : (number : ℕ) (v : FileVariable) (length : Option ℕ) → IsKnownVariable structs v → IfKnown structs (Some (object_of number v length))
+  object_known number v None h = h.1
   object_known number v (Some length) h = h
 
-  objects_known : (number : ℕ) (variables : List FileVariable) (name : ℕ) → AllByRecursion (λ (v : FileVariable). IsKnown structs v.type) variables → IfKnown structs (object_named number variables name)
+  objects_known : (number : ℕ) (variables : List FileVariable) (name : ℕ) → AllByRecursion (IsKnownVariable structs) variables → IfKnown structs (object_named number variables name)
   objects_known number [] name all = tt
   objects_known number (v ∷ variables) name all =
       found_known (name == v.name) (Some (object_of number v v.length)) (object_named (suc number) variables name) (object_known number v v.length all.0) (objects_known (suc number) variables name all.1)
@@ -112,14 +113,29 @@ module _ (structs : List Structure) where
   pointer_typed_known s object (Struct number) b site h = h
   pointer_typed_known s object (Pointer m k t) b site h = h
 
-  object_typed_known : (s : Scope) (object : ℕ) (t : CType) (bounds : Option Bounds) (site : Site) → IsKnown structs t → Known (object_typed s.structs object t bounds site)
-  object_typed_known s object t None site h = at_place_known t (core.Direct object 0) h
-  object_typed_known s object t (Some b) site h = pointer_typed_known s object t b site h
+  unknown_typed_known : (s : Scope) (object : ℕ) (t : CType) (site : Site) → IsKnown structs t → Known (unknown_typed s.structs object t site)
+  unknown_typed_known s object Int site h = h
+  unknown_typed_known s object Char site h = h
+  unknown_typed_known s object (Struct number) site h = h
+  unknown_typed_known s object (Pointer m kinds.One t) site h = h
+  unknown_typed_known s object (Pointer m kinds.Array t) site h = h
+  unknown_typed_known s object (Pointer m kinds.Nt t) site h = h
+
+  -- notes leave the type
+  cell_known : (s : Scope) (site : Site) (t : Typed) → Known t → Known (with_cell_bounds s.structs site t)
+  cell_known s site (Value type zero value place) h = h
+  cell_known s site (AStruct number place) h = h
+
+  object_typed_known : (s : Scope) (object : ℕ) (t : CType) (bounds : WrittenBounds) (site : Site) → IsKnown structs t → Known (object_typed s.structs object t bounds site)
+  object_typed_known s object t None site h = cell_known s site (at_place t (core.Direct object 0)) (at_place_known t (core.Direct object 0) h)
+  object_typed_known s object t (Some None) site h = unknown_typed_known s object t site h
+  object_typed_known s object t (Some (Some b)) site h = pointer_typed_known s object t b site h
 
   name_known : (s : Scope) (site : Site) (n : Named) → IsKnownNamed structs n → Known (name_typed s n site)
   name_known s site (Local local type) h = local_typed_known s local type (is_array s.arrays local) site h
   name_known s site (Object object type bounds) h = object_typed_known s object type bounds site h
-  name_known s site (Array object type length) h = h
+  name_known s site (Array object type length false) h = (refl, h.1)
+  name_known s site (Array object type length true) h = h
   name_known s site Nothing h = tt
 
   with_elements_known : (value : core.Expression) (span : Span) (t : Typed) → Known t → Promises Known (with_elements value span (Passes t))
@@ -129,9 +145,9 @@ module _ (structs : List Structure) where
   pointed_known Int value site span h = tt
   pointed_known Char value site span h = tt
   pointed_known (Struct number) value site span h = tt
-  pointed_known (Pointer m kinds.One t) value site span h = at_place_known t _ h
-  pointed_known (Pointer m kinds.Array t) value site span h = with_elements_known value span (at_place t (first_element value site)) (at_place_known t (first_element value site) h)
-  pointed_known (Pointer m kinds.Nt t) value site span h = tt
+  pointed_known (Pointer m kinds.One t) value site span h = at_place_known t _ h.1
+  pointed_known (Pointer m kinds.Array t) value site span h = with_elements_known value span (at_place t (first_element value site)) (at_place_known t (first_element value site) h.1)
+  pointed_known (Pointer m kinds.Nt t) value site span h = with_elements_known value span (at_place t (first_or_end value site)) (at_place_known t (first_or_end value site) h.1)
 
   dereferenced_known : (a : Typed) (site : Site) (span : Span) → Known a → Promises Known (dereferenced a site span)
   dereferenced_known (Value type zero value place) site span h = pointed_known type value site span h
@@ -141,11 +157,13 @@ module _ (structs : List Structure) where
   address_known (Value type zero value ForNothing) site span h = tt
   address_known (Value type zero value ForArray) site span h = tt
   address_known (Value type zero value (For (OfLocal k))) site span h = tt
-  address_known (Value type zero value (For (OfCell p))) site span h = h
+  address_known (Value type zero value (For (OfCell p))) site span h = (refl, h)
   address_known (Value type zero value (For (OfBounded k b))) site span h = tt
+  address_known (Value type zero value (For (OfUnknown k))) site span h = tt
   address_known (AStruct number (OfLocal k)) site span h = tt
-  address_known (AStruct number (OfCell p)) site span h = h
+  address_known (AStruct number (OfCell p)) site span h = (refl, h)
   address_known (AStruct number (OfBounded k b)) site span h = tt
+  address_known (AStruct number (OfUnknown k)) site span h = tt
 
   -- ---- operators
 
@@ -202,7 +220,7 @@ module _ (structs : List Structure) where
   binary_known s binary.BitXor a b site span h = numbers_known a b span _
   binary_known s binary.BitAnd a b site span h = numbers_known a b span _
   binary_known s binary.Equal a b site span h = equal_known a b span (λ v. v)
-  binary_known s binary.NotEqual a b site span h = equal_known a b span core.Not
+  binary_known s binary.NotEqual a b site span h = equal_known a b span (λ v. core.Not (zero_test a b v))
   binary_known s binary.Less a b site span h = ordered_known _ a b site span
   binary_known s binary.LessEqual a b site span h = ordered_known _ a b site span
   binary_known s binary.Greater a b site span h = ordered_known _ a b site span
@@ -220,8 +238,8 @@ module _ (structs : List Structure) where
   element_known Char v w site span h = tt
   element_known (Struct n) v w site span h = tt
   element_known (Pointer m kinds.One t) v w site span h = tt
-  element_known (Pointer m kinds.Array t) v w site span h = with_elements_known v span _ (at_place_known t (core.Through v (core.Element w false) 0 site) h)
-  element_known (Pointer m kinds.Nt t) v w site span h = tt
+  element_known (Pointer m kinds.Array t) v w site span h = with_elements_known v span _ (at_place_known t (core.Through v (core.Element w false) 0 site) h.1)
+  element_known (Pointer m kinds.Nt t) v w site span h = with_elements_known v span _ (at_place_known t (core.Through v (core.Element w true) 0 site) h.1)
 
   indexed_known : (a b : Typed) (site : Site) (span : Span) → Known a → Promises Known (indexed a b site span)
   indexed_known (Value t z v p) (Value u y w q) site span h = needs_promises Known (is_pointer t && is_number u) E13 span (element_at t v w site span) (λ x. element_known t v w site span h)
@@ -239,14 +257,26 @@ module _ (structs : List Structure) where
       needs_promises (IsKnownCall structs) (length arguments == 1) E14 span _
       (λ one. passing_promises (λ (values : core.Arguments). Unit {0}) (IsKnownCall structs) (arguments_as arguments (Int ∷ [])) _ (anything_promised (arguments_as arguments (Int ∷ []))) (λ values _. tt))
 
-  predefined_known : (given : Given) (name : ℕ) (arguments : List (Typed × Span)) (span : Span) → Promises (IsKnownCall structs) (predefined_call given name arguments span)
-  predefined_known given name arguments span = by (name == given.next_input) (name == given.print_int) (name == given.putchar) refl refl refl
+  length_known : (a : Typed) (site : Site) (span : Span) → Promises (IsKnownCall structs) (length_typed a site span)
+  length_known (Value type zero value place) site span =
+      needs_promises (IsKnownCall structs) (is_text type && is_some (bounds_of value)) E13 span (Passes (Gives Int (core.Length value site))) (λ text. tt)
+  length_known (AStruct number place) site span = tt
+
+  measures_known : (arguments : List (Typed × Span)) (site : Site) (span : Span) → Promises (IsKnownCall structs) (measures arguments site span)
+  measures_known [] site span = tt
+  measures_known (argument ∷ arguments) site span =
+      needs_promises (IsKnownCall structs) (length (argument ∷ arguments) == 1) E14 span (length_typed argument.0 site span) (λ one. length_known argument.0 site span)
+
+  predefined_known : (given : Given) (name : ℕ) (arguments : List (Typed × Span)) (site : Site) (span : Span) → Promises (IsKnownCall structs) (predefined_call given name arguments site span)
+  predefined_known given name arguments site span = by (name == given.next_input) (name == given.print_int) (name == given.putchar) (name == given.strlen) refl refl refl refl
     where
-      by : (input print put : Bool) → (name == given.next_input) ≡ input → (name == given.print_int) ≡ print → (name == given.putchar) ≡ put → Promises (IsKnownCall structs) (predefined_call given name arguments span)
-      by true print put e e1 e2 = rw e (needs_promises (IsKnownCall structs) (length arguments == 0) E14 span (Passes (Gives Int core.NextInput)) (λ none. tt))
-      by false true put e e1 e2 = rw (e, e1) (writes_known core.Print arguments span)
-      by false false true e e1 e2 = rw (e, e1, e2) (writes_known core.PutByte arguments span)
-      by false false false e e1 e2 = rw (e, e1, e2) tt
+      by : (input print put measure : Bool) → (name == given.next_input) ≡ input → (name == given.print_int) ≡ print → (name == given.putchar) ≡ put → (name == given.strlen) ≡ measure
+          → Promises (IsKnownCall structs) (predefined_call given name arguments site span)
+      by true print put measure e e1 e2 e3 = rw e (needs_promises (IsKnownCall structs) (length arguments == 0) E14 span (Passes (Gives Int core.NextInput)) (λ none. tt))
+      by false true put measure e e1 e2 e3 = rw (e, e1) (writes_known core.Print arguments span)
+      by false false true measure e e1 e2 e3 = rw (e, e1, e2) (writes_known core.PutByte arguments span)
+      by false false false true e e1 e2 e3 = rw (e, e1, e2, e3) (measures_known arguments site span)
+      by false false false false e e1 e2 e3 = rw (e, e1, e2, e3) tt
 
   with_result_known : (c : Called) (span : Span) → IsKnownCall structs c → Promises Known (with_result c span)
   with_result_known (Gives type value) span h = h
@@ -268,6 +298,10 @@ bounded_known : (s : Scope) (site : Site) (v : Verdict Typed) → Promises (IsKn
 bounded_known s site (Passes (Value type zero value place)) h = h
 bounded_known s site (Passes (AStruct number place)) h = h
 bounded_known s site (Stops stop) h = tt
+
+in_cell_known : (s : Scope) (site : Site) (v : Verdict Typed) → Promises (IsKnownTyped s.structs) v → Promises (IsKnownTyped s.structs) (in_cell s site v)
+in_cell_known s site (Passes t) h = cell_known s.structs s site t h
+in_cell_known s site (Stops stop) h = tt
 
 module _ (s : Scope) (closed : IsClosed s) where
   named_known : (name : ℕ) → Promises (IsKnownNamed s.structs) (named s name)
@@ -309,7 +343,7 @@ module _ (s : Scope) (closed : IsClosed s) where
       by (Pointer m kinds.Nt t) = tt
 
   called_known : (o : Option Signature) (name : ℕ) (arguments : List (Typed × Span)) (site : Site) (span : Span) → function_named s.functions name ≡ o → Promises (IsKnownCall s.structs) (called s o name arguments site span)
-  called_known None name arguments site span e = predefined_known s.structs s.given name arguments span
+  called_known None name arguments site span e = predefined_known s.structs s.given name arguments site span
   called_known (Some f) name arguments site span e =
       needs_promises (IsKnownCall s.structs) (length f.parameters == length arguments) E14 span _
       (λ many. crossing_promises (IsKnownCall s.structs) (is_import f) arguments _
@@ -339,20 +373,20 @@ module _ (s : Scope) (closed : IsClosed s) where
       (λ a. passing_any (IsKnownTyped s.structs) (cast_bounds s t bounds) _ (λ written. cast_known word t a written (site_at at span) span known)))
   typed_known at (e.Malloc word type size span) =
       passing_promises (IsKnown s.structs) (IsKnownTyped s.structs) (type_named s type) _ (type_known s closed.tagged type) (λ t known. passing_any (IsKnownTyped s.structs) (typed at s size) _
-      (λ a. malloc_promises (IsKnownTyped s.structs) s t (site_at at span) span word size a (of_any _ a (λ type value number count is bytes. known))))
+      (λ a. malloc_promises (IsKnownTyped s.structs) s t (site_at at span) span word size a (of_any _ a (λ type value number count is bytes. (refl, known)))))
   typed_known at (e.Calloc word type count size span) =
       passing_promises (IsKnown s.structs) (IsKnownTyped s.structs) (type_named s type) _ (type_known s closed.tagged type) (λ t known. passing_any (IsKnownTyped s.structs) (typed at s count) _
-      (λ a. passing_any (IsKnownTyped s.structs) (typed at s size) _ (λ b. calloc_promises (IsKnownTyped s.structs) s t (site_at at span) span word a size (of_any _ a (λ type value number bytes. known)))))
+      (λ a. passing_any (IsKnownTyped s.structs) (typed at s size) _ (λ b. calloc_promises (IsKnownTyped s.structs) s t (site_at at span) span word a size (of_any _ a (λ type value number ended may. (may_lead s.structs t ended may, known))))))
   typed_known at (e.Index base index span) =
-      bounded_known s (site_at at span) (passing (typed at s base) (λ a. passing (typed at s index) (λ b. indexed a b (site_at at span) span)))
+      in_cell_known s (site_at at span) (passing (typed at s base) (λ a. passing (typed at s index) (λ b. indexed a b (site_at at span) span)))
       (passing_promises (IsKnownTyped s.structs) (IsKnownTyped s.structs) (typed at s base) _ (typed_known at base)
       (λ a h. passing_promises (λ (t : Typed). Unit {0}) (IsKnownTyped s.structs) (typed at s index) _ (anything_promised (typed at s index)) (λ b _. indexed_known s.structs a b (site_at at span) span h)))
   typed_known at (e.Dot base member span) =
-      bounded_known s (site_at at span) (passing (typed at s base) (λ a. dotted s a member.number (site_at at span) span)) (passing_promises (λ (t : Typed). Unit {0}) (IsKnownTyped s.structs) (typed at s base) _ (anything_promised (typed at s base)) (λ a _. dotted_known a member.number (site_at at span) span))
+      in_cell_known s (site_at at span) (passing (typed at s base) (λ a. dotted s a member.number (site_at at span) span)) (passing_promises (λ (t : Typed). Unit {0}) (IsKnownTyped s.structs) (typed at s base) _ (anything_promised (typed at s base)) (λ a _. dotted_known a member.number (site_at at span) span))
   typed_known at (e.Arrow base member span) =
-      bounded_known s (site_at at span) (passing (typed at s base) (λ a. arrowed s a member.number (site_at at span) span)) (passing_promises (λ (t : Typed). Unit {0}) (IsKnownTyped s.structs) (typed at s base) _ (anything_promised (typed at s base)) (λ a _. arrowed_known a member.number (site_at at span) span))
+      in_cell_known s (site_at at span) (passing (typed at s base) (λ a. arrowed s a member.number (site_at at span) span)) (passing_promises (λ (t : Typed). Unit {0}) (IsKnownTyped s.structs) (typed at s base) _ (anything_promised (typed at s base)) (λ a _. arrowed_known a member.number (site_at at span) span))
   typed_known at (e.Unary operator operand span) =
-      bounded_known s (site_at at span) (passing (typed at s operand) (λ a. unary_typed operator a (site_at at span) span)) (passing_promises (IsKnownTyped s.structs) (IsKnownTyped s.structs) (typed at s operand) _ (typed_known at operand) (λ a h. unary_known s.structs operator a (site_at at span) span h))
+      in_cell_known s (site_at at span) (passing (typed at s operand) (λ a. unary_typed operator a (site_at at span) span)) (passing_promises (IsKnownTyped s.structs) (IsKnownTyped s.structs) (typed at s operand) _ (typed_known at operand) (λ a h. unary_known s.structs operator a (site_at at span) span h))
   typed_known at (e.Binary operator left right span) =
       passing_promises (IsKnownTyped s.structs) (IsKnownTyped s.structs) (typed at s left) _ (typed_known at left)
       (λ a h. passing_promises (λ (t : Typed). Unit {0}) (IsKnownTyped s.structs) (typed at (beside operator a s) right) _ (anything_promised (typed at (beside operator a s) right)) (λ b _. binary_known s.structs s operator a b (site_at at span) span h))

@@ -22,6 +22,9 @@ pub mod Given
 pub mod Asked
 pub mod Calls
 pub mod RightOperands
+pub mod Nodes
+pub mod Operands
+pub mod Conversions
 pub mod Expressions
 pub mod FlowSizes
 pub mod LocalArrays
@@ -58,7 +61,13 @@ pub mod LastZeros
 pub mod Moving
 pub mod Terms
 pub mod Alike
+pub mod ReadElements
+pub mod RightNodes
+pub mod CountedTexts
+pub mod NotedTexts
+pub mod Widened
 pub mod Told
+pub mod InForce
 pub mod Between
 pub mod Assigns
 pub mod Sources

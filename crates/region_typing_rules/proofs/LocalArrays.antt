@@ -4,29 +4,30 @@ use Rattle.std.specs.Prelude.{nat_lt}
 use Rattle.ckc_text.specs.declared.code.Code.{Code}
 use Rattle.ckc_text.specs.declared.code.Code.TheVariants.{E08, E13}
 use Rattle.ckc_text.specs.declared.place.Span.{Span}
-use Rattle.ckc_tree.specs.Types.{TypeTree}
+use Rattle.ckc_tree.specs.Types.{TypeTree, type_span}
 use Rattle.ckc_tree.specs.Statements.{Declarator}
 use Rattle.bounds_exprs.specs.declared.term.Bounds.{Bounds}
-use Rattle.pointer_modes.specs.declared.ctype.Mode.TheVariants as modes
-use Rattle.pointer_modes.specs.declared.ctype.Kind.TheVariants as kinds
-use Rattle.pointer_modes.specs.Types.{CType, Pointer}
+use Rattle.pointer_modes.specs.Types.{CType}
 use Rattle.pointer_modes.specs.Layout.{size_of}
 use Rattle.ckc_core.specs.declared.program.Site.{Site}
 use Rattle.ckc_core.specs.Core as core
 use Rattle.region_typing_rules.specs.Verdicts.{Verdict, Passes, passing, needs}
 use Rattle.region_typing_rules.specs.Scopes.{Scope}
-use Rattle.region_typing_rules.specs.Types.{without_stars, converts}
+use Rattle.region_typing_rules.specs.Types.{is_number, may_lead_to, without_stars, converts}
 use Rattle.region_typing_rules.specs.Cells.{is_length, cells_with}
 use Rattle.region_typing_rules.specs.Readings.{term}
 use Rattle.region_typing_rules.specs.Expressions.{Places, Typed, Value, ForNothing, site_at, row_counted}
 use Rattle.region_typing_rules.specs.DeclaredBounds.{declared_bounds}
 use Rattle.region_typing_rules.specs.Knowing.{assigned_by, settling, knowing}
-use Rattle.region_typing_rules.specs.Statements.{Walked, both, with_local, bounded_local, length_of, row_type, with_array, array_bounds, without_initial, made_array, array_in, local_of, declarator}
+use Rattle.region_typing_rules.specs.Statements.{Walked, both, with_local, bounded_local, length_of, row_type, with_array, array_bounds, without_initial, made_array, array_in, local_of, declarator, is_ended_array, array_kind, before_end, array_memory}
 use Rattle.region_typing_rules.proofs.Verdicts.{Promises, passing_promises, needs_promises, anything_promised}
+use Rattle.region_typing_rules.proofs.Memory.{MayConsist}
 
--- new memory of so many elements, for an array of the scope
-abbrev pub memory_of : Scope → CType → ℕ → Site → core.Expression
-memory_of g t count site = core.Allocate (core.Number (pos count)) (cells_with g.structs t (pos 0)) false (row_counted g.structs t (term g.locals (core.Number (pos count))) site)
+-- new memory for an array of so many elements, of which the last one may be the zero that ends it, in the scope
+abbrev pub memory_of : Scope → (ended : Bool) → CType → ℕ → Site → core.Expression
+memory_of g ended t count site =
+    let number = core.Number (pos (before_end ended count)) in
+    core.Allocate number (cells_with g.structs t (pos 0)) ended (row_counted g.structs t ended (term g.locals number) site)
 
 -- what is left of its declaration once it has a value
 abbrev pub settled_array : Scope → ℕ → core.Expression → Span → Verdict Walked
@@ -37,19 +38,28 @@ needed_first : {A B : Type 0} (Q : B → Type 0) (test : Bool) (code : Code) (sp
 needed_first Q true code span value next h = h refl
 needed_first Q false code span value next h = tt
 
-array_promises : (Q : Walked → Type 0) (at : Places) (g : Scope) (local : ℕ) (d : Declarator) (t : CType) (count : ℕ) (span : Span)
-    → (nat_lt 0 (size_of g.structs t) ≡ true → Promises Q (settled_array g local (memory_of g t count (site_at at span)) span)) → Promises Q (array_in at g local d t count span)
-array_promises Q at g local d t count span h =
+made_promises : (Q : Walked → Type 0) (g : Scope) (local : ℕ) (ended : Bool) (t : CType) (count : ℕ) (site : Site) (span : Span)
+    → (MayConsist g.structs ended t → Promises Q (settled_array g local (memory_of g ended t count site) span))
+    → Promises Q (passing (array_memory g ended t count site span) (λ memory. made_array g local memory (row_type ended t) span))
+made_promises Q g local false t count site span h =
+    needed_first Q (nat_lt 0 (size_of g.structs t)) E13 span (Value (row_type false t) false (memory_of g false t count site) ForNothing) (λ (memory : Typed). made_array g local memory (row_type false t) span)
+    (λ bytes. needs_promises Q (converts (row_type false t) false (row_type false t)) E13 span _ (λ ok. h bytes))
+made_promises Q g local true t count site span h =
+    needed_first Q (is_number t) E13 span (Value (row_type true t) false (memory_of g true t count site) ForNothing) (λ (memory : Typed). made_array g local memory (row_type true t) span)
+    (λ number. needs_promises Q (converts (row_type true t) false (row_type true t)) E13 span _ (λ ok. h number))
+
+array_promises : (Q : Walked → Type 0) (at : Places) (g : Scope) (local : ℕ) (d : Declarator) (ended : Bool) (t : CType) (count : ℕ) (span : Span)
+    → (MayConsist g.structs ended t → Promises Q (settled_array g local (memory_of g ended t count (site_at at span)) span)) → Promises Q (array_in at g local d t count ended span)
+array_promises Q at g local d ended t count span h =
     passing_promises (λ (b : Option Bounds). Unit {0}) Q (array_bounds g d.bounds) _ (anything_promised (array_bounds g d.bounds))
     (λ bounds _. passing_promises (λ (u : Unit {0}). Unit {0}) Q (without_initial at g d.initializer span) _ (anything_promised (without_initial at g d.initializer span))
-    (λ initial _. needed_first Q (nat_lt 0 (size_of g.structs t)) E13 span (Value (Pointer modes.Checked kinds.Array t) false (memory_of g t count (site_at at span)) ForNothing) (λ (memory : Typed). made_array g local memory (row_type t) span)
-    (λ bytes. needs_promises Q (converts (Pointer modes.Checked kinds.Array t) false (row_type t)) E13 span _ (λ ok. h bytes))))
+    (λ initial _. made_promises Q g local ended t count (site_at at span) span h))
 
 -- where there is room for the local, and something is promised of its type
 pub declarator_promises : (Q : Walked → Type 0) (K : CType → Type 0) (at : Places) (g : Scope) (base : TypeTree) (type : CType) (span : Span) (d : Declarator) → (nat_lt (length g.locals) g.flow.vars ≡ true → Promises K (without_stars base d.stars type))
     → (nat_lt (length g.locals) g.flow.vars ≡ true → (t : CType) → K t → Promises Q (passing (declared_bounds (with_local d.name.number t None g) t (length g.locals) d.bounds) (bounded_local at g d t span)))
-    → (nat_lt (length g.locals) g.flow.vars ≡ true → (t : CType) → K t → (count : ℕ) → length_of d ≡ Some count → is_length (Some count) ≡ true → nat_lt 0 (size_of g.structs t) ≡ true
-    → Promises Q (settled_array (with_array d.name.number t count g) (length g.locals) (memory_of (with_array d.name.number t count g) t count (site_at at span)) span))
+    → (nat_lt (length g.locals) g.flow.vars ≡ true → (t : CType) → K t → (count : ℕ) → length_of d ≡ Some count → is_length (Some count) ≡ true → (ended : Bool) → MayConsist g.structs ended t
+    → Promises Q (settled_array (with_array d.name.number t count ended g) (length g.locals) (memory_of (with_array d.name.number t count ended g) ended t count (site_at at span)) span))
     → Promises Q (declarator at g base type span d)
 declarator_promises Q K at g base type span d typed plain array = needs_promises Q (nat_lt (length g.locals) g.flow.vars) E08 span _ (λ few. by few (length_of d) refl)
   where
@@ -58,4 +68,5 @@ declarator_promises Q K at g base type span d typed plain array = needs_promises
     by few (Some count) e =
         needs_promises Q (is_length (Some count)) E08 span _
         (λ ok. passing_promises K Q (without_stars base d.stars type) _ (typed few)
-        (λ t k. array_promises Q at (with_array d.name.number t count g) (length g.locals) d t count span (array few t k count e ok)))
+        (λ t k. needs_promises Q (may_lead_to (array_kind (is_ended_array d)) t) E13 (type_span base) _
+        (λ numbers. array_promises Q at (with_array d.name.number t count (is_ended_array d) g) (length g.locals) d (is_ended_array d) t count span (array few t k count e ok (is_ended_array d)))))

@@ -14,12 +14,12 @@ use Rattle.pointer_modes.specs.Types.{CType}
 use Rattle.ckc_core.specs.Core as core
 use Rattle.region_typing_rules.specs.Scopes.{Scope, Visible}
 use Rattle.region_typing_rules.specs.Types.{is_scalar, without_stars, base_type}
-use Rattle.region_typing_rules.specs.Expressions.{Places, Typed, Called, Gives, GivesNothing, call_typed, typed, site_at, row_of}
+use Rattle.region_typing_rules.specs.Expressions.{Places, Typed, Called, Gives, GivesNothing, call_typed, typed, site_at}
 use Rattle.region_typing_rules.specs.Knowing.{when, local_number, target_marked, marked_at, assignment_marked, bundle_marked, step_marked, hiding, hidden_by, hidden_first, first_marked, marked, all_marked, at_loop, assigned_by, knowing}
 use Rattle.bounds_exprs.specs.declared.term.Bounds.{Bounds}
-use Rattle.region_typing_rules.specs.DeclaredBounds.{declared_bounds}
+use Rattle.region_typing_rules.specs.DeclaredBounds.{declared_bounds, row_of}
 use Rattle.region_typing_rules.specs.Cells.{is_length}
-use Rattle.region_typing_rules.specs.Statements.{Walked, both, assigning, zero_value, with_local, initialised, bounded_local, declarator, declarators, declaration, at_alternative, before_step, in_loop, is_unchecked, condition, optional_condition, optional_step, first_part, alone, return, meets_declared, returned, returned_nothing, statement, statements, with_array, row_type, first_length}
+use Rattle.region_typing_rules.specs.Statements.{Walked, both, assigning, zero_value, with_local, initialised, bounded_local, declarator, declarators, declaration, at_alternative, before_step, in_loop, is_unchecked, condition, optional_condition, optional_step, first_part, alone, return, meets_declared, returned, returned_nothing, statement, statements, with_array, before_end, row_type, first_length}
 use Rattle.region_typing_rules.proofs.Verdicts.{Promises, passing_promises, needs_promises, extends_last, anything_promised}
 use Rattle.region_typing_rules.proofs.Kept.{passing_any}
 use Rattle.region_typing_rules.proofs.Assigning.{assigning_promises, declared_promises, settled_promises}
@@ -317,11 +317,11 @@ declarator_marked : (at : Places) (g : Scope) (base : TypeTree) (type : CType) (
 declarator_marked at g base type span d beyond ws hidden low =
     declarator_promises (IsDeclaring beyond ws d) (λ (t : CType). Unit {0}) at g base type span d (λ few. anything_promised (without_stars base d.stars type))
     (λ few t _. passing_any (IsDeclaring beyond ws d) (declared_bounds (with_local d.name.number t None g) t (length g.locals) d.bounds) _ (λ b. bounded_local_marked at g d t span b beyond ws hidden low))
-    (λ few t _ count here counted bytes.
-    let inner = with_array d.name.number t count g in
-    let set = core.SetLocal (length g.locals) (memory_of inner t count (site_at at span)) in
+    (λ few t _ count here counted ended may.
+    let inner = with_array d.name.number t count ended g in
+    let set = core.SetLocal (length g.locals) (memory_of inner ended t count (site_at at span)) in
     settled_promises (IsDeclaring beyond ws d) (both (core.SetLocal (length g.locals) core.Null) set) inner (assigned_by inner.locals set inner.flow) span
-    (λ f. local_marked d.name.number (row_type t) (Some (row_of count)) g f inner.arrays set beyond ws hidden low (λ may here. here)))
+    (λ f. local_marked d.name.number (row_type ended t) (Some (row_of (before_end ended count))) g f inner.arrays set beyond ws hidden low (λ may here. here)))
 
 declarators_marked : (at : Places) (g : Scope) (base : TypeTree) (type : CType) (span : Span) (ds : List Declarator) (beyond : ℕ) (ws : List Visible) → AreHidden beyond g.visible ws → beyond ≤ length g.locals
     → Promises (IsMarked beyond (hiding beyond ds ws) (λ marks. marks)) (declarators at g base type span ds)

@@ -2,7 +2,7 @@
 use Rattle.std.proofs.Common.{◌≡◌, ℕ, Bool, true, List, Option, Some, None, refl}
 use Rattle.std.specs.Prelude.{◌&&◌, slice_get}
 use Rattle.ckc_text.specs.declared.place.Span.{Span}
-use Rattle.ckc_text.specs.declared.code.Code.TheVariants.{E13, E17}
+use Rattle.ckc_text.specs.declared.code.Code.TheVariants.{E13, E17, E18}
 use Rattle.ckc_tree.specs.declared.stmt.StoreOperator.{StoreOperator}
 use Rattle.ckc_tree.specs.declared.stmt.StoreOperator.TheVariants as stores
 use Rattle.ckc_tree.specs.Expressions.{Expression}
@@ -15,10 +15,11 @@ use Rattle.ckc_core.specs.declared.program.Direction.{Direction}
 use Rattle.ckc_core.specs.declared.program.Direction.TheVariants as directions
 use Rattle.ckc_core.specs.declared.program.Site.{Site}
 use Rattle.ckc_core.specs.Core as core
-use Rattle.region_typing_rules.specs.Verdicts.{Verdict, Passes}
+use Rattle.region_typing_rules.specs.Verdicts.{Verdict, Passes, breaks}
 use Rattle.region_typing_rules.specs.Scopes.{Scope}
 use Rattle.region_typing_rules.specs.Types.{is_number, converts}
-use Rattle.region_typing_rules.specs.Expressions.{Places, Lvalue, OfLocal, OfCell, OfBounded, ForNothing, ForArray, For, Typed, Value, AStruct, site_at, operator_along, sum_node, typed, in_type, converted, bounds_met, meets}
+use Rattle.region_typing_rules.specs.Expressions.{Places, Lvalue, OfLocal, OfCell, OfBounded, OfUnknown, ForNothing, ForArray, For, Typed, Value, AStruct, site_at, operator_along, sum_node, typed, in_type, converted, bounds_met, meets}
+use Rattle.region_typing_rules.specs.DeclaredBounds.{unwritten_bounds}
 use Rattle.region_typing_rules.specs.Statements.{store, update, assigned, set_to, declared_for, meets_declared, moved, updated_as, updated, stored, step_of, one, assignment, initialised}
 use Rattle.region_typing_rules.proofs.Verdicts.{Promises, passing_promises, needs_promises, apart_promises, met_promises}
 use Rattle.region_typing_rules.proofs.Kept.{passing_any}
@@ -47,11 +48,13 @@ module _ (g : Scope) (target : Expression) where
   store_plain (OfLocal k) type value h = record { plain = (type, h.0); only = λ may is. is k h.1 }
   store_plain (OfCell p) type value h = record { plain = tt; only = λ may is. tt }
   store_plain (OfBounded k b) type value h = record { plain = tt; only = λ may is. tt }
+  store_plain (OfUnknown k) type value h = record { plain = tt; only = λ may is. tt }
 
   update_plain : (place : Lvalue) (type : CType) (operator : Operator) (value : core.Expression) (site : Site) → IsTarget g target type (For place) → IsAssignment g target (update place type operator value site)
   update_plain (OfLocal k) type operator value site h = record { plain = (type, h.0, refl); only = λ may is. is k h.1 }
   update_plain (OfCell p) type operator value site h = record { plain = tt; only = λ may is. tt }
   update_plain (OfBounded k b) type operator value site h = record { plain = tt; only = λ may is. tt }
+  update_plain (OfUnknown k) type operator value site h = record { plain = tt; only = λ may is. tt }
 
   assigned_plain : (t : Typed) (span : Span) (next : CType → Lvalue → Verdict core.Statement) → IsSource g target t → ((type : CType) (place : Lvalue) → IsTarget g target type (For place) → Promises (IsAssignment g target) (next type place)) → Promises (IsAssignment g target) (assigned t span next)
   assigned_plain (Value type null value ForNothing) span next h more = tt
@@ -61,12 +64,13 @@ module _ (g : Scope) (target : Expression) where
 
   set_plain : (f : Knowledge) (t right : Typed) (span : Span) → IsSource g target t → Promises (IsAssignment g target) (set_to f t right span)
   set_plain f t right span h =
-      assigned_plain t span _ h (λ type place is. converted_any (IsAssignment g target) right type span _ (λ v. needs_promises (IsAssignment g target) (meets_declared f (declared_for place) right type) E17 span _ (λ met. store_plain place type v is)))
+      assigned_plain t span _ h (λ type place is. converted_any (IsAssignment g target) right type span _ (λ v. needs_promises (IsAssignment g target) (meets_declared f (declared_for place type) right type) E17 span _ (λ met. store_plain place type v is)))
 
   moved_plain : (f : Knowledge) (place : Lvalue) (type : CType) (sum : core.Expression) (span : Span) → IsTarget g target type (For place) → Promises (IsAssignment g target) (moved f place type sum span)
   moved_plain f (OfLocal k) type sum span h = record { plain = (type, h.0); only = λ may is. is k h.1 }
-  moved_plain f (OfCell p) type sum span h = tt
+  moved_plain f (OfCell p) type sum span h = needs_promises (IsAssignment g target) (meets f sum (unwritten_bounds type)) E17 span (breaks E18 span) (λ met. tt)
   moved_plain f (OfBounded k b) type sum span h = needs_promises (IsAssignment g target) (meets f sum (Some b)) E17 span _ (λ met. record { plain = tt; only = λ may is. tt })
+  moved_plain f (OfUnknown k) type sum span h = tt
 
   updated_as_plain : (direction : Direction) (type : CType) (place : Lvalue) (t right : Typed) (site : Site) (span : Span) → IsTarget g target type (For place)
       → Promises (IsAssignment g target) (updated_as g direction type place t right site span)

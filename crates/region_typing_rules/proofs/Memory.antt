@@ -13,9 +13,7 @@ use Rattle.ckc_tree.specs.declared.expr.CallocWord.{CallocWord}
 use Rattle.ckc_tree.specs.declared.expr.CallocWord.TheVariants as calloc_words
 use Rattle.ckc_tree.specs.Expressions as e
 use Rattle.ckc_tree.specs.Expressions.{Expression}
-use Rattle.pointer_modes.specs.declared.ctype.Mode.TheVariants as modes
-use Rattle.pointer_modes.specs.declared.ctype.Kind.TheVariants as kinds
-use Rattle.pointer_modes.specs.Types.{CType, Pointer, Structure}
+use Rattle.pointer_modes.specs.Types.{CType, Structure}
 use Rattle.pointer_modes.specs.Layout.{size_of}
 use Rattle.act_words.specs.declared.operator.Operator.TheVariants as operators
 use Rattle.act_words.specs.declared.operator.ArithmeticOperator.TheVariants as arithmetics
@@ -26,8 +24,9 @@ use Rattle.ckc_core.specs.Steps.{is_char}
 use Rattle.region_typing_rules.specs.Verdicts.{picked}
 use Rattle.region_typing_rules.specs.Scopes.{Scope, WrittenBounds, bounds_in}
 use Rattle.region_typing_rules.specs.Readings.{term}
-use Rattle.region_typing_rules.specs.Types.{is_number}
+use Rattle.region_typing_rules.specs.Types.{is_number, may_lead_to}
 use Rattle.region_typing_rules.specs.Cells.{cells_with}
+use Rattle.region_typing_rules.specs.Statements.{array_kind, row_type}
 use Rattle.region_typing_rules.specs.Expressions.{Typed, Value, AStruct, ForNothing, is_size, first_factor, second_factor, factor_beside, elements_in, row_counted, allocation_if, malloc_typed, calloc_typed, call_bounds, casts_to, takes, has_base, base_in, cast_typed}
 use Rattle.region_typing_rules.proofs.Verdicts.{Promises, needs_promises}
 
@@ -83,18 +82,28 @@ counts s t written size = by (factor_beside s t written size) refl (beside_count
 
 -- ---- allocation
 
--- new memory of so many elements
-abbrev pub new_memory : Scope → CType → core.Expression → Site → Typed
-new_memory s t count site =
-    Value (Pointer modes.Checked kinds.Array t) false (core.Allocate count (cells_with s.structs t (pos 0)) false (row_counted s.structs t (term s.locals count) site)) ForNothing
+-- what new memory may consist of: elements that have bytes, or numbers with a zero behind them
+abbrev pub MayConsist : List Structure → (ended : Bool) → CType → Type 0
+MayConsist structs false t = nat_lt 0 (size_of structs t) ≡ true
+MayConsist structs true t = is_number t ≡ true
+
+-- to which pointers may lead
+pub may_lead : (structs : List Structure) (t : CType) (ended : Bool) → MayConsist structs ended t → may_lead_to (array_kind ended) t ≡ true
+may_lead structs t false h = refl
+may_lead structs t true h = h
+
+-- new memory of so many of them
+abbrev pub new_memory : Scope → (ended : Bool) → CType → core.Expression → Site → Typed
+new_memory s ended t count site =
+    Value (row_type ended t) false (core.Allocate count (cells_with s.structs t (pos 0)) ended (row_counted s.structs t ended (term s.locals count) site)) ForNothing
 
 module _ (Q : Typed → Type 0) (s : Scope) (t : CType) (site : Site) (span : Span) where
-  if_promises : (o : Option core.Expression) (size : core.Expression) → IfCount size o → ((count : core.Expression) → IsCount size count → nat_lt 0 (size_of s.structs t) ≡ true → Q (new_memory s t count site)) → Promises Q (allocation_if s t o site span)
+  if_promises : (o : Option core.Expression) (size : core.Expression) → IfCount size o → ((count : core.Expression) → IsCount size count → MayConsist s.structs false t → Q (new_memory s false t count site)) → Promises Q (allocation_if s t o site span)
   if_promises None size h more = tt
   if_promises (Some count) size h more = needs_promises Q (nat_lt 0 (size_of s.structs t)) E13 span _ (λ bytes. more count h bytes)
 
   pub malloc_promises : (word : MallocWord) (written : Expression) (a : Typed)
-      → OfValue (λ (type : CType) (size : core.Expression). is_number type ≡ true → (count : core.Expression) → IsCount size count → nat_lt 0 (size_of s.structs t) ≡ true → Q (new_memory s t count site)) a
+      → OfValue (λ (type : CType) (size : core.Expression). is_number type ≡ true → (count : core.Expression) → IsCount size count → MayConsist s.structs false t → Q (new_memory s false t count site)) a
       → Promises Q (malloc_typed word s t written a site span)
   malloc_promises malloc_words.TMalloc written a h = tt
   malloc_promises malloc_words.Malloc written (AStruct number place) h = tt
@@ -102,12 +111,14 @@ module _ (Q : Typed → Type 0) (s : Scope) (t : CType) (site : Site) (span : Sp
       needs_promises Q (is_number type) E13 span _ (λ number. if_promises (elements_in s t written size) size (counts s t written size) (h number))
 
   pub calloc_promises : (word : CallocWord) (a : Typed) (written : Expression)
-      → OfValue (λ (type : CType) (count : core.Expression). is_number type ≡ true → nat_lt 0 (size_of s.structs t) ≡ true → Q (new_memory s t count site)) a
+      → OfValue (λ (type : CType) (count : core.Expression). is_number type ≡ true → (ended : Bool) → MayConsist s.structs ended t → Q (new_memory s ended t count site)) a
       → Promises Q (calloc_typed word s t a written site span)
-  calloc_promises calloc_words.NtCalloc a written h = tt
+  calloc_promises calloc_words.NtCalloc (AStruct number place) written h = tt
+  calloc_promises calloc_words.NtCalloc (Value type zero count place) written h =
+      needs_promises Q (is_number type) E13 span _ (λ number. needs_promises Q (is_size s t written) E13 span _ (λ size. needs_promises Q (is_number t) E13 span _ (λ numbers. h number true numbers)))
   calloc_promises calloc_words.Calloc (AStruct number place) written h = tt
   calloc_promises calloc_words.Calloc (Value type zero count place) written h =
-      needs_promises Q (is_number type) E13 span _ (λ number. needs_promises Q (is_size s t written) E13 span _ (λ size. needs_promises Q (nat_lt 0 (size_of s.structs t)) E13 span _ (λ bytes. h number bytes)))
+      needs_promises Q (is_number type) E13 span _ (λ number. needs_promises Q (is_size s t written) E13 span _ (λ size. needs_promises Q (nat_lt 0 (size_of s.structs t)) E13 span _ (λ bytes. h number false bytes)))
 
 -- ---- casts
 

@@ -10,7 +10,7 @@ use Rattle.ckc_text.specs.declared.code.Code.TheVariants.{E04, E08, E10, E13, E1
 use Rattle.ckc_tree.specs.declared.identifier.Identifier.{Identifier}
 use Rattle.ckc_tree.specs.declared.item.FunctionKind.{FunctionKind}
 use Rattle.ckc_tree.specs.declared.item.FunctionKind.TheVariants as function_kinds
-use Rattle.ckc_tree.specs.Types.{TypeTree, IntType, CharType, StructType, PointerType}
+use Rattle.ckc_tree.specs.Types.{TypeTree, IntType, CharType, StructType, PointerType, type_span}
 use Rattle.ckc_tree.specs.Statements as s
 use Rattle.ckc_tree.specs.Statements.{Initializer, Declarator, Statements}
 use Rattle.ckc_tree.specs.Items as i
@@ -18,7 +18,7 @@ use Rattle.ckc_tree.specs.Expressions.{Bounds, bounds_span}
 use Rattle.ckc_tree.specs.Items.{Member, ResultForm, Parameters, Body, Item, Tree}
 use Rattle.bounds_exprs.specs.declared.term.Bounds.{Bounds as Formed}
 use Rattle.ckc_tree.specs.Numbers.{Numbers, number_type, number_expression, number_bounds, number_initializer, number_declarator, number_statements, number_member, number_structure, number_global, number_result, number_parameters, number_body, number_function, number_item}
-use Rattle.built_forms.specs.Built.{optional, built_type, built_initializer, built_declarator, built_result, built_parameters, built_parameter, is_number_result, is_number_parameter, built_body, built_of_kind, built_function, built_item, is_built}
+use Rattle.built_forms.specs.Built.{optional, built_bounds, built_type, built_initializer, built_declarator, built_result, built_parameters, built_parameter, is_number_result, is_number_parameter, built_body, built_of_kind, built_function, built_item, is_built}
 use Rattle.ckc_names_rules.specs.declared.given.Given.{Given}
 use Rattle.ckc_names_rules.specs.Given.{number_in, given_by}
 use Rattle.ckc_names_rules.specs.Mentions.{Mention, DeclareTag, DeclareFunction, type_mentions, bounds_mentions, optional_mentions, initializer_mentions, declarator_mentions, in_block, listed_mentions, parameters_mentions, statements_mentions, result_mentions, function_mentions, item_mentions, tree_mentions}
@@ -30,14 +30,14 @@ use Rattle.pointer_modes.specs.Types.{CType, Int, Char, Struct, Pointer, Structu
 use Rattle.ckc_core.specs.Programs.{Initial}
 use Rattle.ckc_core.specs.Core as core
 use Rattle.region_typing_rules.specs.Verdicts.{Verdict, Passes, Stops, Broken, Nameless, Unnamed, passing, needs, meant, picked}
-use Rattle.region_typing_rules.specs.Scopes.{Scope, Signature, FileVariable, found_if, object_of, object_named, function_named, struct_named}
-use Rattle.region_typing_rules.specs.Types.{without_stars, base_type}
+use Rattle.region_typing_rules.specs.Scopes.{Scope, Signature, WrittenBounds, FileVariable, found_if, object_of, object_named, function_named, struct_named}
+use Rattle.region_typing_rules.specs.Types.{may_lead_to, without_stars, base_type}
 use Rattle.region_typing_rules.specs.Expressions.{Places, is_tainted, typed}
 use Rattle.bounds_flow.specs.Flows.{at_entry}
-use Rattle.region_typing_rules.specs.Statements.{is_unchecked, statements, length_of}
+use Rattle.region_typing_rules.specs.Statements.{is_unchecked, statements, length_of, array_kind, is_ended_array, before_end}
 use Rattle.ckc_tree.specs.declared.stmt.SignedConstant.{SignedConstant}
 use Rattle.region_typing_rules.specs.Knowing.{knowing}
-use Rattle.region_typing_rules.specs.Items.{Walk, Parameter, is_struct, member_types, scalar_members, with_struct, member_names, structure, signed_constant, Walked, Missing, Written, Constants, unsigned_number, small_constants, initializer, are_zeros, is_zero, number_or_break, cells_or_break, object_cells, with_own, bounded_type, object_bounds, variable_of, with_variable, count_of, written_size, few_bytes, room_for, WalkedVariable, variables, room_for_first, with_objects, global, listed, parameter_types, among_parameters, type_of_result, bounds_of_result, first_changed_in, result_type, agrees, all_scalar, scalar_result, with_function, variables_in, with_bounds, before_bounds, inside, function_body, is_defined, function_rules, signature_of, function, is_off, item, items, start, walked}
+use Rattle.region_typing_rules.specs.Items.{Walk, Parameter, is_struct, member_types, scalar_members, with_struct, member_names, structure, signed_constant, Walked, Missing, Written, Constants, unsigned_number, small_constants, initializer, are_zeros, is_zero, number_or_break, cells_or_break, listed_cells, object_cells, with_own, bounded_type, object_bounds, variable_of, with_variable, count_of, written_size, few_bytes, room_for, WalkedVariable, variables, room_for_first, with_objects, global, listed, parameter_types, among_parameters, type_of_result, bounds_of_result, first_changed_in, result_type, agrees, all_scalar, scalar_result, with_function, variables_in, with_bounds, before_bounds, inside, function_body, is_defined, function_rules, signature_of, function, is_off, item, items, start, walked}
 use Rattle.region_typing_rules.specs.Cores.{checked}
 use Rattle.region_typing_rules.specs.DeclaredBounds.{declared_bounds}
 use Rattle.region_typing_rules.proofs.NamedBounds.{bounds_named}
@@ -85,8 +85,8 @@ function_last (g ∷ fs) f x h = by (x == g.name) refl (function_last fs f x h)
     by true e again = rw e refl
     by false e again = rw e again
 
-variable_agrees : (of : Numbers) (name : Identifier) (t : CType) (length : Option ℕ) (bounds : Option Formed) (n : Scopes) (g : Scope) → AgreesFile of n g → AgreesFile of (standing_for name Variable n) (with_variable (of name.name) t length bounds g)
-variable_agrees of name t length bounds n g h = record {
+variable_agrees : (of : Numbers) (name : Identifier) (t : CType) (length : Option ℕ) (ended : Bool) (bounds : WrittenBounds) (n : Scopes) (g : Scope) → AgreesFile of n g → AgreesFile of (standing_for name Variable n) (with_variable (of name.name) t length ended bounds g)
+variable_agrees of name t length ended bounds n g h = record {
   value = λ x v. by x (bytes_eq x name.name) refl v;
   function = λ x f. h.function x (entry_without is_function name.name Variable refl n.blocks x f);
   tag = h.tag;
@@ -94,9 +94,9 @@ variable_agrees of name t length bounds n g h = record {
 }
   where
     new : FileVariable
-    new = record { name = of name.name; type = t; length = length; bounds = bounds }
+    new = record { name = of name.name; type = t; length = length; ended = ended; bounds = bounds }
 
-    by : (x : List ℕ) (b : Bool) → bytes_eq x name.name ≡ b → is_value (visible (with_entry name.name Variable n.blocks) x) ≡ true → is_some (object_named 0 (with_variable (of name.name) t length bounds g).variables (of x)) ≡ true
+    by : (x : List ℕ) (b : Bool) → bytes_eq x name.name ≡ b → is_value (visible (with_entry name.name Variable n.blocks) x) ≡ true → is_some (object_named 0 (with_variable (of name.name) t length ended bounds g).variables (of x)) ≡ true
     by x true e v = object_last 0 g.variables new (of x) (number_equal of x name.name e)
     by x false e v = object_more 0 g.variables (new ∷ []) (of x) (h.value x (subst (λ o. is_value o ≡ true) (entry_value name.name Variable n.blocks x e) v))
 
@@ -204,25 +204,28 @@ all_cells_named : (o : Option (List Initial)) (span : Span) → AllNamed (cells_
 all_cells_named None span = tt
 all_cells_named (Some cells) span = tt
 
-cells_named : (given : Given) (structs : List Structure) (t : CType) (length : Option ℕ) (initial : Walked) (span : Span) → AllNamed (object_cells given structs t length initial span)
-cells_named given structs t None Missing span = tt
-cells_named given structs t None (Constants cs) span = tt
-cells_named given structs Int None (Written value x) span = number_named (signed_constant given value) span _
-cells_named given structs Char None (Written value x) span = number_named (signed_constant given value) span _
-cells_named given structs (Struct number) None (Written value x) span = tt
-cells_named given structs (Pointer mode kind target) None (Written value x) span = needs_named Any (is_zero x) E13 span _ tt
-cells_named given structs t (Some length) Missing span = tt
-cells_named given structs t (Some length) (Written value x) span = tt
-cells_named given structs Int (Some length) (Constants cs) span = all_cells_named _ span
-cells_named given structs Char (Some length) (Constants cs) span = all_cells_named _ span
-cells_named given structs (Struct number) (Some length) (Constants cs) span = tt
-cells_named given structs (Pointer mode kind target) (Some length) (Constants cs) span = needs_named Any (are_zeros cs) E13 span _ (all_cells_named _ span)
+listed_named : (structs : List Structure) (t : CType) (length : ℕ) (cs : List SignedConstant) (span : Span) → AllNamed (listed_cells structs t length cs span)
+listed_named structs Int length cs span = all_cells_named _ span
+listed_named structs Char length cs span = all_cells_named _ span
+listed_named structs (Struct number) length cs span = tt
+listed_named structs (Pointer mode kind target) length cs span = needs_named Any (are_zeros cs) E13 span _ (all_cells_named _ span)
+
+cells_named : (given : Given) (structs : List Structure) (t : CType) (length : Option ℕ) (ended : Bool) (initial : Walked) (span : Span) → AllNamed (object_cells given structs t length ended initial span)
+cells_named given structs t None ended Missing span = tt
+cells_named given structs t None ended (Constants cs) span = tt
+cells_named given structs Int None ended (Written value x) span = number_named (signed_constant given value) span _
+cells_named given structs Char None ended (Written value x) span = number_named (signed_constant given value) span _
+cells_named given structs (Struct number) None ended (Written value x) span = tt
+cells_named given structs (Pointer mode kind target) None ended (Written value x) span = needs_named Any (is_zero x) E13 span _ tt
+cells_named given structs t (Some length) ended Missing span = tt
+cells_named given structs t (Some length) ended (Written value x) span = tt
+cells_named given structs t (Some length) ended (Constants cs) span = then_named Any (listed_cells structs t (before_end ended length) cs span) _ (listed_named structs t (before_end ended length) cs span) (λ cells. tt)
 
 objects_named : (w : Walk) (span : Span) (vs : List WalkedVariable) → IsNamed (λ (v : Walk). v.scope ≡ w.scope) (with_objects w span vs)
 objects_named w span [] = refl
 objects_named w span (v ∷ vs) =
-    then_named (λ (x : Walk). x.scope ≡ w.scope) (object_cells w.scope.given w.scope.structs v.type v.length v.initial span) _ (cells_named w.scope.given w.scope.structs v.type v.length v.initial span)
-    (λ cells. needs_named (λ (x : Walk). x.scope ≡ w.scope) (nat_lt 0 (length cells)) E10 span _ (objects_named (record w { objects = w.objects ++ variable_of v.bounds cells ∷ [] }) span vs))
+    then_named (λ (x : Walk). x.scope ≡ w.scope) (object_cells w.scope.given w.scope.structs v.type v.length v.ended v.initial span) _ (cells_named w.scope.given w.scope.structs v.type v.length v.ended v.initial span)
+    (λ cells. needs_named (λ (x : Walk). x.scope ≡ w.scope) (nat_lt 0 (length cells)) E10 span _ (objects_named (record w { objects = w.objects ++ variable_of v.ended v.bounds cells ∷ [] }) span vs))
 
 variables_named : (of : Numbers) (at : Places) (ds : List Declarator) (n m : Scopes) (w : Walk) (base : TypeTree) (type : CType) (span : Span) (done : List WalkedVariable) → File of n w → HasTags n.tags base → list_all built_declarator ds ≡ true
     → all_mentioned (flat_map declarator_mentions ds) n ≡ Ok m → IsNamed (λ (r : Walk × List WalkedVariable). File of m r.0) (variables at w (number_type of base) type span (map (number_declarator of) ds) done)
@@ -230,21 +233,25 @@ variables_named of at [] n m w base type span done agrees tags built h = subst (
 variables_named of at (d ∷ ds) n m w base type span done agrees tags built h =
     let Q : Walk × List WalkedVariable → Type 0 = λ r. File of m r.0 in
     let parts = and_parts (built_declarator d) (list_all built_declarator ds) built in
-    let form = (and_parts _ _ (and_parts _ _ parts.0).1).1 in
+    let form = (and_parts (optional built_bounds d.bounds) (optional built_initializer d.initializer) parts.0).1 in
     let split = mentioned_append (declarator_mentions d) (flat_map declarator_mentions ds) n m h in
     let inner = standing_for d.name Variable n in
     let bounds = optional_mentions bounds_mentions d.bounds in
     let initial = optional_mentions initializer_mentions d.initializer in
     let behind = quiet_front bounds initial (optional_quiet bounds_mentions bounds_quiet d.bounds) inner split.0 (declared_front d.name (bounds ++ initial) n split.0 split.1) in
     let last = quiet_all initial (optional_quiet initializer_mentions initializer_quiet d.initializer) inner split.0 behind.1 in
+    let ended = is_ended_array d in
     then_named Q (room_for w (number_type of base) span (number_declarator of d)) _ (room_named of n w base span d agrees tags)
     (λ taken. then_named Q (without_stars (number_type of base) d.stars type) _ (stars_named (number_type of base) d.stars type)
-    (λ t. then_named Q (object_bounds w.scope (number_declarator of d) t) _ (bounds_named of inner (with_own (of d.name.name) t w.scope) (variable_agrees of d.name t (length_of d) None n w.scope agrees).tag (bounded_type (length_of d) t) 0 d.bounds behind.0)
-    (λ declared. (let now = variable_agrees of d.name t (length_of d) declared n w.scope agrees in
-    let inside = with_variable (of d.name.name) t (length_of d) declared w.scope in
+    (λ t. needs_named Q (may_lead_to (array_kind ended) t) E13 (type_span (number_type of base)) _
+    (then_named Q (object_bounds w.scope (number_declarator of d) t) _
+    (then_named Any (declared_bounds (with_own (of d.name.name) t w.scope) (bounded_type (length_of d) t) 0 (option_map (number_bounds of) d.bounds)) _
+    (bounds_named of inner (with_own (of d.name.name) t w.scope) (variable_agrees of d.name t (length_of d) ended None n w.scope agrees).tag (bounded_type (length_of d) t) 0 d.bounds behind.0) (λ b. tt))
+    (λ declared. (let now = variable_agrees of d.name t (length_of d) ended declared n w.scope agrees in
+    let inside = with_variable (of d.name.name) t (length_of d) ended declared w.scope in
     then_named Q (initializer at inside (option_map (number_initializer of) d.initializer)) _ (initializer_named of at inner inside (file_agrees of inner _ now) d.initializer form last.0)
     (λ x. variables_named of at ds split.0 m (record w { scope = inside; taken = taken }) base type span _
-    (subst (λ k. AgreesFile of k inside) (sym last.1) now) (subst (λ k. HasTags k.tags base) (sym last.1) tags) parts.1 split.2)))))
+    (subst (λ k. AgreesFile of k inside) (sym last.1) now) (subst (λ k. HasTags k.tags base) (sym last.1) tags) parts.1 split.2))))))
 
 global_named : (of : Numbers) (at : Places) (n m : Scopes) (w : Walk) (g : i.Global) → File of n w → built_item (i.GlobalItem g) ≡ true → all_mentioned (item_mentions (i.GlobalItem g)) n ≡ Ok m → IsNamed (File of m) (global at w (number_global of g))
 global_named of at n m w g agrees built h =

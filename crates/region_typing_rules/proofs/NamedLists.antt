@@ -17,7 +17,7 @@ use Rattle.region_typing_rules.specs.Scopes.{Scope, WrittenBounds, local_named, 
 use Rattle.region_typing_rules.specs.Types.{type_named}
 use Rattle.region_typing_rules.specs.Statements.{with_local}
 use Rattle.region_typing_rules.specs.DeclaredBounds.{declared_bounds}
-use Rattle.region_typing_rules.specs.Items.{Parameter, member_types, among_parameters, written_as, parameter_types, with_parameters}
+use Rattle.region_typing_rules.specs.Items.{Parameter, member_types, among_parameters, declared_as, parameter_types, with_parameters}
 use Rattle.region_typing_rules.proofs.Verdicts.{extends_append, extends_last}
 use Rattle.region_typing_rules.proofs.NamedVerdicts.{IsNamed, AllNamed, Any, then_named, needs_named, named_so}
 use Rattle.region_typing_rules.proofs.NamedMentions.{AreFound, mentioned_append, quiet_front, quiet_all, type_quiet, bounds_quiet, optional_quiet, declared_front, Keeps, keeps_same, keeps_further, keeps_standing, KeepsOutside}
@@ -170,7 +170,7 @@ parameters_named of tags g knows all [] done h = last
     last x (inl listed) = absurd (cc)
     last x (inr old) = old
 parameters_named of tags g knows all (p ∷ members) done h =
-    let written : Option Bounds → WrittenBounds = written_as (option_map (number_bounds of) p.bounds) in
+    let written : Option Bounds → WrittenBounds = declared_as (option_map (number_bounds of) p.bounds) in
     let more : CType → Option Bounds → List Parameter = λ t b. done ++ record { name = of p.name.name; type = t; bounds = written b } ∷ [] in
     needs_named (Named of (p ∷ members) done) (nat_lt (length done) 16) E08 (type_span (number_type of p.type.base)) _
     (then_named (Named of (p ∷ members) done) (type_named g (number_type_name of p.type)) _ (type_named_named of tags g knows p.type h.0.0)

@@ -3,7 +3,7 @@ use Rattle.std.proofs.Common.{◌≡◌, ℕ, suc, ◌+◌, Bool, true, false, L
 use Rattle.std.specs.Prelude.{◌==◌, ◌||◌, cond, bytes_eq, nat_lt, is_some, position, slice_get}
 use Rattle.std.specs.List.{list_any, position_or_len}
 use Rattle.std.proofs.lemmas.Bool.Decides.{nat_tests}
-use Rattle.ckc_text.specs.declared.code.Code.TheVariants.{E15}
+use Rattle.ckc_text.specs.declared.code.Code.TheVariants.{E13, E15}
 use Rattle.ckc_tree.specs.declared.identifier.Identifier.{Identifier}
 use Rattle.ckc_tree.specs.Types.{TypeTree, IntType, CharType, StructType, PointerType, TypeName, type_span}
 use Rattle.ckc_tree.specs.Numbers.{Numbers, number_type, number_type_name}
@@ -15,7 +15,7 @@ use Rattle.bounds_flow.specs.Flows.{Knowledge}
 use Rattle.pointer_modes.specs.Types.{CType}
 use Rattle.region_typing_rules.specs.Verdicts.{passing, meant}
 use Rattle.region_typing_rules.specs.Scopes.{Scope, Visible, Named, local_if, found_if, local_named, object_named, or_else, null_named, named, function_named, struct_named}
-use Rattle.region_typing_rules.specs.Types.{without_stars, base_type, type_named}
+use Rattle.region_typing_rules.specs.Types.{kind_of, may_lead_to, without_stars, base_type, type_named}
 use Rattle.region_typing_rules.specs.Statements.{with_local, behind_block, in_loop}
 use Rattle.region_typing_rules.proofs.Verdicts.{Extends, extends_append, extends_last}
 use Rattle.region_typing_rules.proofs.NamedVerdicts.{AllNamed, Any, then_named, needs_named}
@@ -258,7 +258,8 @@ base_named of tags g knows (CharType span) h = tt
 base_named of tags g knows (StructType tag span) h = then_named Any (meant (struct_named g (of tag.name))) _ (meant_some (struct_named g (of tag.name)) (knows tag.name h)) (λ number. tt)
 base_named of tags g knows (PointerType word element stars span) h =
     then_named Any (passing (base_type g (number_type of element)) (without_stars (number_type of element) stars)) _
-    (then_named Any (base_type g (number_type of element)) (without_stars (number_type of element) stars) (base_named of tags g knows element h) (stars_named (number_type of element) stars)) (λ t. tt)
+    (then_named Any (base_type g (number_type of element)) (without_stars (number_type of element) stars) (base_named of tags g knows element h) (stars_named (number_type of element) stars))
+    (λ t. needs_named Any (may_lead_to (kind_of word.kind) t) E13 span _ tt)
 
 pub type_named_named : (of : Numbers) → (tags : List (List ℕ)) (g : Scope) → KnowsTags of tags g → (t : TypeName) → HasTags tags t.base → AllNamed (type_named g (number_type_name of t))
 type_named_named of tags g knows t h =

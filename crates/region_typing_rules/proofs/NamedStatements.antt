@@ -1,33 +1,33 @@
 -- In a statement each name stands for something, and the scopes behind it agree again.
-use Rattle.std.proofs.Common.{◌≡◌, ℕ, true, false, List, [], ◌∷◌, ◌++◌, map, length, Option, Some, None, refl, sym, subst, pos}
+use Rattle.std.proofs.Common.{◌≡◌, ℕ, Bool, true, false, List, [], ◌∷◌, ◌++◌, map, length, Option, Some, None, refl, sym, subst}
 use Rattle.std.specs.Prelude.{◌&&◌, ◌||◌, not, nat_lt, flat_map, Ok}
 use Rattle.std.specs.List.{list_all}
 use Rattle.std.specs.Option.{option_map}
 use Rattle.std.proofs.lemmas.Bool.{and_parts}
 use Rattle.ckc_text.specs.declared.place.Span.{Span}
 use Rattle.ckc_text.specs.declared.code.Code.TheVariants.{E08, E13, E15, E30}
-use Rattle.ckc_tree.specs.Types.{TypeTree}
+use Rattle.ckc_tree.specs.Types.{TypeTree, type_span}
 use Rattle.ckc_tree.specs.Expressions.{Expression, expression_span}
 use Rattle.ckc_tree.specs.Statements as s
 use Rattle.ckc_tree.specs.Statements.{Initializer, Declarator, Declaration, Assignment, ForInitial, Statement, Statements}
 use Rattle.ckc_tree.specs.Numbers.{Numbers, number_type, number_expression, number_bounds, number_initializer, number_declarator, number_declaration, number_assignment, number_initial, number_statement, number_statements}
-use Rattle.built_forms.specs.Built.{built_expression, optional, built_initializer, built_declarator, built_declaration, built_assignment, built_initial, built_statement, built_statements}
+use Rattle.built_forms.specs.Built.{built_bounds, built_expression, optional, built_initializer, built_declarator, built_declaration, built_assignment, built_initial, built_statement, built_statements}
 use Rattle.ckc_names_rules.specs.Mentions.{type_mentions, expression_mentions, bounds_mentions, optional_mentions, initializer_mentions, declarator_mentions, declaration_mentions, assignment_mentions, for_initial_mentions, in_block, statement_mentions, statements_mentions}
 use Rattle.ckc_names_rules.specs.Scopes.{Variable, Scopes, standing_for, all_mentioned}
 use Rattle.pointer_modes.specs.Types.{CType, Int}
 use Rattle.ckc_core.specs.Core as core
 use Rattle.region_typing_rules.specs.Verdicts.{Passes}
 use Rattle.region_typing_rules.specs.Scopes.{Scope}
-use Rattle.region_typing_rules.specs.Types.{is_scalar, without_stars, base_type}
-use Rattle.region_typing_rules.specs.Expressions.{Places, typed, call_typed, site_at, row_of, allocation}
+use Rattle.region_typing_rules.specs.Types.{is_scalar, may_lead_to, without_stars, base_type}
+use Rattle.region_typing_rules.specs.Expressions.{Places, typed, call_typed, site_at}
 use Rattle.bounds_exprs.specs.declared.term.Bounds.{Bounds}
 use Rattle.bounds_flow.specs.Flows.{Knowledge}
-use Rattle.region_typing_rules.specs.DeclaredBounds.{declared_bounds}
+use Rattle.region_typing_rules.specs.DeclaredBounds.{declared_bounds, row_of}
 use Rattle.bounds_flow.specs.Settling.{Finding, Meets, WasLost, Falls}
 use Rattle.region_typing_rules.specs.Readings.{told}
 use Rattle.region_typing_rules.specs.Knowing.{assigned_by, first_found, settled_as, settling, knowing, when, cut, broken, continued, at_loop}
-use Rattle.region_typing_rules.specs.Statements.{step_of, one, assignment, assigning, with_local, initialised, first_value, bounded_local, declarator, declarators, declaration, behind_block, behind_branch, behind_both, behind_loop, before_step, in_loop, is_unchecked, condition, optional_condition, optional_step, first_part, return, statement, statements, length_of, local_of, row_type, with_array, array_bounds, without_initial, array_in, first_length}
-use Rattle.region_typing_rules.proofs.NamedVerdicts.{IsNamed, AllNamed, Any, passing_named, then_named, needs_named, scalar_named, met_named, converted_named, updated_named, stored_named, returned_named, nothing_named, allocation_named, converted_so}
+use Rattle.region_typing_rules.specs.Statements.{array_kind, is_ended_array, before_end, array_memory, step_of, one, assignment, assigning, with_local, initialised, first_value, bounded_local, declarator, declarators, declaration, behind_block, behind_branch, behind_both, behind_loop, before_step, in_loop, is_unchecked, condition, optional_condition, optional_step, first_part, return, statement, statements, length_of, local_of, row_type, with_array, array_bounds, without_initial, array_in, first_length}
+use Rattle.region_typing_rules.proofs.NamedVerdicts.{IsNamed, AllNamed, Any, passing_named, then_named, needs_named, scalar_named, met_named, converted_named, updated_named, stored_named, returned_named, nothing_named, memory_named, converted_so}
 use Rattle.region_typing_rules.proofs.NamedMentions.{AreFound, mentioned_append, quiet_front, quiet_all, found_append, type_quiet, expression_quiet, bounds_quiet, optional_quiet, initializer_quiet, assignment_quiet, declared_front, opened, block_mentioned, block_front, for_mentions, for_keeps, statement_keeps, statements_keep}
 use Rattle.region_typing_rules.proofs.NamedScopes.{Agrees, opened_agrees, loop_agrees, flow_agrees, flow_later, from_flow, Later, later_same, later_further, later_block, later_loop, later_local, behind_agrees, local_agrees, found_tags, base_named, stars_named, arrays_agree, later_arrays}
 use Rattle.region_typing_rules.proofs.NamedExpressions.{typed_named, call_named}
@@ -123,19 +123,19 @@ module _ (of : Numbers) (at : Places) where
   without_initial_named n g agrees (Some (s.Value value)) span built found = then_named Any (typed at g (number_expression of value)) _ (typed_named of at n g agrees value built found) (λ t. tt)
   without_initial_named n g agrees (Some (s.Constants constants list)) span built found = tt
 
-  array_named : (inner m : Scopes) (g : Scope) (d : Declarator) (t : CType) (count : ℕ) (span : Span) → m ≡ inner → Agrees of inner (with_array (of d.name.name) t count g) → AreFound inner (optional_mentions bounds_mentions d.bounds)
+  array_named : (inner m : Scopes) (g : Scope) (d : Declarator) (t : CType) (count : ℕ) (ended : Bool) (span : Span) → m ≡ inner → Agrees of inner (with_array (of d.name.name) t count ended g) → AreFound inner (optional_mentions bounds_mentions d.bounds)
       → optional built_initializer d.initializer ≡ true → AreFound inner (optional_mentions initializer_mentions d.initializer)
-      → IsNamed (Behind {A = core.Statement} of m g) (array_in at (with_array (of d.name.name) t count g) (length g.locals) (number_declarator of d) t count span)
-  array_named inner m g d t count span same now bounds built initial =
-      let inside = with_array (of d.name.name) t count g in
+      → IsNamed (Behind {A = core.Statement} of m g) (array_in at (with_array (of d.name.name) t count ended g) (length g.locals) (number_declarator of d) t count ended span)
+  array_named inner m g d t count ended span same now bounds built initial =
+      let inside = with_array (of d.name.name) t count ended g in
       then_named (Behind {A = core.Statement} of m g) (array_bounds inside (option_map (number_bounds of) d.bounds)) _ (bounds_named of inner inside now.tag Int (length inside.locals) d.bounds bounds)
       (λ b. then_named (Behind {A = core.Statement} of m g) (without_initial at inside (option_map (number_initializer of) d.initializer) span) _ (without_initial_named inner inside now d.initializer span built initial)
-      (λ u. then_named (Behind {A = core.Statement} of m g) (allocation inside t (core.Number (pos count)) (site_at at span) span) _ (allocation_named inside t (core.Number (pos count)) (site_at at span) span)
-      (λ memory. converted_so (Behind {A = core.Statement} of m g) memory (row_type t) span _
+      (λ u. then_named (Behind {A = core.Statement} of m g) (array_memory inside ended t count (site_at at span) span) _ (memory_named inside ended t count (site_at at span) span)
+      (λ memory. converted_so (Behind {A = core.Statement} of m g) memory (row_type ended t) span _
       (λ v. let value = assigned_by inside.locals (core.SetLocal (length g.locals) v) inside.flow in
       then_named (Behind {A = core.Statement} of m g) (settling value span) _ (settling_named value span)
       (λ f. behind_flow of m g inside inside.outside f g.breaks g.continues
-      (record { agrees = subst (λ k. Agrees of k inside) (sym same) now; later = later_arrays g (with_local (of d.name.name) (row_type t) (Some (row_of count)) g) inside.arrays (later_local (of d.name.name) (row_type t) (Some (row_of count)) g) }))))))
+      (record { agrees = subst (λ k. Agrees of k inside) (sym same) now; later = later_arrays g (with_local (of d.name.name) (row_type ended t) (Some (row_of (before_end ended count))) g) inside.arrays (later_local (of d.name.name) (row_type ended t) (Some (row_of (before_end ended count))) g) }))))))
 
   declarator_named : (n m : Scopes) (g : Scope) (base : TypeTree) (type : CType) (span : Span) (d : Declarator) → Agrees of n g → built_declarator d ≡ true → all_mentioned (declarator_mentions d) n ≡ Ok m
       → IsNamed (Behind {A = core.Statement} of m g) (declarator at g base type span (number_declarator of d))
@@ -145,13 +145,15 @@ module _ (of : Numbers) (at : Places) where
       let initial = optional_mentions initializer_mentions d.initializer in
       let behind = quiet_front bounds initial (optional_quiet bounds_mentions bounds_quiet d.bounds) inner m (declared_front d.name (bounds ++ initial) n m h) in
       let last = quiet_all initial (optional_quiet initializer_mentions initializer_quiet d.initializer) inner m behind.1 in
-      let forms = (and_parts _ _ (and_parts _ _ built).1).1 in
+      let forms = (and_parts (optional built_bounds d.bounds) (optional built_initializer d.initializer) built).1 in
+      let ended = is_ended_array d in
       needs_named (Behind {A = core.Statement} of m g) (nat_lt (length g.locals) g.flow.vars) E08 span _
       (elim (length_of d) as (λ o. IsNamed (Behind {A = core.Statement} of m g) (local_of at g base type span (number_declarator of d) o)) [
         | Some count ↦ needs_named (Behind {A = core.Statement} of m g) (is_length (Some count)) E08 span _
             (then_named (Behind {A = core.Statement} of m g) (without_stars base d.stars type) _ (stars_named base d.stars type)
-            (λ t. array_named inner m g d t count span last.1
-            (arrays_agree of inner (with_local (of d.name.name) (row_type t) (Some (row_of count)) g) (length g.locals ∷ g.arrays) (local_agrees of d.name (row_type t) (Some (row_of count)) n g agrees)) behind.0 forms last.0))
+            (λ t. needs_named (Behind {A = core.Statement} of m g) (may_lead_to (array_kind ended) t) E13 (type_span base) _
+            (array_named inner m g d t count ended span last.1
+            (arrays_agree of inner (with_local (of d.name.name) (row_type ended t) (Some (row_of (before_end ended count))) g) (length g.locals ∷ g.arrays) (local_agrees of d.name (row_type ended t) (Some (row_of (before_end ended count))) n g agrees)) behind.0 forms last.0)))
         | None ↦ then_named (Behind {A = core.Statement} of m g) (without_stars base d.stars type) _ (stars_named base d.stars type)
             (λ t. then_named (Behind {A = core.Statement} of m g) (declared_bounds (with_local (of d.name.name) t None g) t (length g.locals) (option_map (number_bounds of) d.bounds)) _
             (bounds_named of inner (with_local (of d.name.name) t None g) (local_agrees of d.name t None n g agrees).tag t (length g.locals) d.bounds behind.0)

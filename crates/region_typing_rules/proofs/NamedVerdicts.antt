@@ -1,6 +1,6 @@
 -- Verdicts that aren't that a name stands for nothing: rules that speak of no name give no other ones.
-use Rattle.std.proofs.Common.{◌≡◌, ℕ, Bool, true, false, List, [], ◌∷◌, length, Option, Some, None, refl}
-use Rattle.std.specs.Prelude.{◌==◌, ◌&&◌, ◌||◌, not, is_some, nat_lt}
+use Rattle.std.proofs.Common.{◌≡◌, ℕ, Bool, true, false, List, [], ◌∷◌, length, Option, Some, None, refl, pos}
+use Rattle.std.specs.Prelude.{◌==◌, ◌-◌, ◌&&◌, ◌||◌, not, is_some, nat_lt}
 use Rattle.ckc_text.specs.declared.place.Span.{Span}
 use Rattle.ckc_text.specs.declared.code.Code.{Code}
 use Rattle.ckc_text.specs.declared.code.Code.TheVariants.{E13, E14, E17, E18, E19, E24, E26}
@@ -36,8 +36,9 @@ use Rattle.ckc_core.specs.Meaning.{bounds_of}
 use Rattle.region_typing_rules.specs.Verdicts.{Verdict, Passes, Stops, Broken, Nameless, passing, needs}
 use Rattle.region_typing_rules.specs.Scopes.{Scope, Signature, WrittenBounds, bounds_in, members_named}
 use Rattle.region_typing_rules.specs.Types.{is_number, is_pointer, are_comparable, converts}
-use Rattle.region_typing_rules.specs.Expressions.{Places, site_at, Lvalue, OfLocal, OfCell, OfBounded, Standing, ForNothing, ForArray, For, Typed, Value, AStruct, Called, Gives, GivesNothing, plain, number, sum_node, at_place, member_from, member_at, dotted, struct_place, first_element, with_elements, pointed_by, arrowed, pointed_at, dereferenced, address_at, address, number_of, scalar_of, unary_typed, is_single_value, lacks_bounds, without_ptr, two_numbers, two_scalars, operator_along, summed, sum_typed, equated_values, equated, are_related, ordered_values, ordered, arithmetic, binary_typed, element_at, indexed, in_type, asked_of, meets, bounds_met, converted, arguments_as, terms_for, pointers_for, argument_meets, arguments_met, is_import, is_checked_argument, without_checked, crossing, declared_call, writes, with_result, is_size, elements_in, allocation, allocation_if, malloc_typed, calloc_typed, casts_to, takes, has_base, base_in, cast_typed}
-use Rattle.region_typing_rules.specs.Statements.{assigned, update, declared_for, moved, updated_as, updated, stored, meets_declared, returned, returned_nothing}
+use Rattle.region_typing_rules.specs.Expressions.{Places, site_at, Lvalue, OfLocal, OfCell, OfBounded, OfUnknown, Standing, ForNothing, ForArray, For, Typed, Value, AStruct, Called, Gives, GivesNothing, plain, number, sum_node, at_place, member_from, member_at, dotted, struct_place, first_element, first_or_end, with_elements, pointed_by, arrowed, pointed_at, dereferenced, address_at, address, number_of, scalar_of, unary_typed, is_single_value, lacks_bounds, without_ptr, two_numbers, two_scalars, operator_along, summed, sum_typed, equated_values, equated, are_related, ordered_values, ordered, arithmetic, binary_typed, element_at, indexed, in_type, asked_of, meets, bounds_met, converted, arguments_as, terms_for, pointers_for, argument_meets, arguments_met, is_import, is_checked_argument, without_checked, crossing, declared_call, writes, is_text, length_typed, measures, with_result, is_size, elements_in, allocation, ended_allocation, allocation_if, malloc_typed, calloc_typed, casts_to, takes, has_base, base_in, cast_typed}
+use Rattle.region_typing_rules.specs.DeclaredBounds.{unwritten_bounds}
+use Rattle.region_typing_rules.specs.Statements.{array_memory, assigned, update, declared_for, moved, updated_as, updated, stored, meets_declared, returned, returned_nothing}
 
 -- no name stands for nothing, and this is so of the value where no rule is broken
 abbrev pub IsNamed : {A : Type 0} → (A → Type 0) → Verdict A → Type 0
@@ -111,7 +112,7 @@ pointed_at_named Char value site span = tt
 pointed_at_named (Struct number) value site span = tt
 pointed_at_named (Pointer mode kinds.One target) value site span = tt
 pointed_at_named (Pointer mode kinds.Array target) value site span = elements_named value span (Passes (at_place target (first_element value site))) tt
-pointed_at_named (Pointer mode kinds.Nt target) value site span = tt
+pointed_at_named (Pointer mode kinds.Nt target) value site span = elements_named value span (Passes (at_place target (first_or_end value site))) tt
 
 dereferenced_named : (t : Typed) (site : Site) (span : Span) → AllNamed (dereferenced t site span)
 dereferenced_named (Value type zero value place) site span = pointed_at_named type value site span
@@ -123,6 +124,7 @@ address_at_named type ForArray site span = tt
 address_at_named type (For (OfLocal local)) site span = tt
 address_at_named type (For (OfCell place)) site span = tt
 address_at_named type (For (OfBounded k b)) site span = tt
+address_at_named type (For (OfUnknown k)) site span = tt
 
 address_named : (t : Typed) (site : Site) (span : Span) → AllNamed (address t site span)
 address_named (Value type zero value place) site span = address_at_named type place site span
@@ -218,7 +220,7 @@ element_named Char pointer number site span = tt
 element_named (Struct k) pointer number site span = tt
 element_named (Pointer mode kinds.One target) pointer number site span = tt
 element_named (Pointer mode kinds.Array target) pointer number site span = elements_named pointer span _ tt
-element_named (Pointer mode kinds.Nt target) pointer number site span = tt
+element_named (Pointer mode kinds.Nt target) pointer number site span = elements_named pointer span _ tt
 
 pub indexed_named : (a b : Typed) (site : Site) (span : Span) → AllNamed (indexed a b site span)
 indexed_named (Value t z v p) (Value u y w q) site span = needs_named Any (is_pointer t && is_number u) E13 span _ (element_named t v w site span)
@@ -268,14 +270,29 @@ declared_named s f ts site span =
 pub writes_named : (of : core.Expression → core.Statement) (ts : List (Typed × Span)) (span : Span) → AllNamed (writes of ts span)
 writes_named of ts span = needs_named Any (length ts == 1) E14 span _ (then_named Any (arguments_as ts (Int ∷ [])) _ (arguments_named ts (Int ∷ [])) (λ values. tt))
 
+length_named : (t : Typed) (site : Site) (span : Span) → AllNamed (length_typed t site span)
+length_named (Value type zero value place) site span = needs_named Any (is_text type && is_some (bounds_of value)) E13 span _ tt
+length_named (AStruct number place) site span = tt
+
+pub measures_named : (ts : List (Typed × Span)) (site : Site) (span : Span) → AllNamed (measures ts site span)
+measures_named [] site span = tt
+measures_named (t ∷ ts) site span = needs_named Any (length (t ∷ ts) == 1) E14 span _ (length_named t.0 site span)
+
 pub result_named : (c : Called) (span : Span) → AllNamed (with_result c span)
 result_named (Gives type value) span = tt
 result_named (GivesNothing call) span = tt
 
 -- ---- allocation and casts
 
-pub allocation_named : (s : Scope) (t : CType) (count : core.Expression) (site : Site) (span : Span) → AllNamed (allocation s t count site span)
+allocation_named : (s : Scope) (t : CType) (count : core.Expression) (site : Site) (span : Span) → AllNamed (allocation s t count site span)
 allocation_named s t count site span = needs_named Any (nat_lt 0 (size_of s.structs t)) E13 span _ tt
+
+ended_named : (s : Scope) (t : CType) (count : core.Expression) (site : Site) (span : Span) → AllNamed (ended_allocation s t count site span)
+ended_named s t count site span = needs_named Any (is_number t) E13 span _ tt
+
+pub memory_named : (g : Scope) (ended : Bool) (t : CType) (count : ℕ) (site : Site) (span : Span) → AllNamed (array_memory g ended t count site span)
+memory_named g false t count site span = allocation_named g t (core.Number (pos count)) site span
+memory_named g true t count site span = ended_named g t (core.Number (pos (count - 1))) site span
 
 allocation_if_named : (s : Scope) (t : CType) (o : Option core.Expression) (site : Site) (span : Span) → AllNamed (allocation_if s t o site span)
 allocation_if_named s t None site span = tt
@@ -287,7 +304,7 @@ malloc_named malloc_words.TMalloc s t size a site span = tt
 
 pub calloc_named : (word : CallocWord) (s : Scope) (t : CType) (a : Typed) (size : Expression) (site : Site) (span : Span) → AllNamed (calloc_typed word s t a size site span)
 calloc_named calloc_words.Calloc s t a size site span = number_named a span _ (λ v. needs_named Any (is_size s t size) E13 span _ (allocation_named s t v site span))
-calloc_named calloc_words.NtCalloc s t a size site span = tt
+calloc_named calloc_words.NtCalloc s t a size site span = number_named a span _ (λ v. needs_named Any (is_size s t size) E13 span _ (ended_named s t v site span))
 
 pub cast_named : (word : CastWord) (s : Scope) (to : CType) (a : Typed) (written : WrittenBounds) (site : Site) (span : Span) → AllNamed (cast_typed word s to a written site span)
 cast_named cast_words.Dynamic s to (Value type zero value place) written site span =
@@ -305,8 +322,9 @@ assigned_named (AStruct number place) span next h = tt
 
 moved_named : (f : Knowledge) (place : Lvalue) (type : CType) (sum : core.Expression) (span : Span) → AllNamed (moved f place type sum span)
 moved_named f (OfLocal local) type sum span = tt
-moved_named f (OfCell place) type sum span = tt
+moved_named f (OfCell place) type sum span = needs_named Any (meets f sum (unwritten_bounds type)) E17 span _ tt
 moved_named f (OfBounded k b) type sum span = needs_named Any (meets f sum (Some b)) E17 span _ tt
+moved_named f (OfUnknown k) type sum span = tt
 
 updated_as_named : (g : Scope) (direction : Direction) (type : CType) (place : Lvalue) (target right : Typed) (site : Site) (span : Span) → AllNamed (updated_as g direction type place target right site span)
 updated_as_named g direction (Pointer mode kind to) place (Value type zero pointer old) right site span =
@@ -322,7 +340,7 @@ updated_named at g direction target right span =
     assigned_named target span _ (λ type place. apart_named target right span _ (updated_as_named g direction type place target right (site_at at span) span))
 
 pub stored_named : (at : Places) (g : Scope) (operator : StoreOperator) (target right : Typed) (span : Span) → AllNamed (stored at g operator target right span)
-stored_named at g stores.Set target right span = assigned_named target span _ (λ type place. converted_named right type span _ (λ value. needs_named Any (meets_declared g.flow (declared_for place) right type) E17 span _ tt))
+stored_named at g stores.Set target right span = assigned_named target span _ (λ type place. converted_named right type span _ (λ value. needs_named Any (meets_declared g.flow (declared_for place type) right type) E17 span _ tt))
 stored_named at g stores.Add target right span = updated_named at g directions.Forward target right span
 stored_named at g stores.Subtract target right span = updated_named at g directions.Backward target right span
 

@@ -1,6 +1,6 @@
 -- What has types is never stuck and never unsound: calls, and what expressions do with the values of their operands.
 use Rattle.std.proofs.Common.{◌≡◌, ◌+ℤ◌, ℕ, suc, ◌+◌, ◌<◌, ◌≤◌, Bool, true, false, ℤ, List, replicate, length, cond, Option, Some, None, refl, sym, ap, ◌∙◌, subst, arith}
-use Rattle.std.specs.Prelude.{◌==◌, is_some, slice_get, option_map, pos, sum}
+use Rattle.std.specs.Prelude.{◌==◌, is_some, slice_get, option_map, pos}
 use Rattle.std.proofs.lemmas.Int.{ints}
 use Rattle.std.proofs.lemmas.Bool.Decides.{nat_tests}
 use Rattle.std.proofs.lemmas.Option.{cond_some, slice_get_within}
@@ -32,7 +32,8 @@ use Rattle.ckc_core.specs.Steps.{Result, locals_for, given, truth, number_of_tes
 use Rattle.ckc_core.specs.Meaning.{Knot, Setting, audit, bounds_of, cast_if, cast_to, cast_within, element, summed, value, values, place}
 use Rattle.region_typing_rules.specs.Scopes.{Scope}
 use Rattle.region_typing_rules.specs.Knowing.{when}
-use Rattle.region_typing_rules.specs.Expressions.{bounds_at, row_of}
+use Rattle.region_typing_rules.specs.Expressions.{bounds_at}
+use Rattle.region_typing_rules.specs.DeclaredBounds.{row_of}
 use Rattle.bounds_flow_meaning.specs.Holding.{is_ended}
 use Rattle.region_typing_rules.specs.Verdicts.{picked}
 use Rattle.region_typing_rules.specs.Readings.{with_base, based_bounds, own_bounds, constant, constant_of, is_null, pointer_local, term}
@@ -47,7 +48,8 @@ use Rattle.bounds_exprs.specs.Changes.{ends_filled_in}
 use Rattle.bounds_flow_meaning.specs.Sums.{counted}
 use Rattle.bounds_flow_meaning.proofs.Numbers.{int_term, same_number}
 use Rattle.bounds_flow_meaning.proofs.Validity.{base_found, ends_parts, null_valid, valid_from}
-use Rattle.region_typing_rules.specs.Typed.{IsBoundedObject, AreNewBounds, IsBaseOf, Frame, HasBounds, IsBoundedBy, HasValue, IsNumberResult, IsCallee, HasCallBounds, HasResultBounds, AreAsked, terms_of, pointers_of, AreRows, AreSumBounds, HasElements, IsNodeOf, Counts, IsEndedRow}
+use Rattle.region_typing_rules.specs.Typed.{IsBoundedObject, AreNewBounds, IsBaseOf, Frame, HasBounds, IsBoundedBy, HasValue, IsNumberResult, IsCallee, HasCallBounds, HasResultBounds, AreAsked, terms_of, pointers_of, AreRows, AreSumBounds, CountsAs, HasCellBounds, HasElements, IsNodeOf, IsEndedRow}
+use Rattle.region_typing_rules.specs.Types.{Counts}
 use Rattle.region_typing_rules.proofs.Worlds.{Anything, tick_answers, enter_answers, touch_answers}
 use Rattle.region_typing_rules.proofs.BoundedObjects.{constant_stays, held_same}
 use Rattle.region_typing_rules.proofs.Values.{mapped_there, grows_here, grows_on, value_grown, values_count, values_fit, local_there, values_grown, locals_grown}
@@ -60,10 +62,11 @@ use Rattle.region_typing_rules.proofs.Terms.{term_formed, so_always, so_both, so
 use Rattle.region_typing_rules.proofs.Alike.{alike_here, alike_on, fits_after, types_alike}
 use Rattle.region_typing_rules.proofs.Given.{IsGivenIf, AreGivenAt, AreGiven, bounds_alike, free_alike, given_later, local_given, none_given, own_given, plain_given, given_weaker}
 use Rattle.region_typing_rules.proofs.Assigns.{IsGivenTo}
+use Rattle.region_typing_rules.proofs.ReadElements.{AreRight}
 use Rattle.region_typing_rules.proofs.Told.{null_given, pointer_so, told_fits, told_here, told_is}
 use Rattle.region_typing_rules.proofs.Calls.{AreEntered, ArePassed, IsPassed, entered, entered_later, hold, result_valid}
 use Rattle.region_typing_rules.proofs.Elements.{AreOf, pointing, ends_there, size_there, IsSum, sum_among, sum_based, sum_valid, array_valid, one_valid}
-use Rattle.region_typing_rules.proofs.EndedRows.{valid_as_array, valid_as_single, row_valid}
+use Rattle.region_typing_rules.proofs.EndedRows.{cell_valid, valid_as_array, valid_as_single, row_valid, value_as}
 use Rattle.region_typing_rules.proofs.LastZeros.{IsNewRow}
 use Rattle.region_typing_rules.proofs.Goes.{Goes, HasResult, IsAnswer, IsBounded, IsKept, IsKnot, IsReply, IsResult, OfNode, OfType, OfTypes, asked_goes, goes_further, goes_on, has_locals, lowered, shaped}
 use Rattle.region_typing_rules.proofs.Accesses.{IsAimed, aimed_here, aimed_later, allocated_goes, audited_goes, bounded_goes, given_back, new_valid, reply_goes, summed_goes, test_goes, valid_back, words_there}
@@ -146,7 +149,14 @@ module _ (g : Frame) (budget ticks : ℕ) where
       back_so terms (Some Char) (Some b) types' locals vs v s sound hold h = (h.0, λ b d is at. tt)
       back_so terms (Some (Struct number)) (Some b) types' locals vs v s sound hold h = (h.0, λ b d is at. tt)
       back_so terms (Some (Pointer m kinds.One t)) (Some b) types' locals vs v s sound hold h = (h.0, λ b d is at. tt)
-      back_so terms (Some (Pointer m kinds.Nt t)) (Some b) types' locals vs v s sound hold h = (h.0, λ b d is at. tt)
+      back_so terms (Some (Pointer m kinds.Nt t)) (Some b) types' locals vs None s sound hold h = (h.0, λ b d is at. tt)
+      back_so terms (Some (Pointer m kinds.Nt t)) (Some b) types' locals vs (Some v) s sound hold h = (
+        h.0,
+        λ c d is at.
+            let same : b ≡ c = cc in
+            let it = sound b refl in
+            result_valid g.structs terms s (record s { locals = locals_for locals vs }) hold b d (record { type = Pointer m kinds.Nt t; value = v }) it.base (ap (ends_filled_in terms) same ∙ at) (grows_here (shaped s)) h.1,
+      )
       back_so terms (Some (Pointer m kinds.Array t)) (Some b) types' locals vs None s sound hold h = (h.0, λ b d is at. tt)
       back_so terms (Some (Pointer m kinds.Array t)) (Some b) types' locals vs (Some v) s sound hold h = (
         h.0,
@@ -618,9 +628,30 @@ module _ (g : Frame) (budget ticks : ℕ) where
           → Goes g budget ticks low types s (OfNode g (core.Call callee arguments b) c) (value true setting k (core.Call callee arguments b) s) → WhereGiven (GivenTo (core.Call callee arguments b) m d t) (value true setting k (core.Call callee arguments b) s)
       call_given callee arguments ts c r b (typed.by_type bounds) m d t same s here' goes =
           plainly_given (core.Call callee arguments b) m d t s (subst (λ c. HasBounds g.structs c b) same bounds) refl (subst (λ x. Goes g budget ticks low types s (OfNode g (core.Call callee arguments b) x) (value true setting k (core.Call callee arguments b) s)) same goes)
-      call_given callee arguments ts _ _ _ (typed.by_result {mode = m'} {target = t'} {declared = r} {p = p} at size some limited none ints) m d t same s here' goes =
+      call_given callee arguments ts _ _ _ (typed.by_result {mode = m'} {kind = kind} {target = t'} {declared = r} {p = p} at counts size some limited none ints) m d t same s here' goes =
           subst (λ c. WhereGiven (AreGiven g.structs (length here.locals) c (core.Call callee arguments (Some p))) (value true setting k (core.Call callee arguments (Some p)) s)) same
-          (freely_given (core.Call callee arguments (Some p)) m' kinds.Array t' p s refl refl none ints goes)
+          (freely_given (core.Call callee arguments (Some p)) m' kind t' p s refl refl none ints goes)
+
+      -- those of a value in a cell
+      pub cell_given : (p : core.Place) (c : CType) (b : Option PointerBounds) → HasCellBounds g.structs c b → (m : Mode) (d : Kind) (t : CType) → c ≡ Pointer m d t → (s : State)
+          → Goes g budget ticks low types s (OfNode g (core.Load c p b) c) (value true setting k (core.Load c p b) s) → WhereGiven (GivenTo (core.Load c p b) m d t) (value true setting k (core.Load c p b) s)
+      cell_given p c _ typed.unbounded m d t same s goes = given_none (core.Load c p None) m d t s refl refl
+      cell_given p c b (typed.by_type bounds) m d t same s goes =
+          plainly_given (core.Load c p b) m d t s (subst (λ c. HasBounds g.structs c b) same bounds) refl (subst (λ x. Goes g budget ticks low types s (OfNode g (core.Load c p b) x) (value true setting k (core.Load c p b) s)) same goes)
+      cell_given p _ _ (typed.at_end {mode = m'} {t = t'} {site = site}) m d t same s goes =
+          let node = at_node (row_of 0) (size_of g.structs t') true site in
+          subst (λ c. WhereGiven (AreGiven g.structs (length here.locals) c (core.Load (Pointer m' kinds.Nt t') p (Some node))) (value true setting k (core.Load (Pointer m' kinds.Nt t') p (Some node)) s)) same
+          (freely_given (core.Load (Pointer m' kinds.Nt t') p (Some node)) m' kinds.Nt t' node s refl refl refl (record { lo = tt; hi = tt }) goes)
+
+      -- a value of a cell passes the audit at its node
+      pub cell_audited : (t : CType) (b : Option PointerBounds) → HasCellBounds g.structs t b → (o : Result Value) (s : State) → Goes g budget ticks low types s (OfType g t) o → Goes g budget ticks low types s (λ v u. OfType g t v u × IsBounded g t b v u) (and_then o (audit true b))
+      cell_audited t _ typed.unbounded o s goes = goes_on g budget ticks low types s (OfType g t) (λ v u. OfType g t v u × IsBounded g t None v u) o (audit true None) goes (λ v u _ typed kept. ((typed, none_bounded t v u), after_here u, kept))
+      cell_audited t b (typed.by_type bounds) o s goes =
+          goes_further g budget ticks low types s (OfType g t) (λ v u. OfType g t v u × IsBounded g t b v u) (and_then o (audit true b)) (audited_goes g budget ticks low types s t b o bounds goes) (λ v u typed. (typed, plain_bounded t b bounds v u typed))
+      cell_audited _ _ (typed.at_end {mode = m} {t = t} {site = site}) o s goes =
+          let node = at_node (row_of 0) (size_of g.structs t) true site in
+          goes_on g budget ticks low types s (OfType g (Pointer m kinds.Nt t)) (λ v u. OfType g (Pointer m kinds.Nt t) v u × IsBounded g (Pointer m kinds.Nt t) (Some node) v u) o (audit true (Some node)) goes
+          (λ v u _ typed kept. bounded_goes g budget ticks low types u m kinds.Nt t (Some node) v (record { size = refl; terminated = refl }) typed (cell_valid g.structs m t u v typed) kept)
 
       -- a call, by how it has its bounds
       pub call_goes : (callee : Callee) (arguments : core.Arguments) (ts : List CType) (bs : List (Option Bounds)) (t : CType) (r : Option Bounds) (b : Option PointerBounds) → IsCallee g callee ts bs (Some t) r → HasCallBounds g.structs here.locals (terms_of here.locals arguments ts) t r b
@@ -632,12 +663,12 @@ module _ (g : Frame) (budget ticks : ℕ) where
           (goes_on g budget ticks low types s (λ vs u. OfTypes g ts vs u × ArePassed g.structs (length here.locals) here.locals ts arguments vs u) (OfType g t) (values true setting k arguments s) _ goes
           (λ vs u after x u_kept. audited_goes g budget ticks low types u t b (and_then (called setting k callee vs u) result_given) bounds
           (goes_on g budget ticks low types u (IsBack types (terms_of here.locals arguments ts) (Some t) r) (OfType g t) (called setting k callee vs u) result_given (answered s here' enters arguments asked vs u after x u_kept) (λ v w _ back w_kept. given_back g budget ticks low types w t v back.0 w_kept))))
-      call_goes callee arguments ts bs _ _ _ enters (typed.by_result {mode = m} {target = t} {declared = r} {p = p} at size some limited none ints) asked s here' goes =
-          goes_on g budget ticks low types s (λ vs u. OfTypes g ts vs u × ArePassed g.structs (length here.locals) here.locals ts arguments vs u) (OfNode g (core.Call callee arguments (Some p)) (Pointer m kinds.Array t)) (values true setting k arguments s) _ goes
-          (λ vs u after x u_kept. goes_on g budget ticks low types u (λ v w. OfType g (Pointer m kinds.Array t) v w × IsBounded g (Pointer m kinds.Array t) (Some p) v w) (OfNode g (core.Call callee arguments (Some p)) (Pointer m kinds.Array t)) (and_then (called setting k callee vs u) result_given) (audit true (Some p))
-          (goes_on g budget ticks low types u (IsBack types (terms_of here.locals arguments ts) (Some (Pointer m kinds.Array t)) (Some r)) (λ v w. OfType g (Pointer m kinds.Array t) v w × IsBounded g (Pointer m kinds.Array t) (Some p) v w) (called setting k callee vs u) result_given
-          (answered s here' enters arguments asked vs u after x u_kept) (λ v w _ back w_kept. valid_back g budget ticks low types w m t p v back.0 (back.1 r p.bounds refl at) w_kept))
-          (λ v w _ y w_kept. bounded_goes g budget ticks low types w m kinds.Array t (Some p) v size y.0 y.1 w_kept))
+      call_goes callee arguments ts bs _ _ _ enters (typed.by_result {mode = m} {kind = kind} {target = t} {declared = r} {p = p} at counts size some limited none ints) asked s here' goes =
+          goes_on g budget ticks low types s (λ vs u. OfTypes g ts vs u × ArePassed g.structs (length here.locals) here.locals ts arguments vs u) (OfNode g (core.Call callee arguments (Some p)) (Pointer m kind t)) (values true setting k arguments s) _ goes
+          (λ vs u after x u_kept. goes_on g budget ticks low types u (λ v w. OfType g (Pointer m kind t) v w × IsBounded g (Pointer m kind t) (Some p) v w) (OfNode g (core.Call callee arguments (Some p)) (Pointer m kind t)) (and_then (called setting k callee vs u) result_given) (audit true (Some p))
+          (goes_on g budget ticks low types u (IsBack types (terms_of here.locals arguments ts) (Some (Pointer m kind t)) (Some r)) (λ v w. OfType g (Pointer m kind t) v w × IsBounded g (Pointer m kind t) (Some p) v w) (called setting k callee vs u) result_given
+          (answered s here' enters arguments asked vs u after x u_kept) (λ v w _ back w_kept. valid_back g budget ticks low types w m kind t p v counts back.0 (back.1 r p.bounds refl at) w_kept))
+          (λ v w _ y w_kept. bounded_goes g budget ticks low types w m kind t (Some p) v size y.0 y.1 w_kept))
 
       -- ---- new memory
 
@@ -784,19 +815,19 @@ module _ (g : Frame) (budget ticks : ℕ) where
       single_unbased t b told = ap (λ b. with_base (option_map (λ (q : PointerBounds). q.bounds) b)) told.1
 
       -- a cast to one without bounds
-      pub unbounded_goes : (e : core.Expression) (m : Mode) (d : Kind) (t : CType) (s : State) → Goes g budget ticks low types s (OfType g (Pointer m d t)) (value true setting k e s) → Goes g budget ticks low types s (OfNode g (core.Cast e None) (Pointer m kinds.Array t)) (value true setting k (core.Cast e None) s)
-      unbounded_goes e m d t s goes =
-          goes_on g budget ticks low types s (OfType g (Pointer m kinds.Array t)) (OfNode g (core.Cast e None) (Pointer m kinds.Array t)) (and_then (value true setting k e s) (λ v u. cast_to None (with_ends (bounds_of e) v u.locals) u)) (audit true None)
-          (goes_on g budget ticks low types s (OfType g (Pointer m d t)) (OfType g (Pointer m kinds.Array t)) (value true setting k e s) (λ v u. cast_to None (with_ends (bounds_of e) v u.locals) u) goes
-          (λ v u _ typed u_kept. (subst (λ v. OfType g (Pointer m kinds.Array t) v u) (sym (same_value (bounds_of e) v u)) (row_value m d t v u typed), after_here u, u_kept)))
+      pub unbounded_goes : (e : core.Expression) (m : Mode) (d d' : Kind) (t : CType) → CountsAs d d' → (s : State) → Goes g budget ticks low types s (OfType g (Pointer m d t)) (value true setting k e s) → Goes g budget ticks low types s (OfNode g (core.Cast e None) (Pointer m d' t)) (value true setting k (core.Cast e None) s)
+      unbounded_goes e m d d' t counts s goes =
+          goes_on g budget ticks low types s (OfType g (Pointer m d' t)) (OfNode g (core.Cast e None) (Pointer m d' t)) (and_then (value true setting k e s) (λ v u. cast_to None (with_ends (bounds_of e) v u.locals) u)) (audit true None)
+          (goes_on g budget ticks low types s (OfType g (Pointer m d t)) (OfType g (Pointer m d' t)) (value true setting k e s) (λ v u. cast_to None (with_ends (bounds_of e) v u.locals) u) goes
+          (λ v u _ typed u_kept. (subst (λ v. OfType g (Pointer m d' t) v u) (sym (same_value (bounds_of e) v u)) (value_as g.structs (shaped u) m d d' t counts v typed), after_here u, u_kept)))
           (λ v u _ typed u_kept. ((typed, tt), after_here u, u_kept))
 
       -- with what an expression told that came out so
-      pub told_too : (tracked : length here.locals ≤ here.flow.vars) (e : core.Expression) (t : CType) (s : State) → IsHere s → Goes g budget ticks low types s (OfType g t) (value true setting k e s) → Goes g budget ticks low types s (λ v u. OfType g t v u × IsKnown g.structs (when e (truth v) here) u) (value true setting k e s)
-      told_too tracked e t s h goes =
+      pub told_too : (tracked : length here.locals ≤ here.flow.vars) (e : core.Expression) (t : CType) → AreRight g.structs here.locals here.flow e → (s : State) → IsHere s → Goes g budget ticks low types s (OfType g t) (value true setting k e s) → Goes g budget ticks low types s (λ v u. OfType g t v u × IsKnown g.structs (when e (truth v) here) u) (value true setting k e s)
+      told_too tracked e t right s h goes =
           sure_further (λ v u. (OfType g t v u × IsAfter s u × IsKept g budget ticks low types u) × (IsAfter s u × IsKnown g.structs (when e (truth v) here) u)) (λ v u. (OfType g t v u × IsKnown g.structs (when e (truth v) here) u) × IsAfter s u × IsKept g budget ticks low types u) (value true setting k e s)
           (sure_both (λ v u. OfType g t v u × IsAfter s u × IsKept g budget ticks low types u) (λ v u. IsAfter s u × IsKnown g.structs (when e (truth v) here) u) (value true setting k e s) goes
-          (told_fits true setting k is.keeps g.structs here.locals e here.flow flow tracked s (has_locals g.structs (shaped s) here.locals types s.locals reaches h.1.locals) h.0))
+          (told_fits true setting k is.keeps g.structs here.locals e here.flow flow tracked right s (has_locals g.structs (shaped s) here.locals types s.locals reaches h.1.locals) h.1.zeros h.0))
           (λ v u x. ((x.0.0, x.1.1), x.0.1, x.0.2))
 
       -- that is a flow too, which speaks of each local

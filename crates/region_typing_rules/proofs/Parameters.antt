@@ -1,5 +1,5 @@
 -- What is so of the parameters of a function that break no rule.
-use Rattle.std.proofs.Common.{◌≡◌, ℕ, zero, suc, ◌+◌, ◌<◌, ◌≤◌, true, List, [], ◌∷◌, ◌++◌, map, length, Option, Some, None, refl, sym, ap, ◌∙◌, subst, append_assoc, arith}
+use Rattle.std.proofs.Common.{◌≡◌, ℕ, zero, suc, ◌+◌, ◌<◌, ◌≤◌, Bool, true, false, List, [], ◌∷◌, ◌++◌, map, length, Option, Some, None, refl, sym, ap, ◌∙◌, subst, append_assoc, arith}
 use Rattle.std.specs.Prelude.{◌==◌, ◌&&◌, nat_lt, is_none, slice_get}
 use Rattle.std.specs.List.{AllByRecursion, list_all}
 use Rattle.std.proofs.lemmas.Bool.{and_parts, ltb-true}
@@ -14,15 +14,16 @@ use Rattle.bounds_exprs.specs.declared.term.Bounds.{Bounds}
 use Rattle.bounds_flow.specs.Flows.{Knowledge, entered}
 use Rattle.bounds_flow_meaning.specs.Holding.{AreInts}
 use Rattle.pointer_modes.specs.declared.ctype.Mode.{Mode}
+use Rattle.pointer_modes.specs.declared.ctype.Kind.{Kind}
 use Rattle.pointer_modes.specs.declared.ctype.Kind.TheVariants as kinds
-use Rattle.pointer_modes.specs.Types.{CType, Pointer, Structure}
+use Rattle.pointer_modes.specs.Types.{CType, Int, Char, Struct, Pointer, Structure}
 use Rattle.pointer_modes.specs.Layout.{size_of}
-use Rattle.region_typing_rules.specs.Verdicts.{Verdict, Passes, Stops, needs}
+use Rattle.region_typing_rules.specs.Verdicts.{Verdict, Passes, Stops, needs, picked}
 use Rattle.region_typing_rules.specs.Scopes.{Scope, WrittenBounds, bounds_in}
-use Rattle.region_typing_rules.specs.Types.{base_type, without_stars, type_named}
-use Rattle.region_typing_rules.specs.DeclaredBounds.{declared_bounds}
+use Rattle.region_typing_rules.specs.Types.{base_type, without_stars, type_named, is_number}
+use Rattle.region_typing_rules.specs.DeclaredBounds.{declared_bounds, row_of, unwritten_bounds}
 use Rattle.region_typing_rules.specs.DeclaredFormed.{IsFormedFor, IsFormedIf}
-use Rattle.region_typing_rules.specs.Items.{Parameter, types_ahead, among_parameters, written_as, parameter_types, type_of_result, bounds_of_result, with_bounds}
+use Rattle.region_typing_rules.specs.Items.{Parameter, types_ahead, among_parameters, declared_as, parameter_types, type_of_result, bounds_of_result, with_bounds}
 use Rattle.region_typing_rules.specs.KnownIsSo.{AreLimited, IsDeclared}
 use Rattle.region_typing_rules.specs.Typed.{HaveRows, AreOfResult}
 use Rattle.region_typing_rules.proofs.Verdicts.{Promises, passing_promises, needs_promises, passed_is, promise_kept, promised_so}
@@ -38,7 +39,7 @@ pub record IsParameter (g : Scope) (all : List i.Member) (own : ℕ) (m : i.Memb
   pub name : p.name ≡ m.name.number
   pub type : type_named g m.type ≡ Passes p.type
   pub declared : declared_bounds (among_parameters g all) p.type own m.bounds ≡ Passes (bounds_in p.bounds)
-  pub written : p.bounds ≡ written_as m.bounds (bounds_in p.bounds)
+  pub written : p.bounds ≡ declared_as m.bounds (bounds_in p.bounds)
 
 -- and so is each of these, from a number on
 abbrev pub AreParameters : Scope → (all : List i.Member) → (own : ℕ) → List i.Member → List Parameter → Type 0
@@ -47,10 +48,11 @@ AreParameters g all own [] (p ∷ ps) = ⊥
 AreParameters g all own (m ∷ ms) [] = ⊥
 AreParameters g all own (m ∷ ms) (p ∷ ps) = IsParameter g all own m p × AreParameters g all (suc own) ms ps
 
--- what is written where nothing is comes to no bounds
-written_in : (s : Scope) (t : CType) (own : ℕ) (o : Option e.Bounds) (b : Option Bounds) → declared_bounds s t own o ≡ Passes b → bounds_in (written_as o b) ≡ b
-written_in s t own None b h = cc
-written_in s t own (Some text) b h = refl
+-- what is declared comes to the bounds
+declared_in : (o : Option e.Bounds) (b : Option Bounds) → bounds_in (declared_as o b) ≡ b
+declared_in None None = refl
+declared_in None (Some b) = refl
+declared_in (Some text) b = refl
 
 abbrev Added : Scope → List i.Member → List i.Member → List Parameter → List Parameter → Type 0
 Added g all ms before ps = (rest : List Parameter) × (ps ≡ before ++ rest) × AreParameters g all (length before) ms rest
@@ -63,10 +65,10 @@ added g all (m ∷ ms) before =
     needs_promises Q (nat_lt own 16) E08 (type_span m.type.base) _ (λ low.
     passing_promises (λ t. type_named g m.type ≡ Passes t) Q (type_named g m.type) _ (passed_is (type_named g m.type)) (λ t is.
     passing_promises (λ b. declared_bounds (among_parameters g all) t own m.bounds ≡ Passes b) Q (declared_bounds (among_parameters g all) t own m.bounds) _ (passed_is (declared_bounds (among_parameters g all) t own m.bounds)) (λ b made.
-    let p : Parameter = record { name = m.name.number; type = t; bounds = written_as m.bounds b } in
-    let same = written_in (among_parameters g all) t own m.bounds b made in
+    let p : Parameter = record { name = m.name.number; type = t; bounds = declared_as m.bounds b } in
+    let same = declared_in m.bounds b in
     let next : length (before ++ p ∷ []) ≡ suc own = (let e = length-append before (p ∷ []) in omega arith) in
-    let here : IsParameter g all own m p = record { few = ltb-true own 16 low; name = refl; type = is; declared = made ∙ ap Passes (sym same); written = ap (written_as m.bounds) (sym same) } in
+    let here : IsParameter g all own m p = record { few = ltb-true own 16 low; name = refl; type = is; declared = made ∙ ap Passes (sym same); written = ap (declared_as m.bounds) (sym same) } in
     promised_so (Added g all ms (before ++ p ∷ [])) Q (parameter_types g all ms (before ++ p ∷ [])) (added g all ms (before ++ p ∷ [])) (λ ps more.
     (p ∷ more.0, more.1 ∙ append_assoc before (p ∷ []) more.0, (here, subst (λ n. AreParameters g all n ms more.0) next more.2))))))
 
@@ -169,14 +171,14 @@ one_formed structs types (p ∷ ps) formed (suc x) b h = one_formed structs type
 
 -- parameters with bounds are pointers to arrays
 pub have_rows : (structs : List Structure) (types : List CType) (ps : List Parameter) → AreFormed structs types ps → HaveRows (map (λ (p : Parameter). p.type) ps) (all_bounds ps)
-have_rows structs types ps formed x b h = let it = one_formed structs types ps formed x b h in (it.2.mode, it.2.element, it.1 ∙ ap Some it.2.own)
+have_rows structs types ps formed x b h = let it = one_formed structs types ps formed x b h in (it.2.mode, it.2.kind, it.2.element, it.1 ∙ ap Some it.2.own, it.2.counts)
 
 -- each is declared for its own number
 pub all_declared_so : (structs : List Structure) (ps : List Parameter) → AreFormed structs (map (λ (p : Parameter). p.type) ps) ps → (x : ℕ) (b : Bounds) → slice_get (all_bounds ps) x ≡ Some (Some b)
     → IsDeclared structs (map (λ (p : Parameter). p.type) ps) x b × AreLimited b
 all_declared_so structs ps formed x b h =
     let it = one_formed structs (map (λ (p : Parameter). p.type) ps) ps formed x b h in
-    (record { mode = it.2.mode; element = it.2.element; own = it.1 ∙ ap Some it.2.own; some = it.2.some; ints = it.2.ints; base = it.2.base }, it.2.limited)
+    (record { mode = it.2.mode; kind = it.2.kind; counts = it.2.counts; element = it.2.element; own = it.1 ∙ ap Some it.2.own; some = it.2.some; ints = it.2.ints; base = it.2.base }, it.2.limited)
 
 -- ---- the bounds of its result
 
@@ -190,9 +192,21 @@ pub record IsForResult (structs : List Structure) (types : List CType) (result :
 abbrev pub AreForResult : List Structure → List CType → Option CType → WrittenBounds → Type 0
 AreForResult structs types result written = (b : Bounds) → bounds_in written ≡ Some b → IsForResult structs types result b
 
-result_is_row : (result : Option CType) (m : Mode) (t : CType) → type_of_result result ≡ Pointer m kinds.Array t → result ≡ Some (Pointer m kinds.Array t)
-result_is_row None m t e = absurd (cc)
-result_is_row (Some u) m t e = ap Some e
+result_is_row : (result : Option CType) (m : Mode) (kind : Kind) (t : CType) → type_of_result result ≡ Pointer m kind t → result ≡ Some (Pointer m kind t)
+result_is_row None m kind t e = absurd (cc)
+result_is_row (Some u) m kind t e = ap Some e
+
+unwritten_base : (t : CType) (b : Bounds) → unwritten_bounds t ≡ Some b → b.base ≡ None
+unwritten_base Int b e = absurd (cc)
+unwritten_base Char b e = absurd (cc)
+unwritten_base (Struct n) b e = absurd (cc)
+unwritten_base (Pointer m kinds.One t) b e = absurd (cc)
+unwritten_base (Pointer m kinds.Array t) b e = absurd (cc)
+unwritten_base (Pointer m kinds.Nt t) b e = by (is_number t) e
+  where
+    by : (test : Bool) → picked test (Some (row_of 0)) None ≡ Some b → b.base ≡ None
+    by true q = let same : row_of 0 ≡ b = cc in sym (ap (λ (b : Bounds). b.base) same)
+    by false q = absurd (cc)
 
 no_base : (o : Option ℕ) → is_none o ≡ true → o ≡ None
 no_base None h = refl
@@ -200,9 +214,7 @@ no_base (Some x) h = absurd (cc)
 
 pub result_formed : (g : Scope) (all : List i.Member) (ps : List Parameter) → AreParameters g all 0 all ps → (result : Option CType) (o : Option e.Bounds)
     → Promises (AreForResult g.structs (map (λ (p : Parameter). p.type) ps) result) (bounds_of_result g all result o)
-result_formed g all ps are result None = λ b h. absurd (cc)
-result_formed g all ps are result (Some text) =
-    by (declared_bounds (among_parameters g all) (type_of_result result) (length all) (Some text)) refl (declared_formed (among_parameters g all) (type_of_result result) (length all) (Some text))
+result_formed g all ps are result o = of_form o
   where
     types : List CType
     types = map (λ (p : Parameter). p.type) ps
@@ -212,19 +224,28 @@ result_formed g all ps are result (Some text) =
 
     formed : (b : Bounds) → IsFormedFor g.structs (types_ahead g all) (type_of_result result) b → b.base ≡ None → IsForResult g.structs types result b
     formed b h none = record {
-      are = record { mode = h.mode; element = h.element; is = result_is_row result h.mode h.element h.own; base = none; ints = subst (λ ts. AreInts ts b) (types_are_ahead g all 0 all ps are) h.ints };
+      are = record { mode = h.mode; kind = h.kind; counts = h.counts; element = h.element; is = result_is_row result h.mode h.kind h.element h.own; base = none; ints = subst (λ ts. AreInts ts b) (types_are_ahead g all 0 all ps are) h.ints };
       some = h.some;
       limited = h.limited;
     }
 
-    by : (v : Verdict (Option Bounds)) → declared_bounds (among_parameters g all) (type_of_result result) (length all) (Some text) ≡ v
+    unwritten : (o : Option Bounds) → unwritten_bounds (type_of_result result) ≡ o → IsFormedIf g.structs (types_ahead g all) (type_of_result result) o → Q (declared_as {A = e.Bounds} None o)
+    unwritten None e h = λ b found. absurd (cc)
+    unwritten (Some d) e h = λ b found. let same : d ≡ b = cc in subst (IsForResult g.structs types result) same (formed d h (unwritten_base (type_of_result result) d e))
+
+    by : (text : e.Bounds) (v : Verdict (Option Bounds)) → declared_bounds (among_parameters g all) (type_of_result result) (length all) (Some text) ≡ v
         → Promises (IsFormedIf g.structs (types_ahead g all) (type_of_result result)) v → Promises Q (bounds_of_result g all result (Some text))
-    by (Passes None) e h = rw e (λ b found. absurd (cc))
-    by (Passes (Some b)) e h =
+    by text (Passes None) e h = rw e (λ b found. absurd (cc))
+    by text (Passes (Some b)) e h =
         rw e (passing_promises (λ (kept : Option Bounds). (kept ≡ Some b) × (b.base ≡ None)) Q (needs (is_none b.base) E16 (bounds_span text) (Passes (Some b))) _
         (needs_promises (λ (kept : Option Bounds). (kept ≡ Some b) × (b.base ≡ None)) (is_none b.base) E16 (bounds_span text) (Passes (Some b)) (λ none. (refl, no_base b.base none)))
         (λ kept k d found. let same : b ≡ d = cc in subst (IsForResult g.structs types result) same (formed b h k.1)))
-    by (Stops stop) e h = rw e tt
+    by text (Stops stop) e h = rw e tt
+
+    of_form : (o : Option e.Bounds) → Promises Q (bounds_of_result g all result o)
+    of_form None = unwritten (unwritten_bounds (type_of_result result)) refl (declared_formed (among_parameters g all) (type_of_result result) (length all) None)
+    of_form (Some text) =
+        by text (declared_bounds (among_parameters g all) (type_of_result result) (length all) (Some text)) refl (declared_formed (among_parameters g all) (type_of_result result) (length all) (Some text))
 
 -- ---- the flow
 

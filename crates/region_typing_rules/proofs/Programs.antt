@@ -20,12 +20,12 @@ use Rattle.ckc_core.specs.Programs.{Initial, Variable, open_variable, parted}
 use Rattle.ckc_core.specs.Audits.{Agrees}
 use Rattle.ckc_core.specs.Steps.{Result, crossed, Flow, Next, Broke, Continued, Returned, parameters_of, fits_result, answer_if, answer, default_result, locals_for, back, exit, initial}
 use Rattle.ckc_core.specs.Meaning.{Setting, knot, body_if, body_of, effects, meaning, audited_meaning}
-use Rattle.region_typing_rules.specs.Typed.{Frame, HasResultBounds, IsScalarResult, IsInitial}
+use Rattle.region_typing_rules.specs.Typed.{Frame, AreOfResult, HasResultBounds, IsScalarResult, IsInitial}
 use Rattle.region_typing_rules.specs.Items.{names}
 use Rattle.bounds_exprs.specs.Changes.{is_named}
 use Rattle.bounds_exprs.specs.Terms.{is_var}
 use Rattle.ckc_core.specs.Bounds.{base_byte, term_value}
-use Rattle.bounds_flow_meaning.specs.Holding.{IsInt, target_size}
+use Rattle.bounds_flow_meaning.specs.Holding.{IsInt, IsValid, target_size}
 use Rattle.bounds_flow_meaning.proofs.Validity.{alike_here as local_alike, carried, null_valid, stay_ends}
 use Rattle.std.proofs.lemmas.Option.{slice_get_within}
 use Rattle.std.proofs.lemmas.List.{length-take-le}
@@ -39,6 +39,8 @@ use Rattle.region_typing_rules.proofs.Goes.{shaped, OfType, OfTypes, HasResult, 
 use Rattle.region_typing_rules.proofs.Safe.{AreSafe, IsSafe, IsSafeProgram, KnotsUpTo, safe_at, safe_there, setting_of}
 use Rattle.region_typing_rules.proofs.Calls.{AreEntered, entered_later}
 use Rattle.bounds_exprs.specs.declared.term.Bounds.{Bounds}
+use Rattle.pointer_modes.specs.declared.ctype.Mode.{Mode}
+use Rattle.pointer_modes.specs.declared.ctype.Kind.{Kind}
 use Rattle.pointer_modes.specs.declared.ctype.Kind.TheVariants as kinds
 use Rattle.region_typing_rules.proofs.Keeping.{Grown}
 use Rattle.region_typing_rules.proofs.Moving.{IsMovedTo, all_of_them, effects_move, knots_move}
@@ -72,19 +74,11 @@ module _ (g : Frame) (budget : ℕ) where
   answer_fits s (Some t) None h = absurd h
   answer_fits s (Some t) (Some v) h = value_typed g.structs (shaped s) t v h
 
-  -- a result is valid with its bounds where the locals that they name are as they were
-  moved_result : (types' : List CType) (result : Option CType) (r : Option Bounds) (v : Option Value) (s : State) (ls : List Local) → HasResultBounds types' result r → ((x : ℕ) → names r x ≡ true → x < length types' → slice_get s.locals x ≡ slice_get ls x) → HasResult g.structs result r v s → HasResult g.structs result r v (record s { locals = ls })
-  moved_result types' None r v s ls sound same h = tt
-  moved_result types' (Some Int) r v s ls sound same h = tt
-  moved_result types' (Some Char) r v s ls sound same h = tt
-  moved_result types' (Some (Struct number)) r v s ls sound same h = tt
-  moved_result types' (Some (Pointer m kinds.One t)) r v s ls sound same h = tt
-  moved_result types' (Some (Pointer m kinds.Nt t)) r v s ls sound same h = tt
-  moved_result types' (Some (Pointer m kinds.Array t)) None v s ls sound same h = tt
-  moved_result types' (Some (Pointer m kinds.Array t)) (Some b) None s ls sound same h = tt
-  moved_result types' (Some (Pointer m kinds.Array t)) (Some b) (Some v) s ls sound same h =
-      let it = sound b refl in
-      let l : Local = record { type = Pointer m kinds.Array t; value = v } in
+  -- a pointer is valid with bounds of a result where the locals that they name are as they were
+  moved_valid : (types' : List CType) (m : Mode) (kind : Kind) (t : CType) (b : Bounds) (v : Value) (s : State) (ls : List Local) → AreOfResult types' (Some (Pointer m kind t)) b → ((x : ℕ) → is_named x b ≡ true → x < length types' → slice_get s.locals x ≡ slice_get ls x)
+      → IsValid g.structs (Some b) (record { type = Pointer m kind t; value = v }) s → IsValid g.structs (Some b) (record { type = Pointer m kind t; value = v }) (record s { locals = ls })
+  moved_valid types' m kind t b v s ls it same h =
+      let l : Local = record { type = Pointer m kind t; value = v } in
       carried g.structs b b l l s (record s { locals = ls }) (grows_here (shaped s)) (local_alike l)
       (stay_ends (target_size g.structs l.type) b b s.locals ls (λ block byte. ap (λ o. base_byte o ls block byte) it.base ∙ sym (ap (λ o. base_byte o s.locals block byte) it.base))
       (same_term b.lo.var b.lo.plus it.ints.lo (λ x e. named_low x b e)) (same_term b.hi.var b.hi.plus it.ints.hi (λ x e. named_high x b e))) h
@@ -103,6 +97,20 @@ module _ (g : Frame) (budget : ℕ) where
       same_term None plus int named = refl
       same_term (Some x) plus int named = let e = same x (named x refl) (slice_get_within types' x Int int) in rw e refl
 
+  -- and so is the result
+  moved_result : (types' : List CType) (result : Option CType) (r : Option Bounds) (v : Option Value) (s : State) (ls : List Local) → HasResultBounds types' result r → ((x : ℕ) → names r x ≡ true → x < length types' → slice_get s.locals x ≡ slice_get ls x) → HasResult g.structs result r v s → HasResult g.structs result r v (record s { locals = ls })
+  moved_result types' None r v s ls sound same h = tt
+  moved_result types' (Some Int) r v s ls sound same h = tt
+  moved_result types' (Some Char) r v s ls sound same h = tt
+  moved_result types' (Some (Struct number)) r v s ls sound same h = tt
+  moved_result types' (Some (Pointer m kinds.One t)) r v s ls sound same h = tt
+  moved_result types' (Some (Pointer m kinds.Nt t)) None v s ls sound same h = tt
+  moved_result types' (Some (Pointer m kinds.Nt t)) (Some b) None s ls sound same h = tt
+  moved_result types' (Some (Pointer m kinds.Nt t)) (Some b) (Some v) s ls sound same h = moved_valid types' m kinds.Nt t b v s ls (sound b refl) same h
+  moved_result types' (Some (Pointer m kinds.Array t)) None v s ls sound same h = tt
+  moved_result types' (Some (Pointer m kinds.Array t)) (Some b) None s ls sound same h = tt
+  moved_result types' (Some (Pointer m kinds.Array t)) (Some b) (Some v) s ls sound same h = moved_valid types' m kinds.Array t b v s ls (sound b refl) same h
+
   -- null is valid with any
   default_result_so : (result : Option CType) (r : Option Bounds) (s : State) → HasResult g.structs result r (default_result result) s
   default_result_so None r s = tt
@@ -110,7 +118,8 @@ module _ (g : Frame) (budget : ℕ) where
   default_result_so (Some Char) r s = tt
   default_result_so (Some (Struct number)) r s = tt
   default_result_so (Some (Pointer m kinds.One t)) r s = tt
-  default_result_so (Some (Pointer m kinds.Nt t)) r s = tt
+  default_result_so (Some (Pointer m kinds.Nt t)) None s = tt
+  default_result_so (Some (Pointer m kinds.Nt t)) (Some b) s = null_valid g.structs (Some b) (record { type = Pointer m kinds.Nt t; value = Null }) s refl
   default_result_so (Some (Pointer m kinds.Array t)) None s = tt
   default_result_so (Some (Pointer m kinds.Array t)) (Some b) s = null_valid g.structs (Some b) (record { type = Pointer m kinds.Array t; value = Null }) s refl
 
@@ -143,18 +152,24 @@ module _ (g : Frame) (budget : ℕ) where
       answer_back (Some c) None t h = h
       answer_back (Some c) (Some v) t h = h
 
+      valid_back : (m : Mode) (kind : Kind) (c : CType) (b : Bounds) (v : Value) (t : State) → IsValid g.structs (Some b) (record { type = Pointer m kind c; value = v }) (record t { locals = ls })
+          → IsValid g.structs (Some b) (record { type = Pointer m kind c; value = v }) (record t { locals = ls; depth = s.depth })
+      valid_back m kind c b v t h =
+          let l : Local = record { type = Pointer m kind c; value = v } in
+          carried g.structs b b l l (record t { locals = ls }) (record t { locals = ls; depth = s.depth }) (grows_here (shaped t)) (local_alike l) (stay_ends (target_size g.structs l.type) b b ls ls (λ block byte. refl) refl refl) h
+
       result_back : (result : Option CType) (r : Option Bounds) (v : Option Value) (t : State) → HasResult g.structs result r v (record t { locals = ls }) → HasResult g.structs result r v (record t { locals = ls; depth = s.depth })
       result_back None r v t h = tt
       result_back (Some Int) r v t h = tt
       result_back (Some Char) r v t h = tt
       result_back (Some (Struct number)) r v t h = tt
       result_back (Some (Pointer m kinds.One c)) r v t h = tt
-      result_back (Some (Pointer m kinds.Nt c)) r v t h = tt
+      result_back (Some (Pointer m kinds.Nt c)) None v t h = tt
+      result_back (Some (Pointer m kinds.Nt c)) (Some b) None t h = tt
+      result_back (Some (Pointer m kinds.Nt c)) (Some b) (Some v) t h = valid_back m kinds.Nt c b v t h
       result_back (Some (Pointer m kinds.Array c)) None v t h = tt
       result_back (Some (Pointer m kinds.Array c)) (Some b) None t h = tt
-      result_back (Some (Pointer m kinds.Array c)) (Some b) (Some v) t h =
-          let l : Local = record { type = Pointer m kinds.Array c; value = v } in
-          carried g.structs b b l l (record t { locals = ls }) (record t { locals = ls; depth = s.depth }) (grows_here (shaped t)) (local_alike l) (stay_ends (target_size g.structs l.type) b b ls ls (λ block byte. refl) refl refl) h
+      result_back (Some (Pointer m kinds.Array c)) (Some b) (Some v) t h = valid_back m kinds.Array c b v t h
   back_goes n m low types inner result r ls s u (Ends ending t) enough locals same h grown = tt
   back_goes n m low types inner result r ls s u (Stuck site t) enough locals same h grown = h
   back_goes n m low types inner result r ls s u (Unsound site t) enough locals same h grown = h
@@ -286,7 +301,7 @@ audit_ends program is settings inputs acts words all =
     (let it = safe_there g g.program.functions g.bounds g.result_bounds program.main f.0 is.functions f.1 in
     goes_further g n n 0 [] start (IsResult g n n f.0.result it.r f.0.locals []) (IsAnswer g f.0.result) (body_of true (setting_of g n settings.sandbox settings.trusted) (knot true (setting_of g n settings.sandbox settings.trusted) n) (slice_get g.program.functions program.main) [] start)
     (body_goes g n settings.sandbox settings.trusted is.functions n n (knots g n settings.sandbox settings.trusted is.functions n) 0 [] program.main f.0 it.bs it.r [] start f.1 it.known it.told (subst (λ ts. OfTypes g ts [] start) (sym none) tt)
-    (λ x b l is_bound there. let row = it.safe.rows x b is_bound in absurd (let at : slice_get [] x ≡ Some (Pointer row.0 kinds.Array row.1) = subst (λ ts. slice_get ts x ≡ Some (Pointer row.0 kinds.Array row.1)) none row.2 in nothing_there x (Pointer row.0 kinds.Array row.1) at))
+    (λ x b l is_bound there. let row = it.safe.rows x b is_bound in absurd (let at : slice_get [] x ≡ Some (Pointer row.0 row.1 row.2) = subst (λ ts. slice_get ts x ≡ Some (Pointer row.0 row.1 row.2)) none row.3 in nothing_there x (Pointer row.0 row.1 row.2) at))
     (omega arith) kept) (λ v s h. h.0))
 
 pub never_unsound : (program : core.Core) → IsSafeProgram (parted program) → NeverUnsound program

@@ -3,7 +3,7 @@ use Rattle.std.specs.Prelude.{◌||◌, not, slice_index_or}
 use Rattle.std.proofs.lemmas.List.{length-replicate}
 use Rattle.ckc_text.specs.declared.code.Code.TheVariants.{E15, E17, E30}
 use Rattle.ckc_tree.specs.Statements as s
-use Rattle.ckc_tree.specs.Statements.{Assignment, ForInitial, Statement, Statements}
+use Rattle.ckc_tree.specs.Statements.{Assignment, Statement, Statements}
 use Rattle.pointer_modes.specs.Types.{Structure}
 use Rattle.bounds_flow.specs.Flows.{Knowledge, cut_off, met}
 use Rattle.bounds_flow_meaning.specs.Laws.{AreBeside}
@@ -20,10 +20,11 @@ use Rattle.region_typing_rules.specs.Knowing.{assigned_in, hidden_by, when, cut,
 use Rattle.region_typing_rules.specs.Statements.{Walked, both, behind_block, behind_branch, at_alternative, behind_both, behind_loop, before_step, in_loop, is_unchecked, condition, optional_condition, optional_step, first_part, alone, return, declaration, assigning, statement, statements}
 use Rattle.region_typing_rules.proofs.Keeping.{IsAfter}
 use Rattle.region_typing_rules.proofs.Moving.{IsMovedTo, moved_here, effect_moves, knots_move}
+use Rattle.region_typing_rules.proofs.RightNodes.{right_typed}
 use Rattle.region_typing_rules.proofs.Told.{told_fits}
-use Rattle.region_typing_rules.proofs.Between.{beside_of, between_told, between_without, outside_beside, outside_here, told_beside}
+use Rattle.region_typing_rules.proofs.Between.{IsBetween, between_more, beside_of, between_told, between_without, outside_beside, outside_here, told_beside}
 use Rattle.region_typing_rules.proofs.Sources.{IsFreshCall, call_typed_fresh}
-use Rattle.region_typing_rules.proofs.Ways.{Declares, walk_tracked, beside_sym, block_declares, block_outside_of, declares_here, declares_knowing, declares_on, declares_turn, fits_further, way_further, fits_first, known_out, loop_same, met_behind, on_way_here, on_way_before, step_keeps, way_out_between, way_out_outside, walk_knowing, walk_when, walk_cut, walk_broken, walk_continued, walk_block, walk_meeting, walk_head, walk_in_loop, walk_step, walk_behind, so_block, so_meeting, known_block}
+use Rattle.region_typing_rules.proofs.Ways.{IsWalk, Declares, walk_tracked, beside_sym, block_declares, block_outside_of, declares_here, declares_knowing, declares_on, declares_turn, fits_further, way_further, fits_first, known_out, loop_same, met_behind, on_way_here, on_way_before, step_keeps, way_out_between, way_out_outside, walk_knowing, walk_when, walk_cut, walk_broken, walk_continued, walk_block, walk_meeting, walk_head, walk_in_loop, walk_step, walk_behind, so_block, so_meeting, known_block}
 use Rattle.std.proofs.Common.{◌≡◌, ℕ, ◌-◌, ◌<◌, ◌≤◌, Bool, true, false, List, [], length, replicate, Option, Some, None, refl, sym, ◌∙◌, subst, arith}
 use Rattle.std.specs.List.{AllByRecursion}
 use Rattle.ckc_text.specs.declared.place.Span.{Span}
@@ -33,13 +34,16 @@ use Rattle.ckc_core.specs.States.{Value}
 use Rattle.ckc_core.specs.Meaning.{Knot, Setting, effect, effects, knot, value as value_of}
 use Rattle.region_typing_rules.specs.Expressions.{Places, Typed, Called, Gives as GivesValue, GivesNothing, call_typed, typed as typed_at}
 use Rattle.region_typing_rules.specs.Statements.{meets_declared, returned, returned_nothing}
-use Rattle.region_typing_rules.specs.KnownIsSo.{declared_at, FitsAlike, IsKnown, IsOnWay, IsBetween, IsWalk, ConditionsAreSo, ChangesMarked, MarkedAlone}
+use Rattle.region_typing_rules.specs.KnownIsSo.{declared_at, FitsAlike, IsKnown, IsOnWay, ChangesMarked, MarkedAlone}
+use Rattle.region_typing_rules.specs.ConditionsAreSo.{ConditionsAreSo}
 use Rattle.region_typing_rules.specs.Typed as typed
 use Rattle.region_typing_rules.specs.Typed.{Frame, HasType, IsReturned, IsScalar, IsSimple, IsStatement}
 use Rattle.region_typing_rules.proofs.Verdicts.{Promises, passing_promises, needs_promises, both_promise, later_promises, promised_so, Extends, extends_length}
 use Rattle.region_typing_rules.proofs.Knowledge.{KnowsFile, Knows}
 use Rattle.region_typing_rules.proofs.Growth.{Grows, GrowsTo, alternative_grows, behind_grows, file_known, first_grows, grows_further, head_grows, optional_grows, statement_grows, step_grows, when_grows}
-use Rattle.region_typing_rules.proofs.Expressions.{Fits, FitsCall, call_promises, result_asked, result_type_met, so_converted, typed_promises}
+use Rattle.region_typing_rules.proofs.Operands.{Fits, FitsCall}
+use Rattle.region_typing_rules.proofs.Conversions.{result_asked, result_type_met, so_converted}
+use Rattle.region_typing_rules.proofs.Expressions.{call_promises, typed_promises}
 use Rattle.region_typing_rules.proofs.Statements.{AreIn, IsIn, IsScalarValue, alone_typed, condition_promises, in_loop_known, optional_promises, simple_any, statement_from, statements_from}
 use Rattle.region_typing_rules.proofs.Goes.{EndsAs, HasResult, IsAnswer, IsKept, IsNext, OfType, Runs, runs_both, runs_further, runs_on, runs_then}
 use Rattle.region_typing_rules.proofs.Soundness.{returned_goes, simple_runs}
@@ -157,11 +161,18 @@ module _ (frame : Frame) (types : List CType) (all_scalar : AllByRecursion IsSca
 
   -- ---- branches
 
+  -- where a condition came out false, among the locals behind a branch
+  no_later : (g : Scope) → IsWalk vars g → (c : core.Expression) (x : Scope) → Extends g.locals x.locals → Declares g x → IsBetween x.structs x.locals vars (told g.locals c false g.flow)
+  no_later g w c x more keeps =
+      subst (λ known. IsBetween known x.locals vars (told g.locals c false g.flow)) keeps.structs
+      (between_more g.locals x.locals vars (told g.locals c false g.flow) more (between_told g.locals vars c false g.flow w.few w.between))
+
   -- what is declared at the end of a branch, and where it wasn't taken
-  untaken_beside : (g : Scope) (w : IsWalk vars g) (c : core.Expression) (x : Scope) → length g.locals ≤ length x.locals → Declares g x → IsWalk vars x → AreBeside (told g.locals c false g.flow) (behind_block g x).flow
-  untaken_beside g w c x le keeps h =
+  untaken_beside : (g : Scope) (w : IsWalk vars g) (c : core.Expression) (x : Scope) → Extends g.locals x.locals → Declares g x → IsWalk vars x → AreBeside (told g.locals c false g.flow) (behind_block g x).flow
+  untaken_beside g w c x more keeps h =
+      let le = extends_length g.locals x.locals more in
       let told_out = outside_beside (length g.locals) g.flow g.flow (told g.locals c false g.flow) (told_beside g.locals vars c false g.flow w.few w.between) (outside_here (length g.locals) g.flow w.beyond) in
-      beside_of vars (length g.locals) g.flow (told g.locals c false g.flow) (behind_block g x).flow (between_told g.locals vars c false g.flow w.few w.between)
+      beside_of vars (length g.locals) g.flow (told g.locals c false g.flow) (behind_block g x).flow (no_later g w c x more keeps)
       (between_without vars (length g.locals) (length x.locals - length g.locals) x.flow h.between) told_out (block_outside_of vars g x le keeps h)
 
   module _ (g : Scope) (w : IsWalk vars g) (c : core.Expression) where
@@ -170,9 +181,6 @@ module _ (frame : Frame) (types : List CType) (all_scalar : AllByRecursion IsSca
 
     abbrev no : Knowledge
     no = told g.locals c false g.flow
-
-    no_between : IsBetween vars (told g.locals c false g.flow)
-    no_between = between_told g.locals vars c false g.flow w.few w.between
 
     branch_sound : (x : Walked) → (Reached g → IsScalarValue frame types all_scalar g c) → IsSound (when c true g) x → IsSound g (core.If c x.0 core.Nothing, behind_branch g c x.1)
     branch_sound x tested h = record {
@@ -207,11 +215,14 @@ module _ (frame : Frame) (types : List CType) (all_scalar : AllByRecursion IsSca
         keeps : Declares g x.1
         keeps = declares_on g (when c true g) x.1 (omega arith) (declares_knowing (told g.locals c true g.flow) g (told_beside g.locals vars c true g.flow w.few w.between)) h.keeps
 
+        no_between : IsBetween x.1.structs x.1.locals vars (told g.locals c false g.flow)
+        no_between = no_later g w c x.1 h.more keeps
+
         block : IsWalk vars (behind_block g x.1)
         block = block_walk g w x.1 h.more keeps h.walk
 
         beside : AreBeside no (behind_block g x.1).flow
-        beside = untaken_beside g w c x.1 le keeps h.walk
+        beside = untaken_beside g w c x.1 h.more keeps h.walk
 
         beside_back : AreBeside (behind_block g x.1).flow no
         beside_back = beside_sym no (behind_block g x.1).flow beside
@@ -221,9 +232,9 @@ module _ (frame : Frame) (types : List CType) (all_scalar : AllByRecursion IsSca
 
     branches_sound : (x y : Walked) → Grows g (at_alternative g c x.1) → (Reached g → IsScalarValue frame types all_scalar g c) → IsSound (when c true g) x → IsSound (at_alternative g c x.1) y → IsSound g (core.If c x.0 y.0, behind_both g x.1 y.1)
     branches_sound x y grows tested h k = record {
-      walk = walk_meeting vars first.flow (behind_block first y.1) first_walk.between beside_back second;
+      walk = walk_meeting vars first.flow (behind_block first y.1) first_later beside_back second;
       more = λ i t e. k.more i t (h.more i t e);
-      keeps = declares_on g (behind_block first y.1) (behind_both g x.1 y.1) le_all (declares_on g first (behind_block first y.1) le g_first first_second) (declares_knowing (met first.flow (behind_block first y.1).flow) (behind_block first y.1) (met_behind vars first.flow (behind_block first y.1).flow first_walk.between second.between beside));
+      keeps = declares_on g (behind_block first y.1) (behind_both g x.1 y.1) le_all (declares_on g first (behind_block first y.1) le g_first first_second) (declares_knowing (met first.flow (behind_block first y.1).flow) (behind_block first y.1) (met_behind vars first.flow (behind_block first y.1).flow first_later second.between beside));
       breaks = λ n t q. k.breaks n t (h.breaks n t q);
       continues = λ n t q. k.continues n t (h.continues n t q);
       typed = λ reaches. typed.choice (tested (before (middle reaches))).typed (h.typed (middle reaches)) (statement_from frame types all_scalar g (at_alternative g c x.1) y.0 grows (k.typed reaches));
@@ -234,7 +245,7 @@ module _ (frame : Frame) (types : List CType) (all_scalar : AllByRecursion IsSca
           (h.runs (middle reaches) n calls low t (record { kept = kept; known = subst (λ b. FitsAlike structs (length g.locals) (told g.locals c b g.flow) t) e q })) first_ends)
           (λ e. runs_further frame budget n low types (Ending (at_alternative g c x.1) y.1) Q (effect true setting (K n) y.0 t)
           (k.runs reaches n calls low t (record { kept = kept; known = fits_further structs (length g.locals) (length x.1.locals) _ t le (subst (λ b. FitsAlike structs (length g.locals) (told g.locals c b g.flow) t) e q) }))
-          (λ flow u r. (ends_before g (at_alternative g c x.1) grows flow u r.0, so_meeting structs vars first.flow (behind_block first y.1) first_walk.between beside second flow u (so_block structs vars first y.1 k.walk le' flow u r.1)))));
+          (λ flow u r. (ends_before g (at_alternative g c x.1) grows flow u r.0, so_meeting structs vars first.flow (behind_block first y.1) first_later beside second flow u (so_block structs vars first y.1 k.walk le' flow u r.1)))));
     }
       where
         middle : Reached y.1 → Reached x.1
@@ -266,7 +277,7 @@ module _ (frame : Frame) (types : List CType) (all_scalar : AllByRecursion IsSca
 
         -- the alternative begins where the condition came out false, among the locals behind the first branch
         alternative_beside : AreBeside first.flow (at_alternative g c x.1).flow
-        alternative_beside = beside_sym (told g.locals c false g.flow) first.flow (untaken_beside g w c x.1 le x_keeps h.walk)
+        alternative_beside = beside_sym (told g.locals c false g.flow) first.flow (untaken_beside g w c x.1 h.more x_keeps h.walk)
 
         first_declares : Declares first y.1
         first_declares = declares_on first (at_alternative g c x.1) y.1 (omega arith) (declares_knowing (told g.locals c false g.flow) first alternative_beside) k.keeps
@@ -277,10 +288,14 @@ module _ (frame : Frame) (types : List CType) (all_scalar : AllByRecursion IsSca
         first_second : Declares first (behind_block first y.1)
         first_second = block_declares vars first y.1 le' first_declares k.walk
 
+        -- among the locals behind the second branch
+        first_later : IsBetween y.1.structs y.1.locals vars (behind_block g x.1).flow
+        first_later = subst (λ known. IsBetween known y.1.locals vars (behind_block g x.1).flow) first_declares.structs (between_more x.1.locals y.1.locals vars (behind_block g x.1).flow k.more first_walk.between)
+
         -- behind both branches the same bounds are declared
         beside : AreBeside first.flow (behind_block first y.1).flow
         beside =
-            beside_of vars (length first.locals) first.flow first.flow (behind_block first y.1).flow first_walk.between second.between (outside_here (length first.locals) first.flow first_walk.beyond)
+            beside_of vars (length first.locals) first.flow first.flow (behind_block first y.1).flow first_later second.between (outside_here (length first.locals) first.flow first_walk.beyond)
             (block_outside_of vars first y.1 le' first_declares k.walk)
 
         beside_back : AreBeside (behind_block first y.1).flow first.flow
@@ -292,7 +307,7 @@ module _ (frame : Frame) (types : List CType) (all_scalar : AllByRecursion IsSca
         first_ends : (flow : Flow) (u : State) → Ending (when c true g) x.1 flow u → Ending g (behind_both g x.1 y.1) flow u
         first_ends Next u r = (
           tt,
-          fits_first structs vars (length y.1.locals) u first.flow (behind_block first y.1).flow first_walk.between second.between beside
+          fits_first structs vars (length y.1.locals) u first.flow (behind_block first y.1).flow first_later second.between beside
               (fits_further structs (length x.1.locals) (length y.1.locals) first.flow u le' (known_block structs vars g x.1 h.walk le u r.1)),
         )
         first_ends Broke u r = (r.0, k.breaks (length y.1.locals) u (way_further structs (length x.1.locals) (length y.1.locals) x.1.breaks u le' r.1))
@@ -363,7 +378,7 @@ module _ (frame : Frame) (types : List CType) (all_scalar : AllByRecursion IsSca
         last_same p low = y_keeps.same p low ∙ head_beside.declared p
 
         behind_same : (p : ℕ) → p < length g.locals → declared_at (behind_loop g (at_loop body step g) c y.1).flow p ≡ declared_at g.flow p
-        behind_same p low = loop_same vars g (at_loop body step g) c y.1 y_keeps.loop head_beside last_same w.few w head_walk.between k.walk p low
+        behind_same p low = loop_same vars g (at_loop body step g) c y.1 y_keeps.structs (λ i t e. k.more i t (h.more i t e)) y_keeps.loop head_beside last_same w.few w head_walk.between k.walk p low
 
         none : List Bool
         none = replicate (length g.locals) false
@@ -430,10 +445,10 @@ module _ (frame : Frame) (types : List CType) (all_scalar : AllByRecursion IsSca
     walk = walk_broken vars g w;
     more = λ k t e. e;
     keeps = record { same = λ p low. refl; loop = refl; structs = refl };
-    breaks = λ n t q. on_way_before structs vars n t g.outside g.flow (way_out g) g.breaks (way_out_between vars g w) (way_out_outside vars g w) w.breaks q;
+    breaks = λ n t q. on_way_before structs vars n t g.structs g.locals g.outside g.flow (way_out g) g.breaks (way_out_between vars g w) (way_out_outside vars g w) w.breaks q;
     continues = λ n t q. q;
     typed = λ reaches. subst (λ l. IsStatement frame types g.result g.result_bounds l core.Break) (sym loops) typed.broken;
-    runs = λ reaches n calls low s at. ((loops, on_way_here structs vars (length g.locals) s g.outside g.flow (way_out g) g.breaks (way_out_between vars g w) (way_out_outside vars g w) w.breaks (known_out structs vars g w s at.known)), at.kept);
+    runs = λ reaches n calls low s at. ((loops, on_way_here structs vars (length g.locals) s g.structs g.locals g.outside g.flow (way_out g) g.breaks (way_out_between vars g w) (way_out_outside vars g w) w.breaks (known_out structs vars g w s at.known)), at.kept);
   }
 
   continue_sound : (g : Scope) → IsWalk vars g → g.in_loop ≡ true → IsSound g (core.Continue, continued g)
@@ -442,9 +457,9 @@ module _ (frame : Frame) (types : List CType) (all_scalar : AllByRecursion IsSca
     more = λ k t e. e;
     keeps = record { same = λ p low. refl; loop = refl; structs = refl };
     breaks = λ n t q. q;
-    continues = λ n t q. on_way_before structs vars n t g.outside g.flow (way_out g) g.continues (way_out_between vars g w) (way_out_outside vars g w) w.continues q;
+    continues = λ n t q. on_way_before structs vars n t g.structs g.locals g.outside g.flow (way_out g) g.continues (way_out_between vars g w) (way_out_outside vars g w) w.continues q;
     typed = λ reaches. subst (λ l. IsStatement frame types g.result g.result_bounds l core.Continue) (sym loops) typed.continued;
-    runs = λ reaches n calls low s at. ((loops, on_way_here structs vars (length g.locals) s g.outside g.flow (way_out g) g.continues (way_out_between vars g w) (way_out_outside vars g w) w.continues (known_out structs vars g w s at.known)), at.kept);
+    runs = λ reaches n calls low s at. ((loops, on_way_here structs vars (length g.locals) s g.structs g.locals g.outside g.flow (way_out g) g.continues (way_out_between vars g w) (way_out_outside vars g w) w.continues (known_out structs vars g w s at.known)), at.kept);
   }
 
   none_sound : (g : Scope) → IsWalk vars g → AreSound g (core.NoMore, g)
@@ -459,8 +474,8 @@ module _ (frame : Frame) (types : List CType) (all_scalar : AllByRecursion IsSca
   alternative_walk : (g : Scope) (w : IsWalk vars g) (c : core.Expression) (x : Walked) → IsSound (when c true g) x → IsWalk vars (at_alternative g c x.1)
   alternative_walk g w c x h =
       let keeps = declares_on g (when c true g) x.1 (omega arith) (declares_knowing (told g.locals c true g.flow) g (told_beside g.locals vars c true g.flow w.few w.between)) h.keeps in
-      walk_knowing vars (told g.locals c false g.flow) (behind_block g x.1) (between_told g.locals vars c false g.flow w.few w.between)
-      (beside_sym (told g.locals c false g.flow) (behind_block g x.1).flow (untaken_beside g w c x.1 (extends_length g.locals x.1.locals h.more) keeps h.walk)) (block_walk g w x.1 h.more keeps h.walk)
+      walk_knowing vars (told g.locals c false g.flow) (behind_block g x.1) (no_later g w c x.1 h.more keeps)
+      (beside_sym (told g.locals c false g.flow) (behind_block g x.1).flow (untaken_beside g w c x.1 h.more keeps h.walk)) (block_walk g w x.1 h.more keeps h.walk)
 
   -- and the step of a loop
   stepped : (g : Scope) (w : IsWalk vars g) (body : Statement) (step : Option Assignment) (c : core.Expression) (x : Walked) → IsSound (in_loop (when c true (at_loop body step g))) x → IsWalk vars (before_step g x.1)
@@ -567,9 +582,9 @@ module _ (frame : Frame) (types : List CType) (all_scalar : AllByRecursion IsSca
         (λ x h. passing_promises (AreSound x.1) (AreSound g) (statements at x.1 others) _ (statements_sound at x.1 others h.1.walk (file_known frame g x.1 h.0 file)) (λ y k. then_sound g x y h.0 h.1 k))
 
 pub conditions_are_so : ConditionsAreSo
-conditions_are_so vars g c walk structs audited setting ticks s has h =
-    so_further (λ v t. IsAfter s t × FitsAlike structs (length g.locals) (told g.locals c (truth v) g.flow) t) (λ v t. IsKnown structs (when c (truth v) g) t) (value_of audited setting (knot audited setting ticks) c s)
-    (told_fits audited setting (knot audited setting ticks) (knots_move audited setting ticks).calls structs g.locals c g.flow walk.between.flow (let few = walk.few in let size = walk.between.size in omega (arith, few, size)) s has h) (λ v t k. k.1)
+conditions_are_so frame types g c t h flow few audited setting ticks s has zeros known =
+    so_further (λ v t. IsAfter s t × FitsAlike frame.structs (length g.locals) (told g.locals c (truth v) g.flow) t) (λ v t. IsKnown frame.structs (when c (truth v) g) t) (value_of audited setting (knot audited setting ticks) c s)
+    (told_fits audited setting (knot audited setting ticks) (knots_move audited setting ticks).calls frame.structs g.locals c g.flow flow few (right_typed frame types h) s has zeros known) (λ v t k. k.1)
 
 pub marked_alone : MarkedAlone
 marked_alone at g x w e audited setting ticks s =

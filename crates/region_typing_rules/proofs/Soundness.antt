@@ -1,5 +1,5 @@
 -- What has types is never stuck and never unsound: expressions and simple statements, where what is known in their scope is so.
-use Rattle.std.proofs.Common.{◌≡◌, ◌+ℤ◌, ◌*ℤ◌, ℕ, ◌+◌, ◌*◌, ◌≤◌, Bool, true, false, ℤ, List, ◌∷◌, map, length, Option, Some, None, refl, sym, ap, ◌∙◌, subst, arith, inl, inr}
+use Rattle.std.proofs.Common.{◌≡◌, ◌+ℤ◌, ◌*ℤ◌, ℕ, ◌≤◌, Bool, true, false, ℤ, List, ◌∷◌, map, length, Option, Some, None, refl, sym, ap, ◌∙◌, subst, arith, inl, inr}
 use Rattle.std.specs.Prelude.{slice_set, ◌&&◌, not, slice_get, pos}
 use Rattle.std.specs.List.{AllByRecursion}
 use Rattle.std.proofs.lemmas.Int.{ints}
@@ -23,9 +23,9 @@ use Rattle.ckc_core.specs.declared.program.Direction.TheVariants as directions
 use Rattle.bounds_exprs.specs.declared.term.Bounds.{Bounds}
 use Rattle.ckc_core.specs.Bounds.{Pointed, with_ends}
 use Rattle.ckc_core.specs.Pointers.{number_given, distance, lies_below}
-use Rattle.ckc_core.specs.Steps.{Result, Flow, given, place_if, place_at, variable_at, load_at, pointer_to, truth, arithmetic_of, compared, negated, complemented, low_byte_of, asked, back, leaves_zero, store_if, store_over, store_at, set_if, set_over, set_local, kept_if, is_char, printed, put, no_result, called, is_zero}
+use Rattle.ckc_core.specs.Steps.{Result, Flow, given, place_if, place_at, variable_at, load_at, pointer_to, truth, arithmetic_of, compared, negated, complemented, low_byte_of, asked, leaves_zero, store_if, store_over, store_at, set_if, set_over, set_local, kept_if, is_char, printed, put, no_result, called, is_zero}
 use Rattle.ckc_core.specs.Meaning.{Knot, audit, bounds_of, cast_to, site_of, Target, element, element_within, summed, without_ends, value, values, place, target_of, effect, end_kept, length_of}
-use Rattle.region_typing_rules.specs.Types.{is_number}
+use Rattle.region_typing_rules.specs.Types.{Counts, is_number}
 use Rattle.region_typing_rules.specs.Scopes.{Scope}
 use Rattle.region_typing_rules.specs.Knowing.{when}
 use Rattle.region_typing_rules.specs.Expressions.{one_element}
@@ -39,7 +39,7 @@ use Rattle.bounds_flow_meaning.specs.Holding.{IsValid, at_node}
 use Rattle.bounds_flow_meaning.specs.Rows.{IsEndedPlace}
 use Rattle.bounds_flow_meaning.proofs.Rows.{place_grown, ended_grown}
 use Rattle.bounds_flow_meaning.proofs.Validity.{times_plus}
-use Rattle.region_typing_rules.specs.Typed.{IsBoundedObject, Frame, HasBounds, HasValue, IsReturned, terms_of, HasElements, HasType, HaveTypes, HasPlace, IsSimple, IsScalar, IsNodeOf, HasAccess}
+use Rattle.region_typing_rules.specs.Typed.{IsAsked, IsBoundedObject, Frame, HasBounds, HasValue, IsReturned, terms_of, HasElements, HasType, HaveTypes, HasPlace, IsSimple, IsScalar, IsNodeOf, HasAccess}
 use Rattle.ckc_core.proofs.Numbers.{IsNumber}
 use Rattle.region_typing_rules.proofs.Worlds.{next_answers}
 use Rattle.region_typing_rules.proofs.BoundedObjects.{HoldBounds, bounded_cell, held_elsewhere, held_here, held_same, shape_there, bounded_inside}
@@ -52,14 +52,15 @@ use Rattle.region_typing_rules.proofs.Terms.{so_always, so_further, so_on, audit
 use Rattle.region_typing_rules.proofs.Alike.{alike_here}
 use Rattle.region_typing_rules.proofs.Given.{AreGiven, given_weaker}
 use Rattle.region_typing_rules.proofs.Assigns.{IsBehind, IsGivenTo, stays}
-use Rattle.region_typing_rules.proofs.Calls.{ArePassed, asked_valid, passed_later}
+use Rattle.region_typing_rules.proofs.Calls.{ArePassed, asked_valid, given_there, passed_later}
 use Rattle.region_typing_rules.proofs.Elements.{pointing, sum_size, array_valid}
 use Rattle.region_typing_rules.proofs.EndedRows.{valid_as_array, finds_one, valid_as_single, value_as, valid_as, ended_cell, below_or_at, place_before_zero, row_start, row_valid}
 use Rattle.std.specs.Ordering.{int_eq}
 use Rattle.region_typing_rules.proofs.LastZeros.{zeros_stored, AreShort, array_row, ended_row_new}
 use Rattle.region_typing_rules.proofs.Goes.{Goes, HasResult, IsAccessed, IsBounded, IsKept, IsKnot, IsNext, IsPlaced, OfNode, OfType, OfTypes, Runs, asked_goes, base_of, further_parts, goes_further, goes_on, has_locals, local_parts, runs_of, runs_on, shaped}
 use Rattle.region_typing_rules.proofs.Accesses.{IsAimed, IsUpTo, accessed_goes, aimed_later, arithmetic_goes, audited_goes, bounded_goes, bounded_load, bounded_place, byte_goes, byte_number_goes, compared_goes, complemented_goes, direct_goes, element_goes, element_member_goes, first_goes, given_goes, length_goes, load_goes, member_goes, negated_goes, nothing_back, number_goes, object_there, pointed_goes, same_goes, start_goes, test_goes, upper_goes, variable_goes, widened_goes}
-use Rattle.region_typing_rules.proofs.Operations.{GivenTo, IsArgument, IsBack, IsCast, IsHere, IsLocalOf, IsSummed, aimed_goes, allocate_given, allocate_goes, answered, array_bounded, array_given, as_kind, as_row, based_there, behind, bounded_given, call_given, call_goes, cast_given, cast_step, chosen_goes, flow_told, forced, given_by_kind, given_none, given_stays, here_later, known_too, local_given_by, local_read, none_bounded, number_goes_on, ordered_goes, passed_so, plain_bounded, plainly_given, row_bounded, row_given, same_value, setting, single_bounded, single_unbased, sum_bounded, sum_given, sum_goes, sum_typed, told_too, tracked_told, truth_goes, typed_alone, typed_given, unbounded_goes, with_given, with_none}
+use Rattle.region_typing_rules.proofs.RightNodes.{right_typed}
+use Rattle.region_typing_rules.proofs.Operations.{GivenTo, IsArgument, IsBack, IsCast, IsHere, IsLocalOf, IsSummed, aimed_goes, allocate_given, allocate_goes, answered, array_bounded, array_given, as_kind, as_row, based_there, behind, bounded_given, call_given, call_goes, cell_audited, cell_given, cast_given, cast_step, chosen_goes, flow_told, forced, given_by_kind, given_none, given_stays, here_later, known_too, local_given_by, local_read, none_bounded, number_goes_on, ordered_goes, passed_so, plain_bounded, plainly_given, row_bounded, row_given, same_value, setting, single_bounded, single_unbased, sum_bounded, sum_given, sum_goes, sum_typed, told_too, tracked_told, truth_goes, typed_alone, typed_given, unbounded_goes, with_given, with_none}
 
 module _ (g : Frame) (budget ticks : ℕ) where
   module _ (sandbox trusted : ℕ) (k : Knot) (is : IsKnot g budget ticks k) where
@@ -84,9 +85,8 @@ module _ (g : Frame) (budget ticks : ℕ) where
         value_goes here flow tracked reaches (typed.row {e = e} {mode = m} {t = t} h bounds) s here' = as_row g budget ticks sandbox trusted k is low types here flow reaches m kinds.One t e s (value_goes here flow tracked reaches h s here') (λ v u typed valid. row_bounded g budget ticks sandbox trusted k is low types here flow reaches m t (bounds_of e) bounds v u typed)
         value_goes here flow tracked reaches (typed.ended_row {e = e} {mode = m} {t = t} h) s here' = as_row g budget ticks sandbox trusted k is low types here flow reaches m kinds.Nt t e s (value_goes here flow tracked reaches h s here') (λ v u typed valid. array_bounded g budget ticks sandbox trusted k is low types here flow reaches m t (bounds_of e) v u typed valid)
         value_goes here flow tracked reaches (typed.load {t = t} {p = p} {b = b} scalar h bounds) s here' =
-            with_none g budget ticks sandbox trusted k is low types here flow reaches (core.Load t p b) t s (plain_bounded g budget ticks sandbox trusted k is t b bounds)
-            (audited_goes g budget ticks low types s t b (and_then (place true (setting g budget ticks sandbox trusted k is) k p s) (load_at t (site_of p))) bounds
-            (goes_on g budget ticks low types s (IsAccessed g t) (OfType g t) (place true (setting g budget ticks sandbox trusted k is) k p s) (load_at t (site_of p)) (access_goes here flow tracked reaches h s here') (λ at u _ accessed u_kept. accessed_goes g budget ticks low types u t (site_of p) at scalar accessed u_kept)))
+            cell_audited g budget ticks sandbox trusted k is low types here flow reaches t b bounds (and_then (place true (setting g budget ticks sandbox trusted k is) k p s) (load_at t (site_of p))) s
+            (goes_on g budget ticks low types s (IsAccessed g t) (OfType g t) (place true (setting g budget ticks sandbox trusted k is) k p s) (load_at t (site_of p)) (access_goes here flow tracked reaches h s here') (λ at u _ accessed u_kept. accessed_goes g budget ticks low types u t (site_of p) at scalar accessed u_kept))
         value_goes here flow tracked reaches (typed.bounded_object {object = object} {mode = m} {kind = kind} {t = t} {p = p} is size) s here' =
             let c = bounded_cell g object m kind t p.bounds is s here'.1.grown in
             let at = at_cell s.blocks object 0 (Pointer m kind t) c in
@@ -146,14 +146,14 @@ module _ (g : Frame) (budget ticks : ℕ) where
             (λ w x typed typed' x_kept. same_goes g budget ticks low types x m m' d d' t t' v w typed typed' x_kept)))
         value_goes here flow tracked reaches (typed.both {a = a} {b = b} {t = t} {t' = t'} ha hb) s here' =
             with_none g budget ticks sandbox trusted k is low types here flow reaches (core.AndAlso a b) Int s (λ v u _. tt)
-            (goes_on g budget ticks low types s (λ v u. OfType g t v u × IsKnown g.structs (when a (truth v) here) u) (OfType g Int) (value true (setting g budget ticks sandbox trusted k is) k a s) _ (told_too g budget ticks sandbox trusted k is low types here flow reaches tracked a t s here' (typed_alone g budget ticks sandbox trusted k is low types here flow reaches a t s (value_goes here flow tracked reaches ha s here')))
+            (goes_on g budget ticks low types s (λ v u. OfType g t v u × IsKnown g.structs (when a (truth v) here) u) (OfType g Int) (value true (setting g budget ticks sandbox trusted k is) k a s) _ (told_too g budget ticks sandbox trusted k is low types here flow reaches tracked a t (right_typed g types ha) s here' (typed_alone g budget ticks sandbox trusted k is low types here flow reaches a t s (value_goes here flow tracked reaches ha s here')))
             (λ v u after x u_kept. chosen_goes g budget ticks sandbox trusted k is low types u (OfType g Int) (truth v) _ _
             (λ came. truth_goes g budget ticks sandbox trusted k is low types u t' (value true (setting g budget ticks sandbox trusted k is) k b u) (typed_alone g budget ticks sandbox trusted k is low types (when a true here) (flow_told g budget ticks sandbox trusted k is low types here flow reaches tracked a true) reaches b t' u
             (value_goes (when a true here) (flow_told g budget ticks sandbox trusted k is low types here flow reaches tracked a true) (tracked_told g budget ticks sandbox trusted k is low types here flow reaches tracked a true) reaches hb u (subst (λ c. IsKnown g.structs (when a c here) u) came x.1, u_kept))))
             (λ came. test_goes g budget ticks low types u false u_kept)))
         value_goes here flow tracked reaches (typed.either {a = a} {b = b} {t = t} {t' = t'} ha hb) s here' =
             with_none g budget ticks sandbox trusted k is low types here flow reaches (core.OrElse a b) Int s (λ v u _. tt)
-            (goes_on g budget ticks low types s (λ v u. OfType g t v u × IsKnown g.structs (when a (truth v) here) u) (OfType g Int) (value true (setting g budget ticks sandbox trusted k is) k a s) _ (told_too g budget ticks sandbox trusted k is low types here flow reaches tracked a t s here' (typed_alone g budget ticks sandbox trusted k is low types here flow reaches a t s (value_goes here flow tracked reaches ha s here')))
+            (goes_on g budget ticks low types s (λ v u. OfType g t v u × IsKnown g.structs (when a (truth v) here) u) (OfType g Int) (value true (setting g budget ticks sandbox trusted k is) k a s) _ (told_too g budget ticks sandbox trusted k is low types here flow reaches tracked a t (right_typed g types ha) s here' (typed_alone g budget ticks sandbox trusted k is low types here flow reaches a t s (value_goes here flow tracked reaches ha s here')))
             (λ v u after x u_kept. chosen_goes g budget ticks sandbox trusted k is low types u (OfType g Int) (truth v) _ _
             (λ came. test_goes g budget ticks low types u true u_kept)
             (λ came. truth_goes g budget ticks sandbox trusted k is low types u t' (value true (setting g budget ticks sandbox trusted k is) k b u) (typed_alone g budget ticks sandbox trusted k is low types (when a false here) (flow_told g budget ticks sandbox trusted k is low types here flow reaches tracked a false) reaches b t' u
@@ -184,8 +184,8 @@ module _ (g : Frame) (budget ticks : ℕ) where
             (cast_step g budget ticks sandbox trusted k is low types here flow reaches e modes.Checked kind t p (at_node one_element (size_of g.structs t) false bounds.0) elements.node refl (record { lo = tt; hi = tt }) (λ i at. absurd (cc)) elements.bounds s here'
             (with_given g budget ticks sandbox trusted k is low types here flow reaches e modes.Checked kind t s (value_goes here flow tracked reaches h s here') (given_so here flow tracked reaches h modes.Checked kind t refl s here' (value_goes here flow tracked reaches h s here'))))
             (λ v u x. finds_one g.structs modes.Checked kind t u elements.some v x.0 x.1.0 bounds.0))))
-        value_goes here flow tracked reaches (typed.cast_unbounded {e = e} {mode = m} {kind = kind} {t = t} h elements) s here' =
-            unbounded_goes g budget ticks sandbox trusted k is low types here flow reaches e m kind t s (typed_alone g budget ticks sandbox trusted k is low types here flow reaches e (Pointer m kind t) s (value_goes here flow tracked reaches h s here'))
+        value_goes here flow tracked reaches (typed.cast_unbounded {e = e} {mode = m} {kind = kind} {kind' = kind'} {t = t} h elements counts) s here' =
+            unbounded_goes g budget ticks sandbox trusted k is low types here flow reaches e m kind kind' t counts s (typed_alone g budget ticks sandbox trusted k is low types here flow reaches e (Pointer m kind t) s (value_goes here flow tracked reaches h s here'))
         value_goes here flow tracked reaches typed.next_input s here' =
             with_none g budget ticks sandbox trusted k is low types here flow reaches core.NextInput Int s (λ v u _. tt)
             (asked_goes g budget ticks low low types IsNumber (OfType g Int) (next_input s.world) s _ (next_answers budget low s.world here'.1.world) here'.1.enough here'.1 (λ z u _ fits u_kept. (fits, after_here u, u_kept)))
@@ -212,7 +212,7 @@ module _ (g : Frame) (budget ticks : ℕ) where
             as_kind g budget ticks sandbox trusted k is low types here flow reaches e m' kinds.Nt kinds.Array t' s (λ v w typed b h. valid_as_array g.structs m' t' w b v typed h) (value_goes here flow tracked reaches h s here')
             (given_so here flow tracked reaches h m' kinds.Nt t' refl s here' (value_goes here flow tracked reaches h s here')) (Pointer m d t) same
         given_so here flow tracked reaches (typed.load {t = c} {p = p} {b = b} scalar h bounds) m d t same s here' goes =
-            plainly_given g budget ticks sandbox trusted k is low types here flow reaches (core.Load c p b) m d t s (subst (λ c. HasBounds g.structs c b) same bounds) refl (subst (λ x. Goes g budget ticks low types s (OfNode g (core.Load c p b) x) (value true (setting g budget ticks sandbox trusted k is) k (core.Load c p b) s)) same goes)
+            cell_given g budget ticks sandbox trusted k is low types here flow reaches p c b bounds m d t same s goes
         given_so here flow tracked reaches (typed.bounded_object {object = object} {mode = m'} {kind = kind} {t = t'} {p = p} declared size) m d t same s here' goes =
             let e = core.Load (Pointer m' kind t') (core.Direct object 0) (Some p) in
             subst (λ c. WhereGiven (AreGiven g.structs (length here.locals) c e) (value true (setting g budget ticks sandbox trusted k is) k e s)) same
@@ -274,7 +274,7 @@ module _ (g : Frame) (budget ticks : ℕ) where
             (cast_given g budget ticks sandbox trusted k is low types here flow reaches e m' kind t' p q elements.node size.size ints bases v u (here_later g budget ticks sandbox trusted k is low types here flow reaches s u x.1 here' x.2) x.0))))
         given_so here flow tracked reaches (typed.cast_single {e = e} {kind = kind} {t = t'} {p = p} {b = b} h elements within bounds) m d t same s here' goes =
             plainly_given g budget ticks sandbox trusted k is low types here flow reaches (core.Cast e b) m d t s (subst (λ c. HasBounds g.structs c b) same bounds) (single_unbased g budget ticks sandbox trusted k is low types here flow reaches t' b bounds) (subst (λ x. Goes g budget ticks low types s (OfNode g (core.Cast e b) x) (value true (setting g budget ticks sandbox trusted k is) k (core.Cast e b) s)) same goes)
-        given_so here flow tracked reaches (typed.cast_unbounded {e = e} {kind = kind} h elements) m d t same s here' goes = given_none g budget ticks sandbox trusted k is low types here flow reaches (core.Cast e None) m d t s refl refl
+        given_so here flow tracked reaches (typed.cast_unbounded {e = e} {kind = kind} h elements counts) m d t same s here' goes = given_none g budget ticks sandbox trusted k is low types here flow reaches (core.Cast e None) m d t s refl refl
 
         pub values_go : (here : Scope) (flow : IsFlow here.flow) (tracked : length here.locals ≤ here.flow.vars) (reaches : Extends here.locals types) {arguments : core.Arguments} {ts : List CType} → HaveTypes g types here arguments ts → (s : State) → IsHere g budget ticks sandbox trusted k is low types here flow reaches s
             → Goes g budget ticks low types s (λ vs u. OfTypes g ts vs u × ArePassed g.structs (length here.locals) here.locals ts arguments vs u) (values true (setting g budget ticks sandbox trusted k is) k arguments s)
@@ -418,7 +418,7 @@ module _ (g : Frame) (budget ticks : ℕ) where
       behind_so (typed.allocate_ended {count = count} {element = element} {b = c} hn fresh bounds) s h = nowhere (core.Allocate count element true c) s (λ b is. absurd (cc))
       behind_so (typed.cast {e = e} {q = q} he elements counts within size limited ints bases) s h = nowhere (core.Cast e (Some q)) s (λ b is. absurd (cc))
       behind_so (typed.cast_single {e = e} {b = c} he elements within bounds) s h = nowhere (core.Cast e c) s (λ b is. absurd (cc))
-      behind_so (typed.cast_unbounded {e = e} he elements) s h = nowhere (core.Cast e None) s (λ b is. absurd (cc))
+      behind_so (typed.cast_unbounded {e = e} he elements counts) s h = nowhere (core.Cast e None) s (λ b is. absurd (cc))
 
       pub given_to_so : {e : core.Expression} (c : CType) → HasType g types here e c → (s : State) → IsHere g budget ticks sandbox trusted k is low types here flow reaches s → WhereGiven (IsGivenTo g.structs (length here.locals) c e) (value true (setting g budget ticks sandbox trusted k is) k e s)
       given_to_so {e = e} c h s here' = given_by_kind g budget ticks sandbox trusted k is low types here flow reaches e c s (λ m kind t same. given_so low types here flow tracked reaches h m kind t same s here' (value_goes low types here flow tracked reaches h s here'))
@@ -521,20 +521,26 @@ module _ (g : Frame) (budget ticks : ℕ) where
         pub typed_goes : {e : core.Expression} {t : CType} → HasType g types here e t → (s : State) → Stands s → Goes g budget ticks low types s (OfType g t) (value true (setting g budget ticks sandbox trusted k is) k e s)
         typed_goes {e = e} {t = t} h s stands = typed_alone g budget ticks sandbox trusted k is low types here flow reaches e t s (value_goes low types here flow tracked reaches h s stands)
 
+        -- a pointer is asked for bounds
+        asked_goes_on : {e : core.Expression} (m : Mode) (kind : Kind) (t : CType) (b : Bounds) → Counts kind → HasType g types here e (Pointer m kind t) → IsAsked g.structs here e b → (s : State) → Stands s
+            → Goes g budget ticks low types s (λ v u. OfType g (Pointer m kind t) v u × IsValid g.structs (Some b) (pointing (Pointer m kind t) v) u) (value true (setting g budget ticks sandbox trusted k is) k e s)
+        asked_goes_on {e = e} m kind t b counts h asked s stands =
+            let c = Pointer m kind t in
+            sure_further (λ v u. IsArgument g budget ticks sandbox trusted k is low types here flow reaches e c v u × IsAfter s u × IsKept g budget ticks low types u) (λ v u. (OfType g c v u × IsValid g.structs (Some b) (pointing c v) u) × IsAfter s u × IsKept g budget ticks low types u) (value true (setting g budget ticks sandbox trusted k is) k e s)
+            (passed_so g budget ticks sandbox trusted k is low types here flow reaches e c s stands (typed_goes h s stands) (given_by_kind g budget ticks sandbox trusted k is low types here flow reaches e c s (λ m' kind t' same. given_so low types here flow tracked reaches h m' kind t' same s stands (value_goes low types here flow tracked reaches h s stands))))
+            (λ v u x. let at = standing_later s u x.1 stands x.2 in
+            ((x.0.0, asked_valid g.structs here u at.0 (has_locals g.structs (shaped u) here.locals types u.locals reaches x.2.locals) m kind t e v b asked x.0.1.null (given_there g.structs (length here.locals) m kind t e v u counts x.0.1.given u (alike_here (length here.locals) u))), x.1, x.2))
+
         -- a value that is returned, with the bounds that are declared for the result
         pub returned_goes : {e : core.Expression} (t : CType) (bounds : Option Bounds) → HasType g types here e t → IsReturned g.structs here e t bounds → (s : State) → Stands s → Goes g budget ticks low types s (λ v u. OfType g t v u × HasResult g.structs (Some t) bounds (Some v) u) (value true (setting g budget ticks sandbox trusted k is) k e s)
         returned_goes {e = e} Int bounds h asked s stands = goes_further g budget ticks low types s (OfType g Int) (λ v u. OfType g Int v u × HasResult g.structs (Some Int) bounds (Some v) u) (value true (setting g budget ticks sandbox trusted k is) k e s) (typed_goes h s stands) (λ v u typed. (typed, tt))
         returned_goes {e = e} Char bounds h asked s stands = goes_further g budget ticks low types s (OfType g Char) (λ v u. OfType g Char v u × HasResult g.structs (Some Char) bounds (Some v) u) (value true (setting g budget ticks sandbox trusted k is) k e s) (typed_goes h s stands) (λ v u typed. (typed, tt))
         returned_goes {e = e} (Struct number) bounds h asked s stands = goes_further g budget ticks low types s (OfType g (Struct number)) (λ v u. OfType g (Struct number) v u × HasResult g.structs (Some (Struct number)) bounds (Some v) u) (value true (setting g budget ticks sandbox trusted k is) k e s) (typed_goes h s stands) (λ v u typed. (typed, tt))
         returned_goes {e = e} (Pointer m kinds.One t) bounds h asked s stands = goes_further g budget ticks low types s (OfType g (Pointer m kinds.One t)) (λ v u. OfType g (Pointer m kinds.One t) v u × HasResult g.structs (Some (Pointer m kinds.One t)) bounds (Some v) u) (value true (setting g budget ticks sandbox trusted k is) k e s) (typed_goes h s stands) (λ v u typed. (typed, tt))
-        returned_goes {e = e} (Pointer m kinds.Nt t) bounds h asked s stands = goes_further g budget ticks low types s (OfType g (Pointer m kinds.Nt t)) (λ v u. OfType g (Pointer m kinds.Nt t) v u × HasResult g.structs (Some (Pointer m kinds.Nt t)) bounds (Some v) u) (value true (setting g budget ticks sandbox trusted k is) k e s) (typed_goes h s stands) (λ v u typed. (typed, tt))
+        returned_goes {e = e} (Pointer m kinds.Nt t) None h asked s stands = goes_further g budget ticks low types s (OfType g (Pointer m kinds.Nt t)) (λ v u. OfType g (Pointer m kinds.Nt t) v u × Unit {0}) (value true (setting g budget ticks sandbox trusted k is) k e s) (typed_goes h s stands) (λ v u typed. (typed, tt))
+        returned_goes {e = e} (Pointer m kinds.Nt t) (Some b) h asked s stands = asked_goes_on m kinds.Nt t b tt h asked s stands
         returned_goes {e = e} (Pointer m kinds.Array t) None h asked s stands = goes_further g budget ticks low types s (OfType g (Pointer m kinds.Array t)) (λ v u. OfType g (Pointer m kinds.Array t) v u × Unit {0}) (value true (setting g budget ticks sandbox trusted k is) k e s) (typed_goes h s stands) (λ v u typed. (typed, tt))
-        returned_goes {e = e} (Pointer m kinds.Array t) (Some b) h asked s stands =
-            let c = Pointer m kinds.Array t in
-            sure_further (λ v u. IsArgument g budget ticks sandbox trusted k is low types here flow reaches e c v u × IsAfter s u × IsKept g budget ticks low types u) (λ v u. (OfType g c v u × HasResult g.structs (Some c) (Some b) (Some v) u) × IsAfter s u × IsKept g budget ticks low types u) (value true (setting g budget ticks sandbox trusted k is) k e s)
-            (passed_so g budget ticks sandbox trusted k is low types here flow reaches e c s stands (typed_goes h s stands) (given_by_kind g budget ticks sandbox trusted k is low types here flow reaches e c s (λ m' kind t' same. given_so low types here flow tracked reaches h m' kind t' same s stands (value_goes low types here flow tracked reaches h s stands))))
-            (λ v u x. let at = standing_later s u x.1 stands x.2 in
-            ((x.0.0, asked_valid g.structs here u at.0 (has_locals g.structs (shaped u) here.locals types u.locals reaches x.2.locals) m t e v b asked x.0.1.null (x.0.1.given u (alike_here (length here.locals) u))), x.1, x.2))
+        returned_goes {e = e} (Pointer m kinds.Array t) (Some b) h asked s stands = asked_goes_on m kinds.Array t b tt h asked s stands
 
         -- and then a step
         value_then : {e : core.Expression} {t : CType} (next : Value → State → Result Flow) → HasType g types here e t → (s : State) → Stands s → ((v : Value) (u : State) → IsAfter s u → OfType g t v u → IsKept g budget ticks low types u → Runs g budget ticks low types IsNext (next v u))
@@ -697,12 +703,12 @@ module _ (g : Frame) (budget ticks : ℕ) where
         simple_runs typed.nothing s stands = (refl, stands.1)
         simple_runs (typed.set_local {k = i} {t = t} {e = e} found h) s stands = value_then (set_local i) h s stands (λ v u _ typed u_kept. set_goes u i t v found typed u_kept)
         simple_runs (typed.store {t = t} scalar place h) s stands = accessed_store place scalar h s stands
-        simple_runs (typed.store_bounded {object = object} {mode = m} {t = t} {b = b} {e = e} declared h asked) s stands =
-            let c = Pointer m kinds.Array t in
+        simple_runs (typed.store_bounded {object = object} {mode = m} {kind = kind} {t = t} {b = b} {e = e} counts declared h asked) s stands =
+            let c = Pointer m kind t in
             runs_on g budget ticks low types s (λ (q : Target) (u : State). Unit {0}) IsNext (target_of true (setting g budget ticks sandbox trusted k is) k (core.Direct object 0) s) _
-            (subst (λ o. Goes g budget ticks low types s (λ (q : Target) (u : State). Unit {0}) (and_then o (λ at u. Gives (without_ends at) u))) (sym (bounded_place g budget ticks low types s object m kinds.Array t b declared stands.1)) (tt, after_here s, stands.1))
-            (λ q u after _ u_kept. runs_on g budget ticks low types u (λ v w. OfType g c v w × HasResult g.structs (Some c) (Some b) (Some v) w) IsNext (value true (setting g budget ticks sandbox trusted k is) k e u) _ (returned_goes c (Some b) h asked u (standing_later s u after stands u_kept))
-            (λ v w _ x w_kept. bounded_store w object m kinds.Array t b v declared x.0 x.1 w_kept))
+            (subst (λ o. Goes g budget ticks low types s (λ (q : Target) (u : State). Unit {0}) (and_then o (λ at u. Gives (without_ends at) u))) (sym (bounded_place g budget ticks low types s object m kind t b declared stands.1)) (tt, after_here s, stands.1))
+            (λ q u after _ u_kept. runs_on g budget ticks low types u (λ v w. OfType g c v w × IsValid g.structs (Some b) (pointing c v) w) IsNext (value true (setting g budget ticks sandbox trusted k is) k e u) _ (asked_goes_on m kind t b counts h asked u (standing_later s u after stands u_kept))
+            (λ v w _ x w_kept. bounded_store w object m kind t b v declared x.0 x.1 w_kept))
         simple_runs (typed.update_local {char = char} {k = i} {t = t} {operator = operator} {e = e} {site = site} found number is_char h) s stands =
             runs_on g budget ticks low types s (OfType g t) IsNext (given (slice_get s.locals i) s) _ (given_goes g budget ticks low types s i t stands.1 found)
             (λ old u after old_typed u_kept. value_then _ h u (standing_later s u after stands u_kept)

@@ -1,6 +1,6 @@
 -- What expressions of the walk are, and which locals assignments are to.
 use Rattle.std.proofs.Common.{◌≡◌, ℕ, suc, ◌^◌, Bool, true, false, List, [], ◌∷◌, length, Option, Some, None, refl}
-use Rattle.std.specs.Prelude.{◌==◌, nat_lt, ◌&&◌, slice_get}
+use Rattle.std.specs.Prelude.{◌==◌, nat_lt, ◌&&◌, slice_get, is_some}
 use Rattle.ckc_text.specs.declared.place.Span.{Span}
 use Rattle.ckc_text.specs.declared.code.Code.TheVariants.{E04, E13, E14, E26}
 use Rattle.ckc_tree.specs.declared.expr.CastWord.{CastWord}
@@ -26,13 +26,14 @@ use Rattle.ckc_core.specs.declared.program.Callee.{Callee}
 use Rattle.ckc_core.specs.declared.program.Direction.{Direction}
 use Rattle.ckc_core.specs.declared.program.Direction.TheVariants as directions
 use Rattle.ckc_core.specs.Core as core
+use Rattle.ckc_core.specs.Meaning.{bounds_of}
 use Rattle.ckc_names_rules.specs.declared.given.Given.{Given}
 use Rattle.region_typing_rules.specs.Verdicts.{Verdict, Passes, passing, meant}
 use Rattle.region_typing_rules.specs.Scopes.{Scope, Signature, WrittenBounds, FileVariable, Visible, Named, Local, Object, Array, Nothing, local_if, found_if, local_named, object_of, object_named, or_else, null_named, named, function_named, members_named}
 use Rattle.region_typing_rules.specs.Types.{type_named, is_number, is_pointer, are_comparable}
-use Rattle.region_typing_rules.specs.Expressions.{Places, OfLocal, OfCell, OfBounded, Standing, ForNothing, ForArray, For, Typed, Value, AStruct, Called, Gives, GivesNothing, site_at, with_bounds, bounded, number, at_place, local_typed, name_typed, object_typed, is_array, local_standing}
-use Rattle.region_typing_rules.specs.Expressions.{struct_place, member_place, member_from, offset_among, member_at, dotted, with_elements, first_element, pointed_by, arrowed, pointed_at, dereferenced, address, number_of, scalar_of, unary_typed, two_numbers, two_scalars, operator_along, summed, sum_typed}
-use Rattle.region_typing_rules.specs.Expressions.{equated, are_related, ordered_values, ordered, arithmetic, binary_typed, beside, element_at, indexed, arguments_as, is_import, call_of, declared_callee, first_of, writes, constant_typed, predefined_call, called, with_result, typed, all_typed, call_typed, cast_typed, cast_bounds}
+use Rattle.region_typing_rules.specs.Expressions.{Places, OfLocal, OfCell, OfBounded, OfUnknown, Standing, ForNothing, ForArray, For, Typed, Value, AStruct, Called, Gives, GivesNothing, site_at, with_bounds, with_cell_bounds, in_cell, number, at_place, local_typed, name_typed, object_typed, is_array, local_standing}
+use Rattle.region_typing_rules.specs.Expressions.{struct_place, member_place, member_from, offset_among, member_at, dotted, with_elements, first_element, first_or_end, pointed_by, arrowed, pointed_at, dereferenced, address, number_of, scalar_of, unary_typed, two_numbers, two_scalars, operator_along, summed, sum_typed}
+use Rattle.region_typing_rules.specs.Expressions.{equated, zero_test, are_related, ordered_values, ordered, arithmetic, binary_typed, beside, element_at, indexed, arguments_as, is_import, call_of, declared_callee, first_of, writes, is_text, length_typed, measures, constant_typed, predefined_call, called, with_result, typed, all_typed, call_typed, cast_typed, cast_bounds}
 use Rattle.region_typing_rules.specs.Knowing.{local_number}
 use Rattle.region_typing_rules.proofs.Knowledge.{crossing_promises}
 use Rattle.region_typing_rules.proofs.Verdicts.{Promises, passing_promises, needs_promises, promised_so, elements_promise, apart_promises, all_met_promise}
@@ -48,6 +49,7 @@ IsNoLocal ForArray = Unit {0}
 IsNoLocal (For (OfLocal k)) = ⊥
 IsNoLocal (For (OfCell p)) = Unit {0}
 IsNoLocal (For (OfBounded k b)) = Unit {0}
+IsNoLocal (For (OfUnknown k)) = Unit {0}
 
 abbrev IsFresh : Typed → Type 0
 IsFresh (Value type zero value place) = IsNoLocal place
@@ -58,12 +60,12 @@ abbrev pub IsFreshCall : Called → Type 0
 IsFreshCall (Gives type value) = Unit {0}
 IsFreshCall (GivesNothing call) = IsPlain [] call
 
-with_bounds_fresh : (s : Scope) (site : Site) (t : Typed) → IsFresh t → IsFresh (with_bounds s.structs site t)
-with_bounds_fresh s site (Value type zero value place) h = h
-with_bounds_fresh s site (AStruct number place) h = tt
+with_cell_bounds_fresh : (structs : List Structure) (site : Site) (t : Typed) → IsFresh t → IsFresh (with_cell_bounds structs site t)
+with_cell_bounds_fresh structs site (Value type zero value place) h = h
+with_cell_bounds_fresh structs site (AStruct number place) h = tt
 
-bounded_fresh : (s : Scope) (site : Site) (v : Verdict Typed) → Promises IsFresh v → Promises IsFresh (bounded s site v)
-bounded_fresh s site v h = passing_promises IsFresh IsFresh v _ h (with_bounds_fresh s site)
+in_cell_fresh : (s : Scope) (site : Site) (v : Verdict Typed) → Promises IsFresh v → Promises IsFresh (in_cell s site v)
+in_cell_fresh s site v h = passing_promises IsFresh IsFresh v _ h (with_cell_bounds_fresh s.structs site)
 
 at_place_fresh : (t : CType) (p : core.Place) → IsFresh (at_place t p)
 at_place_fresh Int p = tt
@@ -71,12 +73,18 @@ at_place_fresh Char p = tt
 at_place_fresh (Struct number) p = tt
 at_place_fresh (Pointer m k t) p = tt
 
-object_fresh : (structs : List Structure) (k : ℕ) (t : CType) (bounds : Option Bounds) (site : Site) → IsFresh (object_typed structs k t bounds site)
-object_fresh structs k t None site = at_place_fresh t (core.Direct k 0)
-object_fresh structs k Int (Some b) site = tt
-object_fresh structs k Char (Some b) site = tt
-object_fresh structs k (Struct number) (Some b) site = tt
-object_fresh structs k (Pointer m d t) (Some b) site = tt
+object_fresh : (structs : List Structure) (k : ℕ) (t : CType) (bounds : WrittenBounds) (site : Site) → IsFresh (object_typed structs k t bounds site)
+object_fresh structs k t None site = with_cell_bounds_fresh structs site (at_place t (core.Direct k 0)) (at_place_fresh t (core.Direct k 0))
+object_fresh structs k Int (Some None) site = tt
+object_fresh structs k Char (Some None) site = tt
+object_fresh structs k (Struct number) (Some None) site = tt
+object_fresh structs k (Pointer m kinds.One t) (Some None) site = tt
+object_fresh structs k (Pointer m kinds.Array t) (Some None) site = tt
+object_fresh structs k (Pointer m kinds.Nt t) (Some None) site = tt
+object_fresh structs k Int (Some (Some b)) site = tt
+object_fresh structs k Char (Some (Some b)) site = tt
+object_fresh structs k (Struct number) (Some (Some b)) site = tt
+object_fresh structs k (Pointer m d t) (Some (Some b)) site = tt
 
 address_fresh : (a : Typed) (site : Site) (span : Span) → Promises IsFresh (address a site span)
 address_fresh (Value type zero value ForNothing) site span = tt
@@ -84,9 +92,11 @@ address_fresh (Value type zero value ForArray) site span = tt
 address_fresh (Value type zero value (For (OfLocal k))) site span = tt
 address_fresh (Value type zero value (For (OfCell p))) site span = tt
 address_fresh (Value type zero value (For (OfBounded k b))) site span = tt
+address_fresh (Value type zero value (For (OfUnknown k))) site span = tt
 address_fresh (AStruct number (OfLocal k)) site span = tt
 address_fresh (AStruct number (OfCell p)) site span = tt
 address_fresh (AStruct number (OfBounded k b)) site span = tt
+address_fresh (AStruct number (OfUnknown k)) site span = tt
 
 elements_fresh : (t : CType) (p : core.Place) (value : core.Expression) (span : Span) → Promises IsFresh (with_elements value span (Passes (at_place t p)))
 elements_fresh t p value span = elements_promise IsFresh value span (Passes (at_place t p)) (at_place_fresh t p)
@@ -97,7 +107,7 @@ pointed_fresh Char value site span = tt
 pointed_fresh (Struct number) value site span = tt
 pointed_fresh (Pointer m kinds.One t) value site span = at_place_fresh t (core.Through value core.First 0 site)
 pointed_fresh (Pointer m kinds.Array t) value site span = elements_fresh t (first_element value site) value span
-pointed_fresh (Pointer m kinds.Nt t) value site span = tt
+pointed_fresh (Pointer m kinds.Nt t) value site span = elements_fresh t (first_or_end value site) value span
 
 dereferenced_fresh : (a : Typed) (site : Site) (span : Span) → Promises IsFresh (dereferenced a site span)
 dereferenced_fresh (Value type zero value place) site span = pointed_fresh type value site span
@@ -187,7 +197,7 @@ binary_fresh s binary.BitOr a b site span = arithmetic_fresh a b (operators.Bitw
 binary_fresh s binary.BitXor a b site span = arithmetic_fresh a b (operators.Bitwise bits.Xor) site span
 binary_fresh s binary.BitAnd a b site span = arithmetic_fresh a b (operators.Bitwise bits.And) site span
 binary_fresh s binary.Equal a b site span = passing_any IsFresh (equated a b span) number (λ v. tt)
-binary_fresh s binary.NotEqual a b site span = passing_any IsFresh (equated a b span) (λ v. number (core.Not v)) (λ v. tt)
+binary_fresh s binary.NotEqual a b site span = passing_any IsFresh (equated a b span) (λ v. number (core.Not (zero_test a b v))) (λ v. tt)
 binary_fresh s binary.Less a b site span = ordered_fresh comparisons.Less a b site span
 binary_fresh s binary.LessEqual a b site span = ordered_fresh comparisons.LessEqual a b site span
 binary_fresh s binary.Greater a b site span = ordered_fresh comparisons.Greater a b site span
@@ -206,7 +216,7 @@ element_fresh Char v w site span = tt
 element_fresh (Struct number) v w site span = tt
 element_fresh (Pointer m kinds.One t) v w site span = tt
 element_fresh (Pointer m kinds.Array t) v w site span = elements_fresh t (core.Through v (core.Element w false) 0 site) v span
-element_fresh (Pointer m kinds.Nt t) v w site span = tt
+element_fresh (Pointer m kinds.Nt t) v w site span = elements_fresh t (core.Through v (core.Element w true) 0 site) v span
 
 indexed_fresh : (a b : Typed) (site : Site) (span : Span) → Promises IsFresh (indexed a b site span)
 indexed_fresh (Value t z v p) (Value u y w q) site span = needs_promises IsFresh (is_pointer t && is_number u) E13 span _ (λ ok. element_fresh t v w site span)
@@ -226,21 +236,31 @@ first_plain of (core.More v others) h = h v
 writes_fresh : (of : core.Expression → core.Statement) (arguments : List (Typed × Span)) (span : Span) → ((v : core.Expression) → IsPlain [] (of v)) → Promises IsFreshCall (writes of arguments span)
 writes_fresh of arguments span h = needs_promises IsFreshCall (length arguments == 1) E14 span _ (λ x. passing_any IsFreshCall (arguments_as arguments (Int ∷ [])) _ (λ values. first_plain of values h))
 
-predefined_fresh : (given : Given) (name : ℕ) (arguments : List (Typed × Span)) (span : Span) → Promises IsFreshCall (predefined_call given name arguments span)
-predefined_fresh given name arguments span = by (name == given.next_input) (name == given.print_int) (name == given.putchar) refl refl refl
+length_fresh : (a : Typed) (site : Site) (span : Span) → Promises IsFreshCall (length_typed a site span)
+length_fresh (Value type zero value place) site span = needs_promises IsFreshCall (is_text type && is_some (bounds_of value)) E13 span _ (λ text. tt)
+length_fresh (AStruct number place) site span = tt
+
+measures_fresh : (arguments : List (Typed × Span)) (site : Site) (span : Span) → Promises IsFreshCall (measures arguments site span)
+measures_fresh [] site span = tt
+measures_fresh (a ∷ arguments) site span = needs_promises IsFreshCall (length (a ∷ arguments) == 1) E14 span _ (λ one. length_fresh a.0 site span)
+
+predefined_fresh : (given : Given) (name : ℕ) (arguments : List (Typed × Span)) (site : Site) (span : Span) → Promises IsFreshCall (predefined_call given name arguments site span)
+predefined_fresh given name arguments site span = by (name == given.next_input) (name == given.print_int) (name == given.putchar) (name == given.strlen) refl refl refl refl
   where
-    by : (input print put : Bool) → (name == given.next_input) ≡ input → (name == given.print_int) ≡ print → (name == given.putchar) ≡ put → Promises IsFreshCall (predefined_call given name arguments span)
-    by true print put h0 h1 h2 = rw h0 (needs_promises IsFreshCall (length arguments == 0) E14 span (Passes (Gives Int core.NextInput)) (λ none. tt))
-    by false true put h0 h1 h2 = rw (h0, h1) (writes_fresh core.Print arguments span (λ v. tt))
-    by false false true h0 h1 h2 = rw (h0, h1, h2) (writes_fresh core.PutByte arguments span (λ v. tt))
-    by false false false h0 h1 h2 = rw (h0, h1, h2) tt
+    by : (input print put measure : Bool) → (name == given.next_input) ≡ input → (name == given.print_int) ≡ print → (name == given.putchar) ≡ put → (name == given.strlen) ≡ measure
+        → Promises IsFreshCall (predefined_call given name arguments site span)
+    by true print put measure h0 h1 h2 h3 = rw h0 (needs_promises IsFreshCall (length arguments == 0) E14 span (Passes (Gives Int core.NextInput)) (λ none. tt))
+    by false true put measure h0 h1 h2 h3 = rw (h0, h1) (writes_fresh core.Print arguments span (λ v. tt))
+    by false false true measure h0 h1 h2 h3 = rw (h0, h1, h2) (writes_fresh core.PutByte arguments span (λ v. tt))
+    by false false false true h0 h1 h2 h3 = rw (h0, h1, h2, h3) (measures_fresh arguments site span)
+    by false false false false h0 h1 h2 h3 = rw (h0, h1, h2, h3) tt
 
 with_result_fresh : (c : Called) (span : Span) → Promises IsFresh (with_result c span)
 with_result_fresh (Gives type value) span = tt
 with_result_fresh (GivesNothing call) span = tt
 
 called_fresh : (s : Scope) (o : Option Signature) (name : ℕ) (arguments : List (Typed × Span)) (site : Site) (span : Span) → Promises IsFreshCall (called s o name arguments site span)
-called_fresh s None name arguments site span = predefined_fresh s.given name arguments span
+called_fresh s None name arguments site span = predefined_fresh s.given name arguments site span
 called_fresh s (Some f) name arguments site span =
     needs_promises IsFreshCall (length f.parameters == length arguments) E14 span _
     (λ many. crossing_promises IsFreshCall (is_import f) arguments _
@@ -270,7 +290,7 @@ call_typed_fresh at s (e.Binary operator left right span) = tt
 abbrev pub IsLocalAt : Scope → ℕ → Named → Type 0
 IsLocalAt s name (Local k t) = (slice_get s.locals k ≡ Some t) × (local_number s.visible name ≡ Some k)
 IsLocalAt s name (Object k t b) = Unit {0}
-IsLocalAt s name (Array k t n) = Unit {0}
+IsLocalAt s name (Array k t n ended) = Unit {0}
 IsLocalAt s name Nothing = Unit {0}
 
 abbrev IfLocal : Scope → ℕ → Option Named → Type 0
@@ -281,7 +301,7 @@ abbrev IfFound : List CType → List Visible → ℕ → Option Named → Type 0
 IfFound types visible name None = Unit {0}
 IfFound types visible name (Some (Local k t)) = (slice_get types k ≡ Some t) × (local_number visible name ≡ Some k)
 IfFound types visible name (Some (Object k t b)) = ⊥
-IfFound types visible name (Some (Array k t n)) = ⊥
+IfFound types visible name (Some (Array k t n ended)) = ⊥
 IfFound types visible name (Some Nothing) = ⊥
 
 local_if_found : (types : List CType) (v : Visible) (visible : List Visible) (name : ℕ) → (name == v.name) ≡ true → (o : Option CType) → slice_get types v.local ≡ o → IfFound types (v ∷ visible) name (local_if o v.local)
@@ -292,7 +312,7 @@ later_found : (types : List CType) (v : Visible) (visible : List Visible) (name 
 later_found types v visible name other None h = tt
 later_found types v visible name other (Some (Local k t)) h = (h.0, rw other h.1)
 later_found types v visible name other (Some (Object k t b)) h = h
-later_found types v visible name other (Some (Array k t n)) h = h
+later_found types v visible name other (Some (Array k t n ended)) h = h
 later_found types v visible name other (Some Nothing) h = h
 
 local_by : (types : List CType) (v : Visible) (visible : List Visible) (name : ℕ) (test : Bool) → (name == v.name) ≡ test → IfFound types visible name (local_named types visible name)
@@ -308,7 +328,7 @@ found_at : (s : Scope) (name : ℕ) (o : Option Named) → IfFound s.locals s.vi
 found_at s name None h = tt
 found_at s name (Some (Local k t)) h = h
 found_at s name (Some (Object k t b)) h = absurd h
-found_at s name (Some (Array k t n)) h = absurd h
+found_at s name (Some (Array k t n ended)) h = absurd h
 found_at s name (Some Nothing) h = absurd h
 
 either_at : (s : Scope) (name : ℕ) (this other : Option Named) → IfLocal s name this → IfLocal s name other → IfLocal s name (or_else this other)
@@ -364,6 +384,7 @@ IsTarget s x type ForArray = Unit {0}
 IsTarget s x type (For (OfLocal k)) = (slice_get s.locals k ≡ Some type) × IsNameOf s.visible x k
 IsTarget s x type (For (OfCell p)) = Unit {0}
 IsTarget s x type (For (OfBounded k b)) = Unit {0}
+IsTarget s x type (For (OfUnknown k)) = Unit {0}
 
 -- where an expression is a local, it is that of its name
 abbrev pub IsSource : Scope → Expression → Typed → Type 0
@@ -376,6 +397,7 @@ fresh_target s x type ForArray h = tt
 fresh_target s x type (For (OfLocal k)) h = absurd h
 fresh_target s x type (For (OfCell p)) h = tt
 fresh_target s x type (For (OfBounded k b)) h = tt
+fresh_target s x type (For (OfUnknown k)) h = tt
 
 fresh_source : (s : Scope) (x : Expression) (t : Typed) → IsFresh t → IsSource s x t
 fresh_source s x (Value type zero value place) h = fresh_target s x type place h
@@ -397,7 +419,8 @@ local_source s x k (Pointer m d t) array site h n = standing_target s x k (Point
 name_source : (s : Scope) (name : Identifier) (site : Site) (x : Named) → IsLocalAt s name.number x → IsSource s (e.Name name) (name_typed s x site)
 name_source s name site (Local k t) h = local_source s (e.Name name) k t (is_array s.arrays k) site h.0 h.1
 name_source s name site (Object k t b) h = fresh_source s (e.Name name) (object_typed s.structs k t b site) (object_fresh s.structs k t b site)
-name_source s name site (Array k t n) h = tt
+name_source s name site (Array k t n false) h = tt
+name_source s name site (Array k t n true) h = tt
 name_source s name site Nothing h = tt
 
 with_bounds_source : (s : Scope) (x : Expression) (site : Site) (t : Typed) → IsSource s x t → IsSource s x (with_bounds s.structs site t)
@@ -435,20 +458,20 @@ typed_source at s (e.Malloc word type size span) =
 typed_source at s (e.Calloc word type count size span) =
     fresh_sources s (e.Calloc word type count size span) (typed at s (e.Calloc word type count size span))
     (passing_any IsFresh (type_named s type) _ (λ t. passing_any IsFresh (typed at s count) _ (λ a. passing_any IsFresh (typed at s size) _
-    (λ b. calloc_promises IsFresh s t (site_at at span) span word a size (of_any _ a (λ type value number bytes. tt))))))
+    (λ b. calloc_promises IsFresh s t (site_at at span) span word a size (of_any _ a (λ type value number ended may. tt))))))
 typed_source at s (e.Index base index span) =
     fresh_sources s (e.Index base index span) (typed at s (e.Index base index span))
-    (bounded_fresh s (site_at at span) (passing (typed at s base) (λ a. passing (typed at s index) (λ b. indexed a b (site_at at span) span)))
+    (in_cell_fresh s (site_at at span) (passing (typed at s base) (λ a. passing (typed at s index) (λ b. indexed a b (site_at at span) span)))
     (passing_any IsFresh (typed at s base) _ (λ a. passing_any IsFresh (typed at s index) _ (λ b. indexed_fresh a b (site_at at span) span))))
 typed_source at s (e.Dot base member span) =
     fresh_sources s (e.Dot base member span) (typed at s (e.Dot base member span))
-    (bounded_fresh s (site_at at span) (passing (typed at s base) (λ a. dotted s a member.number (site_at at span) span)) (passing_any IsFresh (typed at s base) _ (λ a. dotted_fresh s a member.number (site_at at span) span)))
+    (in_cell_fresh s (site_at at span) (passing (typed at s base) (λ a. dotted s a member.number (site_at at span) span)) (passing_any IsFresh (typed at s base) _ (λ a. dotted_fresh s a member.number (site_at at span) span)))
 typed_source at s (e.Arrow base member span) =
     fresh_sources s (e.Arrow base member span) (typed at s (e.Arrow base member span))
-    (bounded_fresh s (site_at at span) (passing (typed at s base) (λ a. arrowed s a member.number (site_at at span) span)) (passing_any IsFresh (typed at s base) _ (λ a. arrowed_fresh s a member.number (site_at at span) span)))
+    (in_cell_fresh s (site_at at span) (passing (typed at s base) (λ a. arrowed s a member.number (site_at at span) span)) (passing_any IsFresh (typed at s base) _ (λ a. arrowed_fresh s a member.number (site_at at span) span)))
 typed_source at s (e.Unary operator operand span) =
     fresh_sources s (e.Unary operator operand span) (typed at s (e.Unary operator operand span))
-    (bounded_fresh s (site_at at span) (passing (typed at s operand) (λ a. unary_typed operator a (site_at at span) span)) (passing_any IsFresh (typed at s operand) _ (λ a. unary_fresh operator a (site_at at span) span)))
+    (in_cell_fresh s (site_at at span) (passing (typed at s operand) (λ a. unary_typed operator a (site_at at span) span)) (passing_any IsFresh (typed at s operand) _ (λ a. unary_fresh operator a (site_at at span) span)))
 typed_source at s (e.Binary operator left right span) =
     fresh_sources s (e.Binary operator left right span) (typed at s (e.Binary operator left right span))
     (passing_any IsFresh (typed at s left) _ (λ a. passing_any IsFresh (typed at (beside operator a s) right) _ (λ b. binary_fresh s operator a b (site_at at span) span)))

@@ -1,6 +1,6 @@
 -- The parts of a core take few words of the stack, by the height of the tree that they come from.
 use Rattle.std.proofs.Common.{◌≡◌, ℕ, ◌+◌, ◌*◌, ◌≤◌, ◌^◌, Bool, true, false, List, [], ◌∷◌, length, Option, Some, None, refl, ap, arith}
-use Rattle.std.specs.Prelude.{◌==◌, nat_lt, ◌&&◌}
+use Rattle.std.specs.Prelude.{◌==◌, nat_lt, ◌&&◌, is_some}
 use Rattle.std.specs.List.{AllByRecursion}
 use Rattle.std.proofs.lemmas.Bool.{ltb-true, ltb-false}
 use Rattle.ckc_text.specs.declared.place.Span.{Span}
@@ -32,12 +32,13 @@ use Rattle.ckc_core.specs.declared.program.PointerBounds.{PointerBounds}
 use Rattle.ckc_core.specs.declared.program.Direction.{Direction}
 use Rattle.ckc_core.specs.declared.program.Direction.TheVariants as directions
 use Rattle.ckc_core.specs.Core as core
+use Rattle.ckc_core.specs.Meaning.{bounds_of}
 use Rattle.ckc_core.specs.Stacks.{offset_stack, expression_stack, arguments_stack, place_stack, statement_stack}
 use Rattle.ckc_names_rules.specs.declared.given.Given.{Given}
-use Rattle.region_typing_rules.specs.Verdicts.{Verdict, Passes, passing}
+use Rattle.region_typing_rules.specs.Verdicts.{Verdict, Passes, passing, picked}
 use Rattle.region_typing_rules.specs.Scopes.{Scope, Signature, WrittenBounds, Named, Local, Object, Array, Nothing, named, function_named, members_named}
 use Rattle.region_typing_rules.specs.Types.{type_named, is_number, is_pointer, are_comparable, converts}
-use Rattle.region_typing_rules.specs.Expressions.{Places, OfLocal, OfCell, OfBounded, Standing, ForNothing, ForArray, For, Typed, Value, AStruct, Called, Gives, GivesNothing, site_at, bounds_at, noted, noted_if, with_bounds, sum_node, bounded, plain, number, at_place, local_typed, name_typed, object_typed, member_place, member_from, offset_among, member_at, dotted, first_element, pointed_by, arrowed, pointed_at, dereferenced, pointer_to, address, number_of, scalar_of, unary_typed, two_numbers, two_scalars, operator_along, summed, sum_typed, as_pointer, equated_values, equated, are_related, ordered_values, ordered, arithmetic, binary_typed, beside as right_scope, element_at, indexed, in_type, converted, arguments_as, is_import, call_of, declared_callee, first_of, writes, predefined_call, called, with_result, typed, all_typed, call_typed, malloc_typed, calloc_typed, cast_typed, cast_bounds, is_array, local_standing}
+use Rattle.region_typing_rules.specs.Expressions.{Places, OfLocal, OfCell, OfBounded, OfUnknown, Standing, ForNothing, ForArray, For, Typed, Value, AStruct, Called, Gives, GivesNothing, site_at, bounds_at, noted, noted_if, with_bounds, cell_bounds, with_cell_bounds, sum_node, bounded, in_cell, plain, number, at_place, local_typed, name_typed, object_typed, member_place, member_from, offset_among, member_at, dotted, first_element, first_or_end, pointed_by, arrowed, pointed_at, dereferenced, pointer_to, address, number_of, scalar_of, unary_typed, two_numbers, two_scalars, operator_along, summed, sum_typed, as_pointer, equated_values, equated, is_ended_element, zero_test, are_related, ordered_values, ordered, arithmetic, binary_typed, beside as right_scope, element_at, indexed, in_type, converted, arguments_as, is_import, call_of, declared_callee, first_of, writes, is_text, length_typed, measures, predefined_call, called, with_result, typed, all_typed, call_typed, malloc_typed, calloc_typed, cast_typed, cast_bounds, is_array, local_standing}
 use Rattle.region_typing_rules.proofs.RightOperands.{in_right}
 use Rattle.region_typing_rules.proofs.Knowledge.{crossing_promises}
 use Rattle.region_typing_rules.proofs.Kept.{passing_any}
@@ -94,6 +95,7 @@ LowPlace n ForArray = Unit {0}
 LowPlace n (For (OfLocal k)) = Unit {0}
 LowPlace n (For (OfCell p)) = place_stack p ≤ n
 LowPlace n (For (OfBounded k b)) = place_stack (core.Direct k 0) ≤ n
+LowPlace n (For (OfUnknown k)) = place_stack (core.Direct k 0) ≤ n
 
 abbrev pub Low : ℕ → Typed → Type 0
 Low n (Value type zero value place) = (expression_stack value ≤ n) × LowPlace n place
@@ -112,6 +114,7 @@ low_place_more n m ForArray le h = tt
 low_place_more n m (For (OfLocal k)) le h = tt
 low_place_more n m (For (OfCell p)) le h = omega arith
 low_place_more n m (For (OfBounded k b)) le h = omega arith
+low_place_more n m (For (OfUnknown k)) le h = omega arith
 
 pub low_more : (n m : ℕ) (t : Typed) → n ≤ m → Low n t → Low m t
 low_more n m (Value type zero value place) le h = let first = h.0 in (omega arith, low_place_more n m place le h.1)
@@ -149,6 +152,13 @@ with_bounds_low : (n : ℕ) (s : Scope) (site : Site) (t : Typed) → Low n t �
 with_bounds_low n s site (Value type zero value place) h = let first = h.0 in (omega (arith, noted_if_low (bounds_at s.structs type site) value), h.1)
 with_bounds_low n s site (AStruct number place) h = h
 
+with_cell_bounds_low : (n : ℕ) (structs : List Structure) (site : Site) (t : Typed) → Low n t → Low n (with_cell_bounds structs site t)
+with_cell_bounds_low n structs site (Value type zero value place) h = let first = h.0 in (omega (arith, noted_if_low (cell_bounds structs type site) value), h.1)
+with_cell_bounds_low n structs site (AStruct number place) h = h
+
+in_cell_low : (n : ℕ) (s : Scope) (site : Site) (v : Verdict Typed) → Promises (Low n) v → Promises (Low n) (in_cell s site v)
+in_cell_low n s site v h = passing_promises (Low n) (Low n) v _ h (with_cell_bounds_low n s.structs site)
+
 bounded_low : (n : ℕ) (s : Scope) (site : Site) (v : Verdict Typed) → Promises (Low n) v → Promises (Low n) (bounded s site v)
 bounded_low n s site v h = passing_promises (Low n) (Low n) v _ h (with_bounds_low n s site)
 
@@ -174,17 +184,24 @@ local_low n structs f k Char array site h = (h, standing_low n k array)
 local_low n structs f k (Struct number) array site h = tt
 local_low n structs f k (Pointer m d t) array site h = (h, standing_low n k array)
 
-object_low : (n : ℕ) (structs : List Structure) (k : ℕ) (t : CType) (bounds : Option Bounds) (site : Site) → 2 ≤ n → Low n (object_typed structs k t bounds site)
-object_low n structs k t None site h = at_place_low n t (core.Direct k 0) (omega arith)
-object_low n structs k Int (Some b) site h = (omega arith, omega arith)
-object_low n structs k Char (Some b) site h = (omega arith, omega arith)
-object_low n structs k (Struct number) (Some b) site h = omega arith
-object_low n structs k (Pointer m d t) (Some b) site h = (omega arith, omega arith)
+object_low : (n : ℕ) (structs : List Structure) (k : ℕ) (t : CType) (bounds : WrittenBounds) (site : Site) → 2 ≤ n → Low n (object_typed structs k t bounds site)
+object_low n structs k t None site h = with_cell_bounds_low n structs site (at_place t (core.Direct k 0)) (at_place_low n t (core.Direct k 0) (omega arith))
+object_low n structs k Int (Some None) site h = (omega arith, omega arith)
+object_low n structs k Char (Some None) site h = (omega arith, omega arith)
+object_low n structs k (Struct number) (Some None) site h = omega arith
+object_low n structs k (Pointer m kinds.One t) (Some None) site h = (omega arith, omega arith)
+object_low n structs k (Pointer m kinds.Array t) (Some None) site h = (omega arith, omega arith)
+object_low n structs k (Pointer m kinds.Nt t) (Some None) site h = (omega arith, omega arith)
+object_low n structs k Int (Some (Some b)) site h = (omega arith, omega arith)
+object_low n structs k Char (Some (Some b)) site h = (omega arith, omega arith)
+object_low n structs k (Struct number) (Some (Some b)) site h = omega arith
+object_low n structs k (Pointer m d t) (Some (Some b)) site h = (omega arith, omega arith)
 
 name_low : (n : ℕ) (s : Scope) (x : Named) (site : Site) → 2 ≤ n → Low n (name_typed s x site)
 name_low n s (Local k t) site h = local_low n s.structs s.flow k t (is_array s.arrays k) site (omega arith)
 name_low n s (Object k t b) site h = object_low n s.structs k t b site h
-name_low n s (Array k t length) site h = (omega arith, tt)
+name_low n s (Array k t length false) site h = (omega arith, tt)
+name_low n s (Array k t length true) site h = (omega arith, tt)
 name_low n s Nothing site h = (omega arith, tt)
 
 member_place_low : (n : ℕ) (p : core.Place) (offset : ℕ) (site : Site) → 2 ≤ n → place_stack p ≤ n → place_stack (member_place p offset site) ≤ n
@@ -193,7 +210,8 @@ member_place_low n (core.Through pointer index first before) offset site two h =
 
 pointer_low : (n : ℕ) (t : CType) (p : core.Place) (site : Site) → place_stack p ≤ n → Low n (pointer_to t p site)
 pointer_low n t (core.Direct object offset) site h = (h, tt)
-pointer_low n t (core.Through pointer index offset before) site h = (h, tt)
+pointer_low n t (core.Through pointer core.First offset before) site h = (h, tt)
+pointer_low n t (core.Through pointer (core.Element number terminated) offset before) site h = (h, tt)
 
 address_low : (n : ℕ) (a : Typed) (site : Site) (span : Span) → Low n a → Promises (Low n) (address a site span)
 address_low n (Value type zero value ForNothing) site span h = tt
@@ -201,9 +219,11 @@ address_low n (Value type zero value ForArray) site span h = tt
 address_low n (Value type zero value (For (OfLocal k))) site span h = tt
 address_low n (Value type zero value (For (OfCell p))) site span h = pointer_low n type p site h.1
 address_low n (Value type zero value (For (OfBounded k b))) site span h = tt
+address_low n (Value type zero value (For (OfUnknown k))) site span h = tt
 address_low n (AStruct number (OfLocal k)) site span h = tt
 address_low n (AStruct number (OfCell p)) site span h = pointer_low n (Struct number) p site h
 address_low n (AStruct number (OfBounded k b)) site span h = tt
+address_low n (AStruct number (OfUnknown k)) site span h = tt
 
 pointed_low : (n : ℕ) (t : CType) (value : core.Expression) (site : Site) (span : Span) → 6 ≤ n → IsLow n value → Promises (Low n) (pointed_at t value site span)
 pointed_low n Int value site span six h = tt
@@ -211,7 +231,7 @@ pointed_low n Char value site span six h = tt
 pointed_low n (Struct number) value site span six h = tt
 pointed_low n (Pointer m kinds.One t) value site span six h = at_place_low n t (core.Through value core.First 0 site) (omega arith)
 pointed_low n (Pointer m kinds.Array t) value site span six h = elements_promise (Low n) value span _ (at_place_low n t (first_element value site) (omega arith))
-pointed_low n (Pointer m kinds.Nt t) value site span six h = tt
+pointed_low n (Pointer m kinds.Nt t) value site span six h = elements_promise (Low n) value span _ (at_place_low n t (first_or_end value site) (omega arith))
 
 dereferenced_low : (n : ℕ) (a : Typed) (site : Site) (span : Span) → 6 ≤ n → Low n a → Promises (Low n) (dereferenced a site span)
 dereferenced_low n (Value type zero value place) site span six h = pointed_low n type value site span six h.0
@@ -229,6 +249,7 @@ dotted_low n s (Value type zero value place) name site span two h = tt
 dotted_low n s (AStruct number (OfLocal k)) name site span two h = member_at_low n s number (core.Through (core.Local k None) core.First 0 site) name site span two (omega arith)
 dotted_low n s (AStruct number (OfCell p)) name site span two h = member_at_low n s number p name site span two h
 dotted_low n s (AStruct number (OfBounded k b)) name site span two h = member_at_low n s number (core.Direct k 0) name site span two h
+dotted_low n s (AStruct number (OfUnknown k)) name site span two h = member_at_low n s number (core.Direct k 0) name site span two h
 
 pointed_by_low : (n : ℕ) (s : Scope) (t : CType) (value : core.Expression) (name : ℕ) (site : Site) (span : Span) → 6 ≤ n → IsLow n value → Promises (Low n) (pointed_by s t value name site span)
 pointed_by_low n s Int value name site span six h = tt
@@ -316,6 +337,17 @@ order_low n comparison (Value t z v p) (Value u y w q) site span six ha hb = ord
 order_low n comparison (Value t z v p) (AStruct k q) site span six ha hb = tt
 order_low n comparison (AStruct k p) b site span six ha hb = tt
 
+-- whether an element is the zero takes no more than a comparison with 0
+zero_test_low : (n : ℕ) (a b : Typed) (equal : core.Expression) → Low n a → IsLow (n + 1) equal → IsLow (n + 1) (zero_test a b equal)
+zero_test_low n (Value t z v p) (Value u true w q) equal h low = by (is_number t && is_ended_element v)
+  where
+    by : (test : Bool) → IsLow (n + 1) (picked test (core.Not v) equal)
+    by true = let first = h.0 in omega arith
+    by false = low
+zero_test_low n (Value t z v p) (Value u false w q) equal h low = low
+zero_test_low n (Value t z v p) (AStruct k q) equal h low = low
+zero_test_low n (AStruct k p) b equal h low = low
+
 binary_low : (n : ℕ) (s : Scope) (operator : BinaryOperator) (a b : Typed) (site : Site) (span : Span) → 6 ≤ n → Low n a → Low n b → Promises (Low (n + 1)) (binary_typed s operator a b site span)
 binary_low n s binary.Or a b site span six ha hb = truths_low n core.OrElse a b span ha hb (λ v w low low'. omega arith)
 binary_low n s binary.And a b site span six ha hb = truths_low n core.AndAlso a b span ha hb (λ v w low low'. omega arith)
@@ -323,7 +355,8 @@ binary_low n s binary.BitOr a b site span six ha hb = arithmetic_low n (operator
 binary_low n s binary.BitXor a b site span six ha hb = arithmetic_low n (operators.Bitwise bits.Xor) a b site span ha hb
 binary_low n s binary.BitAnd a b site span six ha hb = arithmetic_low n (operators.Bitwise bits.And) a b site span ha hb
 binary_low n s binary.Equal a b site span six ha hb = passing_promises (IsLow (n + 1)) (Low (n + 1)) (equated a b span) number (equal_low n a b span (omega arith) ha hb) (λ v low. (low, tt))
-binary_low n s binary.NotEqual a b site span six ha hb = passing_promises (IsLow (n + 1)) (Low (n + 1)) (equated a b span) (λ v. number (core.Not v)) (equal_low n a b span (omega arith) ha hb) (λ v low. (low, tt))
+binary_low n s binary.NotEqual a b site span six ha hb = passing_promises (IsLow (n + 1)) (Low (n + 1)) (equated a b span) (λ v. number (core.Not (zero_test a b v))) (equal_low n a b span (omega arith) ha hb)
+    (λ v low. (zero_test_low n a b v ha low, tt))
 binary_low n s binary.Less a b site span six ha hb = order_low n comparisons.Less a b site span six ha hb
 binary_low n s binary.LessEqual a b site span six ha hb = order_low n comparisons.LessEqual a b site span six ha hb
 binary_low n s binary.Greater a b site span six ha hb = order_low n comparisons.Greater a b site span six ha hb
@@ -343,7 +376,8 @@ element_low n (Struct k) pointer number site span six hp hn = tt
 element_low n (Pointer m kinds.One t) pointer number site span six hp hn = tt
 element_low n (Pointer m kinds.Array t) pointer number site span six hp hn =
     elements_promise (Low (n + 1)) pointer span _ (at_place_low (n + 1) t (core.Through pointer (core.Element number false) 0 site) (omega arith))
-element_low n (Pointer m kinds.Nt t) pointer number site span six hp hn = tt
+element_low n (Pointer m kinds.Nt t) pointer number site span six hp hn =
+    elements_promise (Low (n + 1)) pointer span _ (at_place_low (n + 1) t (core.Through pointer (core.Element number true) 0 site) (omega arith))
 
 indexed_low : (n : ℕ) (a b : Typed) (site : Site) (span : Span) → 6 ≤ n → Low n a → Low n b → Promises (Low (n + 1)) (indexed a b site span)
 indexed_low n (Value t z v p) (Value u y w q) site span six ha hb = needs_promises (Low (n + 1)) (is_pointer t && is_number u) E13 span _ (λ x. element_low n t v w site span six ha.0 hb.0)
@@ -396,14 +430,26 @@ writes_low n of arguments span same one all =
     needs_promises (LowCall (n + 16)) (length arguments == 1) E14 span _
     (λ x. passing_promises (λ (values : core.Arguments). arguments_stack values ≤ n + 1) (LowCall (n + 16)) (arguments_as arguments (Int ∷ [])) _ (arguments_low n arguments (Int ∷ []) one all) (λ values h. first_low (n + 16) of values same (omega arith)))
 
-predefined_low : (n : ℕ) (given : Given) (name : ℕ) (arguments : List (Typed × Span)) (span : Span) → 1 ≤ n → AllLow n arguments → Promises (LowCall (n + 16)) (predefined_call given name arguments span)
-predefined_low n given name arguments span one all = by (name == given.next_input) (name == given.print_int) (name == given.putchar) refl refl refl
+length_low : (n : ℕ) (a : Typed) (site : Site) (span : Span) → Low n a → Promises (LowCall (n + 16)) (length_typed a site span)
+length_low n (Value type zero value place) site span h =
+    let low = h.0 in
+    needs_promises (LowCall (n + 16)) (is_text type && is_some (bounds_of value)) E13 span (Passes (Gives Int (core.Length value site))) (λ text. omega arith)
+length_low n (AStruct number place) site span h = tt
+
+measures_low : (n : ℕ) (arguments : List (Typed × Span)) (site : Site) (span : Span) → AllLow n arguments → Promises (LowCall (n + 16)) (measures arguments site span)
+measures_low n [] site span all = tt
+measures_low n (a ∷ arguments) site span all = needs_promises (LowCall (n + 16)) (length (a ∷ arguments) == 1) E14 span (length_typed a.0 site span) (λ one. length_low n a.0 site span all.0)
+
+predefined_low : (n : ℕ) (given : Given) (name : ℕ) (arguments : List (Typed × Span)) (site : Site) (span : Span) → 1 ≤ n → AllLow n arguments → Promises (LowCall (n + 16)) (predefined_call given name arguments site span)
+predefined_low n given name arguments site span one all = by (name == given.next_input) (name == given.print_int) (name == given.putchar) (name == given.strlen) refl refl refl refl
   where
-    by : (input print put : Bool) → (name == given.next_input) ≡ input → (name == given.print_int) ≡ print → (name == given.putchar) ≡ put → Promises (LowCall (n + 16)) (predefined_call given name arguments span)
-    by true print put h0 h1 h2 = rw h0 (needs_promises (LowCall (n + 16)) (length arguments == 0) E14 span (Passes (Gives Int core.NextInput)) (λ none. omega arith))
-    by false true put h0 h1 h2 = rw (h0, h1) (writes_low n core.Print arguments span (λ v. refl) one all)
-    by false false true h0 h1 h2 = rw (h0, h1, h2) (writes_low n core.PutByte arguments span (λ v. refl) one all)
-    by false false false h0 h1 h2 = rw (h0, h1, h2) tt
+    by : (input print put measure : Bool) → (name == given.next_input) ≡ input → (name == given.print_int) ≡ print → (name == given.putchar) ≡ put → (name == given.strlen) ≡ measure
+        → Promises (LowCall (n + 16)) (predefined_call given name arguments site span)
+    by true print put measure h0 h1 h2 h3 = rw h0 (needs_promises (LowCall (n + 16)) (length arguments == 0) E14 span (Passes (Gives Int core.NextInput)) (λ none. omega arith))
+    by false true put measure h0 h1 h2 h3 = rw (h0, h1) (writes_low n core.Print arguments span (λ v. refl) one all)
+    by false false true measure h0 h1 h2 h3 = rw (h0, h1, h2) (writes_low n core.PutByte arguments span (λ v. refl) one all)
+    by false false false true h0 h1 h2 h3 = rw (h0, h1, h2, h3) (measures_low n arguments site span all)
+    by false false false false h0 h1 h2 h3 = rw (h0, h1, h2, h3) tt
 
 -- ---- allocation and casts
 
@@ -419,7 +465,7 @@ malloc_low n word s t size (Value type zero value place) site span some h =
 malloc_low n word s t size (AStruct number place) site span some h = malloc_promises (Low n) s t site span word size (AStruct number place) tt
 
 calloc_low : (n : ℕ) (word : CallocWord) (s : Scope) (t : CType) (a : Typed) (size : Expression) (site : Site) (span : Span) → Low n a → Promises (Low n) (calloc_typed word s t a size site span)
-calloc_low n word s t (Value type zero value place) size site span h = calloc_promises (Low n) s t site span word (Value type zero value place) size (λ number bytes. (h.0, tt))
+calloc_low n word s t (Value type zero value place) size site span h = calloc_promises (Low n) s t site span word (Value type zero value place) size (λ number ended may. (h.0, tt))
 calloc_low n word s t (AStruct number place) size site span h = calloc_promises (Low n) s t site span word (AStruct number place) size tt
 
 cast_low : (n : ℕ) (word : CastWord) (s : Scope) (t : CType) (a : Typed) (written : WrittenBounds) (site : Site) (span : Span) → 7 ≤ n → Low n a → Promises (Low n) (cast_typed word s t a written site span)
@@ -441,7 +487,7 @@ with_result_low n (GivesNothing call) span h = tt
 
 module _ (s : Scope) (few : AllByRecursion HasFew s.functions) where
   called_low : (n : ℕ) (o : Option Signature) (name : ℕ) (arguments : List (Typed × Span)) (site : Site) (span : Span) → function_named s.functions name ≡ o → 1 ≤ n → AllLow n arguments → Promises (LowCall (n + 16)) (called s o name arguments site span)
-  called_low n None name arguments site span found one all = predefined_low n s.given name arguments span one all
+  called_low n None name arguments site span found one all = predefined_low n s.given name arguments site span one all
   called_low n (Some f) name arguments site span found one all =
       needs_promises (LowCall (n + 16)) (length f.parameters == length arguments) E14 span _
       (λ many. crossing_promises (LowCall (n + 16)) (is_import f) arguments _
@@ -502,19 +548,19 @@ mutual
       let two = beside_second first second in
       let m = 17 * (first beside second).height + 6 in
       let room : m + 1 ≤ n = omega arith in
-      bounded_low n s (site_at at span) (passing (typed at s base) (λ a. passing (typed at s index) (λ b. indexed a b (site_at at span) span)))
+      in_cell_low n s (site_at at span) (passing (typed at s base) (λ a. passing (typed at s index) (λ b. indexed a b (site_at at span) span)))
       (passing_promises (Low m) (Low n) (typed at s base) _ (typed_low s few at base m (omega arith))
       (λ a ha. passing_promises (Low m) (Low n) (typed at s index) _ (typed_low s few at index m (omega arith))
       (λ b hb. promised_so (Low (m + 1)) (Low n) (indexed a b (site_at at span) span) (indexed_low m a b (site_at at span) span (omega arith) ha hb) (λ t. low_more (m + 1) n t room))))
   typed_low s few at (e.Dot base member span) n h =
       let higher = around_higher span.from (expression_reach base) in
-      bounded_low n s (site_at at span) (passing (typed at s base) (λ a. dotted s a member.number (site_at at span) span)) (passing_promises (Low n) (Low n) (typed at s base) _ (typed_low s few at base n (omega arith)) (λ a low. dotted_low n s a member.number (site_at at span) span (omega arith) low))
+      in_cell_low n s (site_at at span) (passing (typed at s base) (λ a. dotted s a member.number (site_at at span) span)) (passing_promises (Low n) (Low n) (typed at s base) _ (typed_low s few at base n (omega arith)) (λ a low. dotted_low n s a member.number (site_at at span) span (omega arith) low))
   typed_low s few at (e.Arrow base member span) n h =
       let higher = around_higher span.from (expression_reach base) in
-      bounded_low n s (site_at at span) (passing (typed at s base) (λ a. arrowed s a member.number (site_at at span) span)) (passing_promises (Low n) (Low n) (typed at s base) _ (typed_low s few at base n (omega arith)) (λ a low. arrowed_low n s a member.number (site_at at span) span (omega arith) low))
+      in_cell_low n s (site_at at span) (passing (typed at s base) (λ a. arrowed s a member.number (site_at at span) span)) (passing_promises (Low n) (Low n) (typed at s base) _ (typed_low s few at base n (omega arith)) (λ a low. arrowed_low n s a member.number (site_at at span) span (omega arith) low))
   typed_low s few at (e.Unary operator operand span) n h =
       let higher = around_higher span.from (expression_reach operand) in
-      bounded_low n s (site_at at span) (passing (typed at s operand) (λ a. unary_typed operator a (site_at at span) span)) (passing_promises (Low n) (Low n) (typed at s operand) _ (typed_low s few at operand n (omega arith)) (λ a low. unary_low n operator a (site_at at span) span (omega arith) low))
+      in_cell_low n s (site_at at span) (passing (typed at s operand) (λ a. unary_typed operator a (site_at at span) span)) (passing_promises (Low n) (Low n) (typed at s operand) _ (typed_low s few at operand n (omega arith)) (λ a low. unary_low n operator a (site_at at span) span (omega arith) low))
   typed_low s few at (e.Binary operator left right span) n h =
       let first = expression_reach left in
       let second = expression_reach right in

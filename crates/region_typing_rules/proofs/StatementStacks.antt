@@ -6,7 +6,7 @@ use Rattle.ckc_core.specs.Meaning.{bounds_of}
 use Rattle.ckc_core.specs.declared.program.PointerBounds.{PointerBounds}
 use Rattle.bounds_flow.specs.Flows.{Knowledge}
 use Rattle.ckc_text.specs.declared.place.Span.{Span}
-use Rattle.ckc_text.specs.declared.code.Code.TheVariants.{E08, E13, E15, E17, E30}
+use Rattle.ckc_text.specs.declared.code.Code.TheVariants.{E08, E13, E15, E17, E18, E30}
 use Rattle.ckc_tree.specs.declared.stmt.StoreOperator.{StoreOperator}
 use Rattle.ckc_tree.specs.declared.stmt.StoreOperator.TheVariants as stores
 use Rattle.ckc_tree.specs.Types.{TypeTree}
@@ -22,13 +22,13 @@ use Rattle.ckc_core.specs.declared.program.Direction.{Direction}
 use Rattle.ckc_core.specs.declared.program.Direction.TheVariants as directions
 use Rattle.ckc_core.specs.Core as core
 use Rattle.ckc_core.specs.Stacks.{expression_stack, statement_stack, statements_stack, element_stack, index_stack}
-use Rattle.region_typing_rules.specs.Verdicts.{Verdict, Passes}
+use Rattle.region_typing_rules.specs.Verdicts.{Verdict, Passes, breaks}
 use Rattle.region_typing_rules.specs.Scopes.{Scope}
 use Rattle.region_typing_rules.specs.Types.{is_scalar, without_stars, base_type}
-use Rattle.region_typing_rules.specs.Expressions.{Places, Typed, Value, AStruct, Called, Gives, GivesNothing, Lvalue, OfLocal, OfCell, OfBounded, ForNothing, ForArray, For, site_at, meets, sum_node, operator_along, typed, call_typed}
+use Rattle.region_typing_rules.specs.Expressions.{Places, Typed, Value, AStruct, Called, Gives, GivesNothing, Lvalue, OfLocal, OfCell, OfBounded, OfUnknown, ForNothing, ForArray, For, site_at, meets, sum_node, operator_along, typed, call_typed}
 use Rattle.region_typing_rules.specs.Cells.{is_length}
 use Rattle.region_typing_rules.specs.Statements.{Walked, store, update, assigned, set_to, declared_for, moved, updated_as, updated, stored, step_of, one, assignment, assigning, zero_value, with_local, initialised, bounded_local, declarator, declarators, declaration, at_alternative, before_step, in_loop, is_unchecked, condition, optional_condition, optional_step, first_part, alone, meets_declared, returned, returned_nothing, return, statement, statements, with_array, both, first_length}
-use Rattle.region_typing_rules.specs.DeclaredBounds.{declared_bounds}
+use Rattle.region_typing_rules.specs.DeclaredBounds.{unwritten_bounds, declared_bounds}
 use Rattle.region_typing_rules.specs.Knowing.{when, at_loop, assigned_by}
 use Rattle.region_typing_rules.proofs.Assigning.{assigning_promises, declared_promises, settled_promises}
 use Rattle.region_typing_rules.proofs.Verdicts.{Promises, passing_promises, needs_promises, anything_promised, promised_so, both_promise, apart_promises, met_promises}
@@ -53,6 +53,7 @@ store_low n (OfCell (core.Direct object offset)) type value h low = omega arith
 store_low n (OfCell (core.Through pointer core.First offset site)) type value h low = omega arith
 store_low n (OfCell (core.Through pointer (core.Element number terminated) offset site)) type value h low = omega arith
 store_low n (OfBounded k b) type value h low = omega arith
+store_low n (OfUnknown k) type value h low = omega arith
 
 element_low : (b : Option PointerBounds) (index : core.Index) (value n : ℕ) → index_stack index ≤ n → value ≤ n → element_stack b index value ≤ n + 3
 element_low b core.First value n h low = omega arith
@@ -68,17 +69,19 @@ update_low n (OfCell (core.Through pointer index offset before)) type operator v
     let element = element_low (bounds_of pointer) index (expression_stack value) n (omega (arith, place)) low in
     omega (arith, element)
 update_low n (OfBounded k b) type operator value site h low = omega arith
+update_low n (OfUnknown k) type operator value site h low = omega arith
 
 set_low : (n : ℕ) (f : Knowledge) (target right : Typed) (span : Span) → 1 ≤ n → Low n target → Low n right → Promises (IsLowStatement (n + 3)) (set_to f target right span)
 set_low n f target right span least ht hr =
     assigned_low (IsLowStatement (n + 3)) n target span _ ht
-    (λ type place h. converted_low (IsLowStatement (n + 3)) n right type span _ least hr (λ v low. needs_promises (IsLowStatement (n + 3)) (meets_declared f (declared_for place) right type) E17 span _ (λ met. store_low n place type v h low)))
+    (λ type place h. converted_low (IsLowStatement (n + 3)) n right type span _ least hr (λ v low. needs_promises (IsLowStatement (n + 3)) (meets_declared f (declared_for place type) right type) E17 span _ (λ met. store_low n place type v h low)))
 
 -- a sum checks itself with six words
 moved_low : (n : ℕ) (f : Knowledge) (place : Lvalue) (type : CType) (sum : core.Expression) (span : Span) → expression_stack sum ≤ n + 1 → Promises (IsLowStatement (n + 3)) (moved f place type sum span)
 moved_low n f (OfLocal k) type sum span h = omega arith
-moved_low n f (OfCell p) type sum span h = tt
+moved_low n f (OfCell p) type sum span h = needs_promises (IsLowStatement (n + 3)) (meets f sum (unwritten_bounds type)) E17 span (breaks E18 span) (λ met. tt)
 moved_low n f (OfBounded k b) type sum span h = needs_promises (IsLowStatement (n + 3)) (meets f sum (Some b)) E17 span _ (λ met. omega arith)
+moved_low n f (OfUnknown k) type sum span h = tt
 
 updated_as_low : (n : ℕ) (g : Scope) (direction : Direction) (type : CType) (place : Lvalue) (target right : Typed) (site : Site) (span : Span) → 5 ≤ n → LowPlace n (For place) → Low n target → Low n right
     → Promises (IsLowStatement (n + 3)) (updated_as g direction type place target right site span)
@@ -173,9 +176,9 @@ module _ (at : Places) where
       declarator_promises (BecomesLow n) (λ (t : CType). Unit {0}) at s base type span d (λ low. anything_promised (without_stars base d.stars type))
       (λ low t _. passing_promises (λ (b : Option Bounds). Unit {0}) (BecomesLow n) (declared_bounds (with_local d.name.number t None s) t (length s.locals) d.bounds) _
       (anything_promised (declared_bounds (with_local d.name.number t None s) t (length s.locals) d.bounds)) (λ b _. bounded_local_low s few d t span b n h))
-      (λ low t _ count here counted bytes.
-      let inner = with_array d.name.number t count s in
-      let set = core.SetLocal (length s.locals) (memory_of inner t count (site_at at span)) in
+      (λ low t _ count here counted ended may.
+      let inner = with_array d.name.number t count ended s in
+      let set = core.SetLocal (length s.locals) (memory_of inner ended t count (site_at at span)) in
       settled_promises (BecomesLow n) (both (core.SetLocal (length s.locals) core.Null) set) inner (assigned_by inner.locals set inner.flow) span (λ k. omega arith))
 
   declarators_low : (s : Scope) → HaveFew s → (base : TypeTree) (type : CType) (span : Span) (ds : List Declarator) (n : ℕ) → IsNamedIn s type → 17 * (declarators_reach ds).height + 1 ≤ n → Promises (BecomesLow n) (declarators at s base type span ds)

@@ -1,8 +1,8 @@
 -- The statements of a core have few nodes, by how many the tree has that they come from.
-use Rattle.std.proofs.Common.{◌≡◌, ℕ, ◌+◌, ◌*◌, ◌<◌, ◌≤◌, true, List, [], ◌∷◌, length, Option, Some, None, refl, arith}
+use Rattle.std.proofs.Common.{◌≡◌, ℕ, ◌+◌, ◌*◌, ◌<◌, ◌≤◌, Bool, true, List, [], ◌∷◌, length, Option, Some, None, refl, arith}
 use Rattle.std.specs.Prelude.{nat_lt, not, ◌||◌, option_map}
 use Rattle.ckc_text.specs.declared.place.Span.{Span}
-use Rattle.ckc_text.specs.declared.code.Code.TheVariants.{E08, E13, E15, E17, E30}
+use Rattle.ckc_text.specs.declared.code.Code.TheVariants.{E08, E13, E15, E17, E18, E30}
 use Rattle.ckc_tree.specs.declared.stmt.StoreOperator.{StoreOperator}
 use Rattle.ckc_tree.specs.declared.stmt.StoreOperator.TheVariants as stores
 use Rattle.ckc_tree.specs.Types.{TypeTree}
@@ -19,13 +19,13 @@ use Rattle.ckc_core.specs.declared.program.Direction.{Direction}
 use Rattle.ckc_core.specs.declared.program.Direction.TheVariants as directions
 use Rattle.ckc_core.specs.Core as core
 use Rattle.ckc_core.specs.Weights.{expression_weight, statement_weight, statements_weight}
-use Rattle.region_typing_rules.specs.Verdicts.{Verdict, Passes}
+use Rattle.region_typing_rules.specs.Verdicts.{Verdict, Passes, breaks}
 use Rattle.region_typing_rules.specs.Scopes.{Scope}
 use Rattle.region_typing_rules.specs.Types.{is_scalar, without_stars, base_type}
-use Rattle.region_typing_rules.specs.Expressions.{Places, Typed, Value, AStruct, Called, Gives, GivesNothing, Lvalue, OfLocal, OfCell, OfBounded, ForNothing, ForArray, For, site_at, meets, sum_node, operator_along, typed, call_typed}
+use Rattle.region_typing_rules.specs.Expressions.{Places, Typed, Value, AStruct, Called, Gives, GivesNothing, Lvalue, OfLocal, OfCell, OfBounded, OfUnknown, ForNothing, ForArray, For, site_at, meets, sum_node, operator_along, typed, call_typed}
 use Rattle.region_typing_rules.specs.Cells.{is_length}
 use Rattle.region_typing_rules.specs.Statements.{Walked, store, update, assigned, set_to, declared_for, moved, updated_as, updated, stored, step_of, one, assignment, zero_value, with_local, initialised, bounded_local, declarator, declarators, declaration, at_alternative, before_step, in_loop, is_unchecked, condition, optional_condition, optional_step, first_part, alone, meets_declared, returned, returned_nothing, return, statement, statements, with_array, both, length_of, first_length}
-use Rattle.region_typing_rules.specs.DeclaredBounds.{declared_bounds}
+use Rattle.region_typing_rules.specs.DeclaredBounds.{unwritten_bounds, declared_bounds}
 use Rattle.region_typing_rules.specs.Knowing.{when, at_loop, assigned_by}
 use Rattle.region_typing_rules.proofs.Assigning.{assigning_promises, declared_promises, settled_promises}
 use Rattle.region_typing_rules.proofs.Verdicts.{Promises, passing_promises, needs_promises, anything_promised, promised_so, apart_promises, met_promises}
@@ -51,23 +51,26 @@ store_light : (n m : ℕ) (place : Lvalue) (type : CType) (value : core.Expressi
 store_light n m (OfLocal k) type value h light = omega arith
 store_light n m (OfCell p) type value h light = omega arith
 store_light n m (OfBounded k b) type value h light = omega arith
+store_light n m (OfUnknown k) type value h light = omega arith
 
 update_light : (n m : ℕ) (place : Lvalue) (type : CType) (operator : Operator) (value : core.Expression) (site : Site) → LightPlace n (For place) → IsLight m value → IsLightStatement (n + m + 1) (update place type operator value site)
 update_light n m (OfLocal k) type operator value site h light = omega arith
 update_light n m (OfCell (core.Direct object offset)) type operator value site h light = omega arith
 update_light n m (OfCell (core.Through pointer index offset before)) type operator value site h light = omega arith
 update_light n m (OfBounded k b) type operator value site h light = omega arith
+update_light n m (OfUnknown k) type operator value site h light = omega arith
 
 set_light : (n m : ℕ) (f : Knowledge) (target right : Typed) (span : Span) → 2 ≤ m → Light n target → Light m right → Promises (IsLightStatement (n + m + 1)) (set_to f target right span)
 set_light n m f target right span two ht hr =
     assigned_light (IsLightStatement (n + m + 1)) n target span _ ht
-    (λ type place h. converted_light (IsLightStatement (n + m + 1)) m right type span _ two hr (λ v light. needs_promises (IsLightStatement (n + m + 1)) (meets_declared f (declared_for place) right type) E17 span _ (λ met. store_light n m place type v h light)))
+    (λ type place h. converted_light (IsLightStatement (n + m + 1)) m right type span _ two hr (λ v light. needs_promises (IsLightStatement (n + m + 1)) (meets_declared f (declared_for place type) right type) E17 span _ (λ met. store_light n m place type v h light)))
 
 -- a sum of a pointer has fewer nodes than an update would have that is as heavy
 moved_light : (n m : ℕ) (f : Knowledge) (place : Lvalue) (type : CType) (sum : core.Expression) (span : Span) → expression_weight sum < n + m → Promises (IsLightStatement (n + m + 1)) (moved f place type sum span)
 moved_light n m f (OfLocal k) type sum span h = omega arith
-moved_light n m f (OfCell p) type sum span h = tt
+moved_light n m f (OfCell p) type sum span h = needs_promises (IsLightStatement (n + m + 1)) (meets f sum (unwritten_bounds type)) E17 span (breaks E18 span) (λ met. tt)
 moved_light n m f (OfBounded k b) type sum span h = needs_promises (IsLightStatement (n + m + 1)) (meets f sum (Some b)) E17 span _ (λ met. omega arith)
+moved_light n m f (OfUnknown k) type sum span h = tt
 
 updated_as_light : (n m : ℕ) (g : Scope) (direction : Direction) (type : CType) (place : Lvalue) (target right : Typed) (site : Site) (span : Span) → LightPlace n (For place) → Light n target → Light m right
     → Promises (IsLightStatement (n + m + 1)) (updated_as g direction type place target right site span)
@@ -162,12 +165,12 @@ module _ (at : Places) where
       (λ scalar. declared_promises (IsSpare d) inner d.initializer t (length s.locals) span initial (λ k. omega (arith, zero_light t))))
 
   -- what makes it an array is a node too
-  array_light : (s : Scope) (d : Declarator) (t : CType) (count : ℕ) (span : Span) → length_of d ≡ Some count
-      → Promises (IsSpare d) (settled_array (with_array d.name.number t count s) (length s.locals) (memory_of (with_array d.name.number t count s) t count (site_at at span)) span)
-  array_light s d t count span here =
+  array_light : (s : Scope) (d : Declarator) (t : CType) (count : ℕ) (ended : Bool) (span : Span) → length_of d ≡ Some count
+      → Promises (IsSpare d) (settled_array (with_array d.name.number t count ended s) (length s.locals) (memory_of (with_array d.name.number t count ended s) ended t count (site_at at span)) span)
+  array_light s d t count ended span here =
       let one = array_one d.array count here in
-      let inner = with_array d.name.number t count s in
-      let set = core.SetLocal (length s.locals) (memory_of inner t count (site_at at span)) in
+      let inner = with_array d.name.number t count ended s in
+      let set = core.SetLocal (length s.locals) (memory_of inner ended t count (site_at at span)) in
       settled_promises (IsSpare d) (both (core.SetLocal (length s.locals) core.Null) set) inner (assigned_by inner.locals set inner.flow) span (λ k. omega arith)
 
   declarator_light : (s : Scope) (base : TypeTree) (type : CType) (span : Span) (d : Declarator) → Promises (IsSpare d) (declarator at s base type span d)
@@ -175,7 +178,7 @@ module _ (at : Places) where
       declarator_promises (IsSpare d) (λ (t : CType). Unit {0}) at s base type span d (λ low. anything_promised (without_stars base d.stars type))
       (λ low t _. passing_promises (λ (b : Option Bounds). Unit {0}) (IsSpare d) (declared_bounds (with_local d.name.number t None s) t (length s.locals) d.bounds) _
       (anything_promised (declared_bounds (with_local d.name.number t None s) t (length s.locals) d.bounds)) (λ b _. bounded_local_light s d t span b))
-      (λ low t _ count here counted bytes. array_light s d t count span here)
+      (λ low t _ count here counted ended may. array_light s d t count ended span here)
 
   declarators_light : (s : Scope) (base : TypeTree) (type : CType) (span : Span) (ds : List Declarator) → Promises (BecomesLight (5 * tree.declarators_weight ds + 1)) (declarators at s base type span ds)
   declarators_light s base type span [] = omega arith

@@ -10,6 +10,7 @@ use Rattle.ckc_tree.specs.Expressions.{Expression, expression_span}
 use Rattle.ckc_tree.specs.Statements as trees
 use Rattle.ckc_tree.specs.Statements.{Initializer, Declarator, Declaration, Assignment, ForInitial, Statement, Statements}
 use Rattle.pointer_modes.specs.declared.ctype.Mode.{Mode}
+use Rattle.pointer_modes.specs.declared.ctype.Kind.{Kind}
 use Rattle.pointer_modes.specs.declared.ctype.Kind.TheVariants as kinds
 use Rattle.pointer_modes.specs.Types.{CType, Int, Char, Struct, Pointer}
 use Rattle.ckc_core.specs.declared.program.Site.{Site}
@@ -19,20 +20,24 @@ use Rattle.ckc_core.specs.declared.program.Direction.TheVariants as directions
 use Rattle.ckc_core.specs.declared.program.PointerBounds.{PointerBounds}
 use Rattle.bounds_exprs.specs.declared.term.Bounds.{Bounds}
 use Rattle.bounds_flow.specs.Conditions.{IsFlow}
-use Rattle.bounds_flow.specs.Flows.{held_at}
 use Rattle.ckc_core.specs.Core as core
 use Rattle.ckc_core.specs.Meaning.{bounds_of}
-use Rattle.region_typing_rules.specs.Verdicts.{Verdict, Passes}
+use Rattle.region_typing_rules.specs.Verdicts.{Verdict, Passes, picked}
 use Rattle.bounds_flow_meaning.specs.Holding.{IsInt, AreInts}
 use Rattle.region_typing_rules.specs.Scopes.{Scope}
-use Rattle.region_typing_rules.specs.Types.{is_number}
-use Rattle.region_typing_rules.specs.Expressions.{Places, Typed, Value, AStruct, ForNothing, ForArray, For, Called, Gives, GivesNothing, Lvalue, OfLocal, OfCell, OfBounded, site_at, typed, two_numbers, is_single_value, lacks_bounds, operator_along, sum_node, converted, bounds_met, meets}
+use Rattle.region_typing_rules.specs.Types.{is_number, Counts}
+use Rattle.region_typing_rules.specs.Expressions.{Places, Typed, Value, AStruct, ForNothing, ForArray, For, Called, Gives, GivesNothing, Lvalue, OfLocal, OfCell, OfBounded, site_at, typed, two_numbers, is_single_value, lacks_bounds, operator_along, sum_node, converted, bounds_met, meets, OfUnknown}
+use Rattle.region_typing_rules.specs.DeclaredBounds.{row_of, unwritten_bounds}
 use Rattle.region_typing_rules.specs.Statements.{both, store, updated_place, update, assigned, set_to, declared_for, meets_declared, moved, updated_as, updated, stored, step_of, one, assignment, zero_value, initialised, in_loop, condition, optional_condition, alone}
 use Rattle.region_typing_rules.specs.Typed as rules
-use Rattle.region_typing_rules.specs.Typed.{Frame, HasType, HasPlace, IsReturned, IsSimple, IsStatement, AreStatements, IsScalar}
+use Rattle.region_typing_rules.specs.Typed.{Frame, HasType, HasPlace, IsReturned, IsSimple, IsStatement, AreStatements, IsScalar, HasAccess, IsAsked}
 use Rattle.region_typing_rules.proofs.Verdicts.{Promises, passing_promises, needs_promises, Extends}
+use Rattle.region_typing_rules.proofs.InForce.{AreSo}
 use Rattle.region_typing_rules.proofs.Knowledge.{KnowsFile, IsPointing, Knows}
-use Rattle.region_typing_rules.proofs.Expressions.{FitsPlace, Fits, FitsCall, without_ptr_promises, number_of_promises, two_numbers_promise, sum_fits, scalar_of_promises, met_promises, converted_promises, so_converted, result_type_met, result_asked, row_asked, HasNode, typed_promises}
+use Rattle.region_typing_rules.proofs.Nodes.{IsRow}
+use Rattle.region_typing_rules.proofs.Operands.{FitsPlace, Fits, FitsCall, without_ptr_promises, number_of_promises, two_numbers_promise, sum_fits, scalar_of_promises}
+use Rattle.region_typing_rules.proofs.Conversions.{met_promises, converted_promises, so_converted, result_type_met, result_asked, row_asked}
+use Rattle.region_typing_rules.proofs.Expressions.{typed_promises}
 use Rattle.region_typing_rules.proofs.Growth.{Grows}
 
 module _ (g : Frame) (types : List CType) (all_scalar : AllByRecursion IsScalar types) where
@@ -68,12 +73,18 @@ module _ (g : Frame) (types : List CType) (all_scalar : AllByRecursion IsScalar 
     assigned_promises Q (AStruct number place) span next h more = tt
 
     -- what is asked of a value that goes there is so
-    store_typed : (place : Lvalue) (type : CType) (value : core.Expression) → FitsPlace g types s type (For place) → IsScalar type → HasType g types s value type → IsReturned g.structs s value type (declared_for place) → IsHere (store place type value)
+    store_typed : (place : Lvalue) (type : CType) (value : core.Expression) → FitsPlace g types s type (For place) → IsScalar type → HasType g types s value type → IsReturned g.structs s value type (declared_for place type) → IsHere (store place type value)
     store_typed (OfLocal k) type value h scalar typed asked = rules.set_local h typed
-    store_typed (OfCell p) type value h scalar typed asked = rules.store scalar (rules.at_place h) typed
+    store_typed (OfCell p) type value h scalar typed asked = rules.store scalar h typed
+    store_typed (OfUnknown k) type value h scalar typed asked = rules.store scalar (rules.at_place h) typed
     store_typed (OfBounded k b) type value h scalar typed asked =
         subst (λ t. IsHere (core.Store t (core.Direct k 0) value)) (sym h.own)
-        (rules.store_bounded h.object (subst (HasType g types s value) h.own typed) (subst (λ t. IsReturned g.structs s value t (Some b)) h.own asked))
+        (rules.store_bounded h.counts h.object (subst (HasType g types s value) h.own typed) (asked_there h.mode h.kind h.element b value h.counts (subst (λ t. IsReturned g.structs s value t (Some b)) h.own asked)))
+      where
+        asked_there : (m : Mode) (kind : Kind) (t : CType) (b : Bounds) (value : core.Expression) → Counts kind → IsReturned g.structs s value (Pointer m kind t) (Some b) → IsAsked g.structs s value b
+        asked_there m kinds.One t b value counts asked = absurd counts
+        asked_there m kinds.Array t b value counts asked = asked
+        asked_there m kinds.Nt t b value counts asked = asked
 
     updated_typed : {p : core.Place} {t : CType} → HasPlace g types s p t → (site : Site) → HasPlace g types s (updated_place p site) t
     updated_typed (rules.direct found row) site = rules.direct found row
@@ -82,15 +93,33 @@ module _ (g : Frame) (types : List CType) (all_scalar : AllByRecursion IsScalar 
     updated_typed (rules.element h elements index) site = rules.element h elements index
     updated_typed (rules.element_member k h elements index found scalar) site = rules.element_member k h elements index found scalar
 
+    updated_access : {p : core.Place} {t : CType} → HasAccess g types s p t → (site : Site) → HasAccess g types s (updated_place p site) t
+    updated_access (rules.at_place h) site = rules.at_place (updated_typed h site)
+    updated_access (rules.ended h elements index) site = rules.ended h elements index
+
     update_typed : (place : Lvalue) (type : CType) (operator : Operator) (value : core.Expression) (site : Site) → FitsPlace g types s type (For place) → is_number type ≡ true → HasType g types s value Int → IsHere (update place type operator value site)
     update_typed (OfLocal k) type operator value site h number typed = rules.update_local h number refl typed
-    update_typed (OfCell p) type operator value site h number typed = rules.update number (rules.at_place (updated_typed h site)) typed
-    update_typed (OfBounded k b) type operator value site h number typed = absurd (let pointer : is_number (Pointer h.mode kinds.Array h.element) ≡ true = subst (λ t. is_number t ≡ true) h.own number in cc)
+    update_typed (OfCell p) type operator value site h number typed = rules.update number (updated_access h site) typed
+    update_typed (OfUnknown k) type operator value site h number typed = rules.update number (rules.at_place h) typed
+    update_typed (OfBounded k b) type operator value site h number typed = absurd (let pointer : is_number (Pointer h.mode h.kind h.element) ≡ true = subst (λ t. is_number t ≡ true) h.own number in cc)
 
     -- the bounds that are declared for where a value goes speak of no variable
-    declared_ints : (place : Lvalue) (type : CType) → FitsPlace g types s type (For place) → (b : Bounds) → declared_for place ≡ Some b → AreInts s.locals b
+    unwritten_ints : (type : CType) (b : Bounds) → unwritten_bounds type ≡ Some b → AreInts s.locals b
+    unwritten_ints Int b e = absurd (cc)
+    unwritten_ints Char b e = absurd (cc)
+    unwritten_ints (Struct n) b e = absurd (cc)
+    unwritten_ints (Pointer m kinds.One t) b e = absurd (cc)
+    unwritten_ints (Pointer m kinds.Array t) b e = absurd (cc)
+    unwritten_ints (Pointer m kinds.Nt t) b e = by (is_number t) e
+      where
+        by : (test : Bool) → picked test (Some (row_of 0)) None ≡ Some b → AreInts s.locals b
+        by true q = let same : row_of 0 ≡ b = cc in subst (AreInts s.locals) same (record { lo = tt; hi = tt })
+        by false q = absurd (cc)
+
+    declared_ints : (place : Lvalue) (type : CType) → FitsPlace g types s type (For place) → (b : Bounds) → declared_for place type ≡ Some b → AreInts s.locals b
     declared_ints (OfLocal k) type h b e = absurd (cc)
-    declared_ints (OfCell p) type h b e = absurd (cc)
+    declared_ints (OfCell p) type h b e = unwritten_ints type b e
+    declared_ints (OfUnknown k) type h b e = absurd (cc)
     declared_ints (OfBounded k d) type h b e =
         let same : d ≡ b = cc in
         let c = h.object.constant in
@@ -106,13 +135,19 @@ module _ (g : Frame) (types : List CType) (all_scalar : AllByRecursion IsScalar 
 
     module _ (knows : Knows g types s) where
       -- a pointer becomes a sum of it
-      moved_promises : (place : Lvalue) (m : Mode) (t : CType) (sum : core.Expression) (span : Span) → FitsPlace g types s (Pointer m kinds.Array t) (For place) → HasType g types s sum (Pointer m kinds.Array t) → HasNode g.structs s.flow.vars (Pointer m kinds.Array t) sum
-          → Promises IsHere (moved s.flow place (Pointer m kinds.Array t) sum span)
-      moved_promises (OfLocal k) m t sum span h typed node = rules.set_local h typed
-      moved_promises (OfCell p) m t sum span h typed node = tt
-      moved_promises (OfBounded k b) m t sum span h typed node =
+      moved_promises : (place : Lvalue) (m : Mode) (kind : Kind) (t : CType) (sum : core.Expression) (span : Span) → Counts kind → FitsPlace g types s (Pointer m kind t) (For place) → HasType g types s sum (Pointer m kind t) → IsRow g.structs s.flow.vars kind t sum
+          → Promises IsHere (moved s.flow place (Pointer m kind t) sum span)
+      moved_promises (OfLocal k) m kind t sum span counts h typed node = rules.set_local h typed
+      moved_promises (OfCell p) m kind t sum span counts h typed node = needs_promises IsHere (meets s.flow sum (unwritten_bounds (Pointer m kind t))) E17 span _ (λ met. tt)
+      moved_promises (OfUnknown k) m kind t sum span counts h typed node = tt
+      moved_promises (OfBounded k b) m kind t sum span counts h typed node =
           needs_promises IsHere (meets s.flow sum (Some b)) E17 span _
-          (λ met. store_typed (OfBounded k b) (Pointer m kinds.Array t) sum h refl typed (row_asked g types s knows m t sum b node (declared_ints (OfBounded k b) (Pointer m kinds.Array t) h b refl) met))
+          (λ met. store_typed (OfBounded k b) (Pointer m kind t) sum h refl typed (returned_there m kind t sum b counts (row_asked g types s knows kind t sum b node (declared_ints (OfBounded k b) (Pointer m kind t) h b refl) met)))
+        where
+          returned_there : (m : Mode) (kind : Kind) (t : CType) (value : core.Expression) (b : Bounds) → Counts kind → IsAsked g.structs s value b → IsReturned g.structs s value (Pointer m kind t) (Some b)
+          returned_there m kinds.One t value b counts asked = tt
+          returned_there m kinds.Array t value b counts asked = asked
+          returned_there m kinds.Nt t value b counts asked = asked
 
       updated_as_promises : (direction : Direction) (type : CType) (zero : Bool) (value : core.Expression) (place : Lvalue) (right : Typed) (site : Site) (span : Span) → Fits g types s (Value type zero value (For place)) → Fits g types s right
           → is_single_value (Value type zero value (For place)) ≡ false → lacks_bounds (Value type zero value (For place)) ≡ false → Promises IsHere (updated_as s direction type place (Value type zero value (For place)) right site span)
@@ -120,7 +155,15 @@ module _ (g : Frame) (types : List CType) (all_scalar : AllByRecursion IsScalar 
       updated_as_promises direction Char zero value place right site span ht hr single lacks = numbers_updated direction Char zero value place right site span refl ht hr
       updated_as_promises direction (Struct n) zero value place right site span ht hr single lacks = tt
       updated_as_promises direction (Pointer m kinds.One t) zero value place right site span ht hr single lacks = absurd (cc)
-      updated_as_promises direction (Pointer m kinds.Nt t) zero value place right site span ht hr single lacks = absurd (cc)
+      updated_as_promises direction (Pointer m kinds.Nt t) zero value place right site span ht hr single lacks =
+          number_of_promises g types s IsHere right span _ hr (λ w number. by w number (bounds_of value) refl)
+        where
+          by : (w : core.Expression) → HasType g types s w Int → (o : Option PointerBounds) → bounds_of value ≡ o → Promises IsHere (moved s.flow place (Pointer m kinds.Nt t) (core.Sum value direction w site (sum_node s.locals direction value w site)) span)
+          by w number None e = let none = rw e at lacks in absurd (cc)
+          by w number (Some p) e =
+              let sum = core.Sum value direction w site (sum_node s.locals direction value w site) in
+              let fits = sum_fits g types s m kinds.Nt t value w direction site p tt e ht.has_type ht.node number in
+              moved_promises place m kinds.Nt t sum span tt ht.stands fits.has_type fits.node
       updated_as_promises direction (Pointer m kinds.Array t) zero value place right site span ht hr single lacks =
           number_of_promises g types s IsHere right span _ hr (λ w number. by w number (bounds_of value) refl)
         where
@@ -128,8 +171,8 @@ module _ (g : Frame) (types : List CType) (all_scalar : AllByRecursion IsScalar 
           by w number None e = let none = rw e at lacks in absurd (cc)
           by w number (Some p) e =
               let sum = core.Sum value direction w site (sum_node s.locals direction value w site) in
-              let fits = sum_fits g types s m t value w direction site p e ht.has_type ht.node number in
-              moved_promises place m t sum span ht.stands fits.has_type fits.node
+              let fits = sum_fits g types s m kinds.Array t value w direction site p tt e ht.has_type ht.node number in
+              moved_promises place m kinds.Array t sum span tt ht.stands fits.has_type fits.node
 
       updated_promises : (at : Places) (direction : Direction) (target right : Typed) (span : Span) → Fits g types s target → Fits g types s right → Promises IsHere (updated at s direction target right span)
       updated_promises at direction (Value type zero value ForNothing) right span ht hr = tt
@@ -148,8 +191,8 @@ module _ (g : Frame) (types : List CType) (all_scalar : AllByRecursion IsScalar 
       set_promises target right span ht hr =
           assigned_promises IsHere target span _ ht
           (λ type place h scalar. so_converted g types s knows IsHere right type span _ hr
-          (λ v is typed. needs_promises IsHere (meets_declared s.flow (declared_for place) right type) E17 span _
-          (λ met. store_typed place type v h scalar (typed (result_type_met g types s knows (declared_for place) right type met)) (result_asked g types s knows (declared_for place) right type v (declared_ints place type h) hr is met))))
+          (λ v is typed. needs_promises IsHere (meets_declared s.flow (declared_for place type) right type) E17 span _
+          (λ met. store_typed place type v h scalar (typed (result_type_met g types s knows (declared_for place type) right type met)) (result_asked g types s knows (declared_for place type) right type v (declared_ints place type h) hr is met))))
 
       stored_promises : (at : Places) (operator : StoreOperator) (target right : Typed) (span : Span) → Fits g types s target → Fits g types s right → Promises IsHere (stored at s operator target right span)
       stored_promises at stores.Set target right span ht hr = set_promises target right span ht hr
@@ -193,7 +236,7 @@ module _ (g : Frame) (types : List CType) (all_scalar : AllByRecursion IsScalar 
   abbrev pub Reaches : Scope → Type 0
   Reaches s = Extends s.locals types
 
-  pub knows_from : (s : Scope) → KnowsFile g s → IsFlow s.flow → ((k : ℕ) (b : Bounds) → (held_at s.flow.held k).bounds ≡ Some b → IsPointing s k b) → length s.locals ≤ s.flow.vars → ((b : Bounds) → s.result_bounds ≡ Some b → AreInts s.locals b) → Reaches s → Knows g types s
+  pub knows_from : (s : Scope) → KnowsFile g s → IsFlow s.flow → AreSo (IsPointing s) s.flow → length s.locals ≤ s.flow.vars → ((b : Bounds) → s.result_bounds ≡ Some b → AreInts s.locals b) → Reaches s → Knows g types s
   knows_from s file flow pointers few result reaches = record { file = file; flow = flow; pointers = pointers; few = few; result = result; locals = reaches; scalar = all_scalar }
 
   -- where its locals are reached, what is behind it has a type

@@ -32,7 +32,7 @@ use Rattle.ckc_core.specs.Steps.{Result, given, value_if, checked, arithmetic_of
 use Rattle.ckc_core.specs.Meaning.{Knot, Setting, audit, sound_if, value}
 use Rattle.region_typing_rules.specs.Readings.{term}
 use Rattle.region_typing_rules.specs.KnownIsSo.{WhereGiven, HasLocals}
-use Rattle.region_typing_rules.proofs.Keeping.{IsAfter, after_here, CallsKeep, value_keeps}
+use Rattle.region_typing_rules.proofs.Keeping.{IsAfter, CallsKeep, value_after}
 
 -- ---- steps that give something
 
@@ -268,7 +268,7 @@ module _ (audited : Bool) (g : Setting) (k : Knot) (calls : CallsKeep k) (types 
   without_term e s none = so_always (HasTerm e) (value audited g k e s) (λ v t. subst (λ o. IsOfTerm ls o v) (sym none) (none_is ls v))
 
   kept_so : (e : core.Expression) (s : State) → s.locals ≡ ls → WhereGiven (λ (v : Value) t. t.locals ≡ ls) (value audited g k e s)
-  kept_so e s here = so_further (λ v t. IsAfter s t) (λ v t. t.locals ≡ ls) (value audited g k e s) (value_keeps audited g k calls s e s (after_here s)) (λ v t after. after.1 ∙ here)
+  kept_so e s here = so_further (λ v t. IsAfter s t) (λ v t. t.locals ≡ ls) (value audited g k e s) (value_after audited g k calls e s) (λ v t after. after.1 ∙ here)
 
   pub term_so : (e : core.Expression) (s : State) → s.locals ≡ ls → WhereGiven (HasTerm e) (value audited g k e s)
   term_so (core.Number number) s here = by (is_word_number number)

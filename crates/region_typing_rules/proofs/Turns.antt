@@ -21,21 +21,22 @@ use Rattle.region_typing_rules.specs.Scopes.{Scope}
 use Rattle.region_typing_rules.specs.Readings.{told}
 use Rattle.region_typing_rules.specs.Knowing.{assigned_in, numbers_marked, step_marked, marked, at_loop, when}
 use Rattle.region_typing_rules.specs.Statements.{behind_block, behind_loop, before_step, in_loop}
-use Rattle.region_typing_rules.specs.KnownIsSo.{WhereGiven, IsAlike, FitsAlike, IsKnown, IsOnWay, IsSo, HasLocals, IsBetween, declared_at, IsOutside, AreBetween, IsWalk}
+use Rattle.region_typing_rules.specs.KnownIsSo.{WhereGiven, IsAlike, FitsAlike, IsKnown, IsOnWay, IsSo, HasLocals, declared_at, IsOutside}
 use Rattle.region_typing_rules.proofs.Verdicts.{Extends, extends_length}
 use Rattle.region_typing_rules.proofs.Keeping.{IsAfter}
 use Rattle.region_typing_rules.proofs.Moving.{AssignsOnly, IsMovedTo, moved_on, moved_after, effect_moves, knots_move}
 use Rattle.region_typing_rules.proofs.Alike.{alike_here, fits_after}
+use Rattle.region_typing_rules.proofs.RightNodes.{right_typed}
 use Rattle.region_typing_rules.proofs.Told.{told_fits}
 use Rattle.region_typing_rules.proofs.Given.{declared_alike}
-use Rattle.region_typing_rules.proofs.Between.{outside_beside, outside_here, told_beside, between_told, between_same}
+use Rattle.region_typing_rules.proofs.Between.{IsBetween, AreBetween, between_more, outside_beside, outside_here, told_beside, between_told, between_same}
 use Rattle.region_typing_rules.specs.Typed.{Frame, HasType, IsScalar}
 use Rattle.region_typing_rules.proofs.Worlds.{Anything, tick_answers}
 use Rattle.region_typing_rules.proofs.Sure.{sure_both, sure_further}
 use Rattle.region_typing_rules.proofs.Goes.{EndsAs, Goes, IsKept, IsNext, OfType, Runs, asked_runs, lowered_runs, raised_runs, runs_both, runs_on, runs_then}
 use Rattle.region_typing_rules.proofs.Soundness.{typed_goes}
 use Rattle.region_typing_rules.proofs.Declaring.{IsAt, Knots, few_vars, has_of, running, ticking}
-use Rattle.region_typing_rules.proofs.Ways.{below_or_beyond, fits_further, way_further, on_first, on_others, walk_block, walk_head, walk_tracked, block_outside, known_block}
+use Rattle.region_typing_rules.proofs.Ways.{IsWalk, walk_declared, below_or_beyond, fits_further, way_further, on_first, on_others, walk_block, walk_head, walk_tracked, block_outside, known_block}
 
 -- ---- the locals before a loop, with those of a later state that a flow can't tell
 
@@ -183,7 +184,7 @@ module _ (structs : List Structure) (vars : ℕ) (g : Scope) (w : IsWalk vars g)
 
   -- where in the state of the turn each pointer is valid with its declared bounds
   pub head_known : (s u : State) → IsKnown structs g s → IsMovedTo may s u → HasLocals g.locals u → AreDeclared structs g.flow.held u → FitsAlike structs (length g.locals) (at_head changed g.flow) u
-  head_known s u h moved has declared v alike = head_at s u v h moved alike (declared_alike structs g.structs g.locals u v has alike g.flow.held w.declared declared)
+  head_known s u h moved has declared v alike = head_at s u v h moved alike (declared_alike structs g.structs g.locals u v has alike g.flow.held (walk_declared vars g w) declared)
 
   -- a flow in which the same bounds are declared says so
   pub declared_so : (f : Knowledge) (u : State) → ((p : ℕ) → p < length g.locals → declared_at f p ≡ declared_at g.flow p) → Fits structs f u → AreDeclared structs g.flow.held u
@@ -230,7 +231,7 @@ module _ (frame : Frame) (types : List CType) (all_scalar : AllByRecursion IsSca
       (λ v u. FitsAlike structs' (length g.locals) (told g.locals c (truth v) g.flow) u × IsAfter s u × IsKept frame budget n low types u) (value true here (K n) c s)
       (sure_both (λ v u. OfType frame t v u × IsAfter s u × IsKept frame budget n low types u) (λ v u. IsAfter s u × FitsAlike structs' (length g.locals) (told g.locals c (truth v) g.flow) u) (value true here (K n) c s)
       (typed_goes frame budget n sandbox trusted (K n) (knots n (omega arith)) low types g w.between.flow (walk_tracked vars g w) reaches typed s (at.known, at.kept))
-      (told_fits true here (K n) (knots_move true here n).calls structs' g.locals c g.flow w.between.flow (few_vars frame types all_scalar vars budget sandbox trusted g w) s (has_of frame types all_scalar vars budget sandbox trusted n low g s reaches at.kept) at.known))
+      (told_fits true here (K n) (knots_move true here n).calls structs' g.locals c g.flow w.between.flow (few_vars frame types all_scalar vars budget sandbox trusted g w) (right_typed frame types typed) s (has_of frame types all_scalar vars budget sandbox trusted n low g s reaches at.kept) at.kept.zeros at.known))
       (λ v u x. (x.1.1, x.0.1, x.0.2))
 
   module _ (g : Scope) (walk : IsWalk vars g) (body : Statement) (step : Option Assignment) (many : length (step_marked g.visible step (marked (length g.locals) g.visible body (replicate (length g.locals) false))) ≡ length g.locals)
@@ -271,8 +272,10 @@ module _ (frame : Frame) (types : List CType) (all_scalar : AllByRecursion IsSca
       head_walk : IsWalk vars head
       head_walk = walk_head vars body step g walk
 
-      out_between : IsBetween vars (told g.locals c false head.flow)
-      out_between = between_told g.locals vars c false head.flow walk.few head_walk.between
+      out_between : IsBetween last.structs last.locals vars (told g.locals c false head.flow)
+      out_between =
+          subst (λ known. IsBetween known last.locals vars (told g.locals c false head.flow)) structs_same
+          (between_more g.locals last.locals vars (told g.locals c false head.flow) all_more (between_told g.locals vars c false head.flow walk.few head_walk.between))
 
       -- outside of the loop the same bounds are declared on each way
       out_outside : IsOutside (length g.locals) g.flow (told g.locals c false head.flow)
@@ -280,14 +283,14 @@ module _ (frame : Frame) (types : List CType) (all_scalar : AllByRecursion IsSca
           outside_beside (length g.locals) g.flow head.flow (told g.locals c false head.flow) (told_beside g.locals vars c false head.flow walk.few head_walk.between)
           (outside_beside (length g.locals) g.flow g.flow head.flow ((flows_stay_alike.0 g.flow).enter_loop (assigned_in g body step)) (outside_here (length g.locals) g.flow walk.beyond))
 
-      ways_of : (a : Scope) (o : Option Knowledge) → a.outside ≡ length g.locals → ((p : ℕ) → p < length g.locals → declared_at a.flow p ≡ declared_at g.flow p) → AreBetween vars a.outside a.flow o → AreBetween vars (length g.locals) g.flow o
-      ways_of a o at same h = between_same vars (length g.locals) a.flow g.flow o (λ p low. sym (same p low)) (subst (λ n. AreBetween vars n a.flow o) at h)
+      ways_of : (a : Scope) (o : Option Knowledge) → a.outside ≡ length g.locals → ((p : ℕ) → p < length g.locals → declared_at a.flow p ≡ declared_at g.flow p) → AreBetween a.structs a.locals vars a.outside a.flow o → AreBetween a.structs a.locals vars (length g.locals) g.flow o
+      ways_of a o at same h = between_same a.structs a.locals vars (length g.locals) a.flow g.flow o (λ p low. sym (same p low)) (subst (λ n. AreBetween a.structs a.locals vars n a.flow o) at h)
 
       -- out of the loop, by its condition
       leaves : (t : State) → FitsAlike structs' (length g.locals) (told g.locals c false head.flow) t → Q Next t
       leaves t h = (
         tt,
-        on_first structs' vars (length last.locals) t (length g.locals) g.flow (told g.locals c false head.flow) last.breaks out_between out_outside (ways_of last last.breaks last_at last_same last_walk.breaks)
+        on_first structs' vars (length last.locals) t last.structs last.locals (length g.locals) g.flow (told g.locals c false head.flow) last.breaks out_between out_outside (ways_of last last.breaks last_at last_same last_walk.breaks)
             (fits_further structs' (length g.locals) (length last.locals) (told g.locals c false head.flow) t le_all h),
       )
 
@@ -295,12 +298,12 @@ module _ (frame : Frame) (types : List CType) (all_scalar : AllByRecursion IsSca
       breaks_out : (t : State) → IsOnWay structs' (length inside.locals) inside.breaks t → Q Next t
       breaks_out t h = (
         tt,
-        on_others structs' vars (length last.locals) t (length g.locals) g.flow (told g.locals c false head.flow) last.breaks out_between out_outside (ways_of last last.breaks last_at last_same last_walk.breaks)
+        on_others structs' vars (length last.locals) t last.structs last.locals (length g.locals) g.flow (told g.locals c false head.flow) last.breaks out_between out_outside (ways_of last last.breaks last_at last_same last_walk.breaks)
             (subst (λ o. IsOnWay structs' (length last.locals) o t) (sym last_breaks) (way_further structs' (length inside.locals) (length last.locals) inside.breaks t le_last h)),
       )
 
       -- behind the body the locals inside of it have left their scopes
-      block_between : IsBetween vars (behind_block g inside).flow
+      block_between : IsBetween inside.structs inside.locals vars (behind_block g inside).flow
       block_between = (walk_block vars g inside le_inside (let at = inside_at in omega (arith, at)) inside_walk).between
 
       block_out : IsOutside (length g.locals) g.flow (behind_block g inside).flow
@@ -311,12 +314,12 @@ module _ (frame : Frame) (types : List CType) (all_scalar : AllByRecursion IsSca
       -- on to the step, behind the body or by a `continue`
       steps_on : (t : State) → IsKnown structs' inside t → IsKnown structs' (before_step g inside) t
       steps_on t h =
-          on_first structs' vars (length inside.locals) t (length g.locals) g.flow (behind_block g inside).flow inside.continues block_between block_out (ways_of inside inside.continues inside_at inside_same inside_walk.continues)
+          on_first structs' vars (length inside.locals) t inside.structs inside.locals (length g.locals) g.flow (behind_block g inside).flow inside.continues block_between block_out (ways_of inside inside.continues inside_at inside_same inside_walk.continues)
           (known_block structs' vars g inside inside_walk le_inside t h)
 
       continues_on : (t : State) → IsOnWay structs' (length inside.locals) inside.continues t → IsKnown structs' (before_step g inside) t
       continues_on t h =
-          on_others structs' vars (length inside.locals) t (length g.locals) g.flow (behind_block g inside).flow inside.continues block_between block_out (ways_of inside inside.continues inside_at inside_same inside_walk.continues) h
+          on_others structs' vars (length inside.locals) t inside.structs inside.locals (length g.locals) g.flow (behind_block g inside).flow inside.continues block_between block_out (ways_of inside inside.continues inside_at inside_same inside_walk.continues) h
 
       -- further turns, from states that agree with this one on what the loop doesn't assign
       abbrev Turns : ℕ → State → Type 0
@@ -351,7 +354,7 @@ module _ (frame : Frame) (types : List CType) (all_scalar : AllByRecursion IsSca
           runs_on frame budget n low types t (λ v u. FitsAlike structs' (length g.locals) (told g.locals c (truth v) head.flow) u) Q (value true here (K n) c t) _
           (tested_goes n low knots head head_walk head_reaches c ct c_typed t (record { kept = kept; known = head_known structs' vars g walk marks many s t known moved (has_of frame types all_scalar vars budget sandbox trusted n low g t head_reaches kept) declared })) by
         where
-          true_flow : IsBetween vars (told g.locals c true head.flow)
+          true_flow : IsBetween g.structs g.locals vars (told g.locals c true head.flow)
           true_flow = between_told g.locals vars c true head.flow walk.few head_walk.between
 
           by : (v : Value) (u : State) → IsAfter t u → FitsAlike structs' (length g.locals) (told g.locals c (truth v) head.flow) u → IsKept frame budget n low types u

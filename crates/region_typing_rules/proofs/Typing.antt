@@ -25,7 +25,7 @@ use Rattle.ckc_core.specs.Core.{Core}
 use Rattle.region_typing_rules.specs.Verdicts.{Verdict, Passes, Stops, passing}
 use Rattle.region_typing_rules.specs.Scopes.{function_named, FileVariable}
 use Rattle.region_typing_rules.specs.Expressions.{Places, side_number}
-use Rattle.region_typing_rules.specs.Items.{Walk, walked, start}
+use Rattle.region_typing_rules.specs.Items.{Walk, walked, start, count_of}
 use Rattle.region_typing_rules.specs.Cores.{body_of, core_of}
 use Rattle.region_typing_rules.proofs.Sides.{trusted_functions, trusted_bounds, trusted_results, sides_of, sides_parted}
 use Rattle.region_typing_rules.specs.Typed.{IsTyped, EndsInZero}
@@ -34,7 +34,8 @@ use Rattle.region_typing_rules.specs.Lowerable.{IsRoomy, IsSmall, IsSmallCore}
 use Rattle.region_typing_rules.specs.NeverStuck.{HasCore}
 use Rattle.region_typing_rules.proofs.Verdicts.{Promises}
 use Rattle.region_typing_rules.proofs.Signatures.{bytes_equal, trusted_there, named_self}
-use Rattle.region_typing_rules.proofs.Walks.{IsWell, bounds_declared, body_suits, functions_safe, objects_typed, functions_small, imports_small, frame, AreSettled}
+use Rattle.region_typing_rules.proofs.Walks.{IsWell, bounds_declared, body_suits, functions_safe, objects_typed, functions_small, imports_small, frame, IsSettled, AreSettled}
+use Rattle.region_typing_rules.proofs.Copies.{ended_long}
 use Rattle.region_typing_rules.proofs.Items.{IsNamedMain, main_name, Passed, items_promise}
 use Rattle.pointer_modes.specs.Types.{Structure}
 
@@ -47,15 +48,20 @@ main_there t h = by (has_main t) (all_mentioned (tree_mentions t) at_file_level)
     by false (Ok s) e e' = let now = rw (e, e') at h in absurd (cc)
     by false (Err fault) e e' = let now = rw e' at h in absurd (cc)
 
--- a function that takes none of its locals has no parameters
--- no zero ends a variable
-objects_unended : (structs : List Structure) (variables : List FileVariable) (objects : List Variable) → AreSettled structs variables objects → AllByRecursion EndsInZero objects
-objects_unended structs [] [] settled = tt
-objects_unended structs [] (o ∷ objects) settled = absurd settled
-objects_unended structs (v ∷ variables) [] settled = tt
-objects_unended structs (v ∷ variables) (o ∷ objects) settled =
-    (λ ended. absurd (let no : true ≡ false = sym ended ∙ settled.0.unended in cc), objects_unended structs variables objects settled.1)
+-- a variable that a zero ends has few cells, and the last one begins as 0
+object_ended : (structs : List Structure) (v : FileVariable) (o : Variable) → IsSettled structs v o → EndsInZero o
+object_ended structs v o settled ended =
+    let has = settled.ended (sym settled.ends ∙ ended) in
+    let few = subst (λ n. count_of n ≤ 8192) has.array settled.few in
+    record { few = omega (arith, few, ended_long structs v.type has.count o.cells has.numbers); zero = has.numbers.last }
 
+objects_ended : (structs : List Structure) (variables : List FileVariable) (objects : List Variable) → AreSettled structs variables objects → AllByRecursion EndsInZero objects
+objects_ended structs [] [] settled = tt
+objects_ended structs [] (o ∷ objects) settled = absurd settled
+objects_ended structs (v ∷ variables) [] settled = tt
+objects_ended structs (v ∷ variables) (o ∷ objects) settled = (object_ended structs v o settled.0, objects_ended structs variables objects settled.1)
+
+-- a function that takes none of its locals has no parameters
 no_parameters : (f : core.Function) → f.parameters ≤ length f.locals → take f.parameters f.locals ≡ [] → f.parameters ≡ 0
 no_parameters f few none = omega (arith, length-take-le f.parameters f.locals few, ap length none)
 
@@ -77,7 +83,7 @@ safe_walk height entry a w h =
         result_bounds = trusted_results w.scope.functions;
         object_bounds = bounds_declared w.scope.variables;
         objects = objects_typed height entry w well h.follows.settled w.objects well.start;
-        zeros = objects_unended w.scope.structs w.scope.variables w.objects h.follows.settled;
+        zeros = objects_ended w.scope.structs w.scope.variables w.objects h.follows.settled;
         functions = functions_typed (frame height entry w well h.follows.settled) (trusted_functions w.bodies w.scope.functions) (trusted_bounds w.scope.functions) (trusted_results w.scope.functions) functions;
         main = (body_of w.bodies m, found, no_parameters (body_of w.bodies m) it.safe.typed.parameters (suits.parameters ∙ main.none), suits.result ∙ main.int);
       };

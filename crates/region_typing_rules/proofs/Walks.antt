@@ -1,18 +1,19 @@
 -- What holds of a walk behind each item.
-use Rattle.std.proofs.Common.{◌≡◌, ℕ, zero, suc, ◌*◌, ◌<◌, ◌≤◌, Bool, true, false, List, [], ◌∷◌, ◌++◌, take, map, length, Option, Some, None, refl, sym, ap, ◌∙◌, subst, arith}
+use Rattle.std.proofs.Common.{◌≡◌, ℕ, zero, suc, ◌-◌, ◌*◌, ◌<◌, ◌≤◌, Bool, true, false, List, [], ◌∷◌, ◌++◌, take, map, length, replicate, Option, Some, None, refl, sym, ap, ◌∙◌, subst, arith}
 use Rattle.std.specs.Prelude.{◌==◌, slice_get, is_some}
 use Rattle.std.specs.List.{AllByRecursion}
+use Rattle.std.proofs.lemmas.Option.{same_Some}
 use Rattle.std.proofs.Math.Seq.{take-length}
 use Rattle.bounds_exprs.specs.declared.term.Bounds.{Bounds}
-use Rattle.pointer_modes.specs.declared.ctype.Kind.TheVariants as kinds
-use Rattle.pointer_modes.specs.Types.{Pointer, Member, Structure, members_of}
+use Rattle.pointer_modes.specs.Types.{CType, Int, Char, Struct, Pointer, Member, Structure, members_of}
 use Rattle.pointer_modes.specs.Layout.{size_of}
 use Rattle.ckc_core.specs.Programs.{Initial, Variable, Import, open_variable}
 use Rattle.ckc_core.specs.Core as core
 use Rattle.ckc_core.specs.States.{shape, object_block}
 use Rattle.ckc_core.specs.Stacks.{statements_stack}
 use Rattle.region_typing_rules.specs.Verdicts.{picked}
-use Rattle.region_typing_rules.specs.Scopes.{Scope, Signature, FileVariable, bounds_in, function_named}
+use Rattle.region_typing_rules.specs.Scopes.{Scope, Signature, WrittenBounds, FileVariable, bounds_in, function_named}
+use Rattle.region_typing_rules.specs.Types.{is_number}
 use Rattle.region_typing_rules.specs.Expressions.{is_import, side_number}
 use Rattle.region_typing_rules.specs.Items.{Defined, Walk, count_of}
 use Rattle.region_typing_rules.specs.Cores.{body_of}
@@ -24,11 +25,11 @@ use Rattle.region_typing_rules.proofs.Safe.{AreSafe, IsSafe}
 use Rattle.region_typing_rules.specs.Lowerable.{objects_size, IsRoomy, IsSmall}
 use Rattle.region_typing_rules.proofs.Verdicts.{Extends, extends_length}
 use Rattle.region_typing_rules.proofs.Known.{IsKnown, IsClosed, known_later, size_kept}
-use Rattle.region_typing_rules.proofs.Knowledge.{IsTrusted, IsTainted, IsSingle, IsVariable, KnowsFile}
+use Rattle.region_typing_rules.proofs.Knowledge.{IsTrusted, IsTainted, IsObject, IsEndedArray, IsArrayIf, IsSingle, IsVariable, KnowsFile}
 use Rattle.region_typing_rules.proofs.DeclaredBounds.{IsConstantFor}
 use Rattle.region_typing_rules.proofs.Values.{mapped_there}
 use Rattle.region_typing_rules.proofs.Layouts.{IsStart, earlier_members}
-use Rattle.region_typing_rules.proofs.Copies.{rows_kept}
+use Rattle.region_typing_rules.proofs.Copies.{rows_kept, AreEnded, ended_kept}
 use Rattle.region_typing_rules.proofs.Signatures.{named_self, named_has, numbers_equal, trusted_there, tainted_there, IsDeclared}
 
 -- ---- scopes that grow at file level
@@ -78,14 +79,21 @@ abbrev pub HaveFileBounds : List Structure → FileVariable → Option Bounds �
 HaveFileBounds structs v None = Unit {0}
 HaveFileBounds structs v (Some b) = HasFileBounds structs v b
 
+-- a variable of a type and a length that a zero ends is an array of numbers
+pub record HasEnd (structs : List Structure) (type : CType) (o : Option ℕ) (cells : List Initial) : Type 0 where
+  pub count : ℕ
+  pub array : o ≡ Some count
+  pub numbers : AreEnded structs type count cells
+
 -- the cells of a variable are those of as many values of its type as it has; no place leads to it where bounds are declared for it
 pub record IsSettled (structs : List Structure) (v : FileVariable) (object : Variable) : Type 0 where
   pub some : 0 < count_of v.length
   pub few : count_of v.length ≤ 8192
   pub rows : AreRows structs (shape (object_block (open_variable object.cells))) v.type (count_of v.length)
-  pub sealed : object.is_sealed ≡ is_some v.bounds
-  pub unended : object.zero_ended ≡ false
-  pub bounds : HaveFileBounds structs v v.bounds
+  pub sealed : object.is_sealed ≡ is_some (bounds_in v.bounds)
+  pub ends : object.zero_ended ≡ v.ended
+  pub ended : v.ended ≡ true → HasEnd structs v.type v.length object.cells
+  pub bounds : HaveFileBounds structs v (bounds_in v.bounds)
 
 -- and so are those of each variable
 abbrev pub AreSettled : List Structure → List FileVariable → List Variable → Type 0
@@ -126,19 +134,22 @@ file_bounds_later : (a b : List Structure) (v : FileVariable) (o : Option Bounds
 file_bounds_later a b v None ext h = tt
 file_bounds_later a b v (Some bounds) ext h =
     let f = h.formed in
-    let element : IsKnown a f.element = subst (IsKnown a) f.own h.known in
+    let element : IsKnown a f.element = (subst (IsKnown a) f.own h.known).1 in
     record {
       single = h.single;
       known = known_later a b v.type (extends_length a b ext) h.known;
-      formed = record { mode = f.mode; element = f.element; own = f.own; some = subst (λ n. 0 < n) (size_kept a b f.element ext element) f.some; limited = f.limited; constant = f.constant };
+      formed = record { mode = f.mode; kind = f.kind; counts = f.counts; element = f.element; own = f.own; some = subst (λ n. 0 < n) (size_kept a b f.element ext element) f.some; limited = f.limited; constant = f.constant };
     }
+
+end_later : (a b : List Structure) (t : CType) (o : Option ℕ) (cells : List Initial) → HasEnd a t o cells → HasEnd b t o cells
+end_later a b t o cells h = record { count = h.count; array = h.array; numbers = ended_kept a b t h.count cells h.numbers }
 
 pub settled_later : (a b : List Structure) (variables : List FileVariable) (objects : List Variable) → Extends a b → AreSettled a variables objects → AreSettled b variables objects
 settled_later a b [] [] ext h = tt
 settled_later a b [] (o ∷ objects) ext h = absurd h
 settled_later a b (v ∷ variables) [] ext h = absurd h
 settled_later a b (v ∷ variables) (o ∷ objects) ext h = (
-  record { some = h.0.some; few = h.0.few; rows = rows_kept a b (shape (object_block (open_variable o.cells))) v.type (count_of v.length) ext h.0.rows; sealed = h.0.sealed; unended = h.0.unended; bounds = file_bounds_later a b v v.bounds ext h.0.bounds },
+  record { some = h.0.some; few = h.0.few; rows = rows_kept a b (shape (object_block (open_variable o.cells))) v.type (count_of v.length) ext h.0.rows; sealed = h.0.sealed; ends = h.0.ends; ended = λ yes. end_later a b v.type v.length o.cells (h.0.ended yes); bounds = file_bounds_later a b v (bounds_in v.bounds) ext h.0.bounds },
   settled_later a b variables objects ext h.1,
 )
 
@@ -169,33 +180,47 @@ open_is object unended h =
 
 -- the object of a variable is there
 module _ (g : Frame) (number : ℕ) (v : FileVariable) (object : Variable) (found : slice_get g.program.objects number ≡ Some object) (settled : IsSettled g.structs v object)
-    (told : slice_get g.object_bounds number ≡ Some v.bounds) where
+    (told : slice_get g.object_bounds number ≡ Some (bounds_in v.bounds)) where
   first_row : (length : Option ℕ) → v.length ≡ length → length ≡ None → HasRow g.structs (shape (object_block (open_variable object.cells))) 0 v.type
   first_row length same none =
       let first : 0 * size_of g.structs v.type ≡ 0 = omega arith in
       subst (λ byte. HasRow g.structs (shape (object_block (open_variable object.cells))) byte v.type) first (settled.rows 0 settled.some)
 
-  opened : v.bounds ≡ None → open_variable object.cells ≡ object
-  opened none = open_is object settled.unended (settled.sealed ∙ ap is_some none)
+  opened : v.ended ≡ false → bounds_in v.bounds ≡ None → open_variable object.cells ≡ object
+  opened unended none = open_is object (settled.ends ∙ unended) (settled.sealed ∙ ap is_some none)
 
-  single_there : (o : Option Bounds) → v.bounds ≡ o → v.length ≡ None → IsSingle g v.type o number
-  single_there None none single =
-      record { variable = object; found = found; row = subst (λ x. HasRow g.structs (shape (object_block x)) 0 v.type) (opened none) (first_row v.length refl single) }
-  single_there (Some b) is single =
-      let bounds : HasFileBounds g.structs v b = subst (HaveFileBounds g.structs v) is settled.bounds in
+  -- a zero ends only arrays
+  single_unended : v.length ≡ None → v.ended ≡ false
+  single_unended single = by v.ended refl
+    where
+      by : (ended : Bool) → v.ended ≡ ended → ended ≡ false
+      by false e = refl
+      by true e = absurd (let ended = settled.ended e in let none : Some ended.count ≡ None = sym ended.array ∙ single in cc)
+
+  object_there : bounds_in v.bounds ≡ None → v.length ≡ None → IsObject g v.type number
+  object_there none single =
+      record { variable = object; found = found; row = subst (λ x. HasRow g.structs (shape (object_block x)) 0 v.type) (opened (single_unended single) none) (first_row v.length refl single) }
+
+  single_there : (o : WrittenBounds) → v.bounds ≡ o → v.length ≡ None → IsSingle g v.type o number
+  single_there None none single = object_there (ap bounds_in none) single
+  single_there (Some None) unknown single = object_there (ap bounds_in unknown) single
+  single_there (Some (Some b)) is single =
+      let bounds : HasFileBounds g.structs v b = subst (HaveFileBounds g.structs v) (ap bounds_in is) settled.bounds in
       let f = bounds.formed in
-      let row : HasRow g.structs (shape (object_block (open_variable object.cells))) 0 (Pointer f.mode kinds.Array f.element) = subst (λ t. HasRow g.structs (shape (object_block (open_variable object.cells))) 0 t) f.own (first_row v.length refl single) in
+      let row : HasRow g.structs (shape (object_block (open_variable object.cells))) 0 (Pointer f.mode f.kind f.element) = subst (λ t. HasRow g.structs (shape (object_block (open_variable object.cells))) 0 t) f.own (first_row v.length refl single) in
       record {
         mode = f.mode;
+        kind = f.kind;
+        counts = f.counts;
         element = f.element;
         own = f.own;
         object = record {
           variable = object;
           found = found;
-          declared = told ∙ ap Some is;
-          sealed = settled.sealed ∙ ap is_some is;
-          unended = settled.unended;
-          pointer = row.stands.each 0 (record { type = Pointer f.mode kinds.Array f.element; offset = 0 }) refl;
+          declared = told ∙ ap (λ (o : WrittenBounds). Some (bounds_in o)) is;
+          sealed = settled.sealed ∙ ap (λ (o : WrittenBounds). is_some (bounds_in o)) is;
+          unended = settled.ends ∙ single_unended single;
+          pointer = row.stands.each 0 (record { type = Pointer f.mode f.kind f.element; offset = 0 }) refl;
           some = f.some;
           limited = f.limited;
           constant = f.constant;
@@ -203,27 +228,67 @@ module _ (g : Frame) (number : ℕ) (v : FileVariable) (object : Variable) (foun
       }
 
   -- bounds are declared for no array
-  array_open : (n : ℕ) (o : Option Bounds) → v.bounds ≡ o → v.length ≡ Some n → o ≡ None
+  array_open : (n : ℕ) (o : Option Bounds) → bounds_in v.bounds ≡ o → v.length ≡ Some n → o ≡ None
   array_open n None is array = refl
   array_open n (Some b) is array = absurd (let bounds : HasFileBounds g.structs v b = subst (HaveFileBounds g.structs v) is settled.bounds in let none : Some n ≡ None = sym array ∙ bounds.single in cc)
+
+  ended_there : (n : ℕ) → v.length ≡ Some n → v.ended ≡ true → IsEndedArray g v.type n number
+  ended_there n array ended = record {
+    variable = object;
+    found = found;
+    few = omega (arith, some, few);
+    row = record {
+      number = numbers.number;
+      ended = settled.ends ∙ ended;
+      unsealed = settled.sealed ∙ ap is_some (array_open n (bounds_in v.bounds) refl array);
+      types = subst (λ k. (shape (object_block object)).types ≡ replicate k v.type) whole numbers.types;
+      strides = subst (λ k. (shape (object_block object)).strides ≡ replicate k (size_of g.structs v.type)) whole numbers.strides;
+      some = number_sized v.type numbers.number;
+    };
+  }
+    where
+      some : 0 < n
+      some = subst (λ o. 0 < count_of o) array settled.some
+
+      few : n ≤ 8192
+      few = subst (λ o. count_of o ≤ 8192) array settled.few
+
+      whole : n ≡ suc (n - 1)
+      whole = omega (arith, some)
+
+      has : HasEnd g.structs v.type (Some n) object.cells
+      has = subst (λ o. HasEnd g.structs v.type o object.cells) array (settled.ended ended)
+
+      numbers : AreEnded g.structs v.type n object.cells
+      numbers = let same : has.count ≡ n = same_Some has.count n (sym has.array) in subst (λ k. AreEnded g.structs v.type k object.cells) same has.numbers
+
+      number_sized : (t : CType) → is_number t ≡ true → 1 ≤ size_of g.structs t
+      number_sized Int h = omega arith
+      number_sized Char h = omega arith
+      number_sized (Struct k) h = absurd (cc)
+      number_sized (Pointer m k t) h = absurd (cc)
+
+  array_there : (n : ℕ) (ended : Bool) → v.length ≡ Some n → v.ended ≡ ended → IsArrayIf g v.type n ended number
+  array_there n true array is = ended_there n array is
+  array_there n false array is = record {
+    variable = object;
+    found = found;
+    some = subst (λ o. 0 < count_of o) array settled.some;
+    few = subst (λ o. count_of o ≤ 8192) array settled.few;
+    rows = subst (λ x. AreRows g.structs (shape (object_block x)) v.type n) (opened is (array_open n (bounds_in v.bounds) refl array))
+        (subst (λ o. AreRows g.structs (shape (object_block (open_variable object.cells))) v.type (count_of o)) array settled.rows);
+  }
 
   variable_there : IsVariable g v v.length number
   variable_there = by v.length refl
     where
       by : (length : Option ℕ) → v.length ≡ length → IsVariable g v length number
       by None single = single_there v.bounds refl single
-      by (Some n) array =
-          record {
-            variable = object;
-            found = found;
-            some = subst (λ o. 0 < count_of o) array settled.some;
-            few = subst (λ o. count_of o ≤ 8192) array settled.few;
-            rows = subst (λ x. AreRows g.structs (shape (object_block x)) v.type n) (opened (array_open n v.bounds refl array)) (subst (λ o. AreRows g.structs (shape (object_block (open_variable object.cells))) v.type (count_of o)) array settled.rows);
-          }
+      by (Some n) array = array_there n v.ended array refl
 
 -- the bounds that are declared for variables, in their order
 abbrev pub bounds_declared : List FileVariable → List (Option Bounds)
-bounds_declared variables = map (λ (v : FileVariable). v.bounds) variables
+bounds_declared variables = map (λ (v : FileVariable). bounds_in v.bounds) variables
 
 -- the body that is found is one of the function
 pub record Suits (b : core.Function) (f : Signature) : Type 0 where
@@ -289,7 +354,7 @@ module _ (height entry : ℕ) (w : Walk) (well : IsWell height w) (settled : Are
     few_members = well.few;
     scalar_members = well.scalars;
     variables = λ k v e.
-        (let there = settled_there w.scope.structs w.scope.variables w.objects k v settled e in variable_there frame k v there.0 there.1 there.2 (mapped_there (λ (v : FileVariable). v.bounds) w.scope.variables k v e));
+        (let there = settled_there w.scope.structs w.scope.variables w.objects k v settled e in variable_there frame k v there.0 there.1 there.2 (mapped_there (λ (v : FileVariable). bounds_in v.bounds) w.scope.variables k v e));
     trusted = trusted_known;
     tainted = tainted_known;
   }

@@ -1,13 +1,11 @@
 -- Scopes of a walk stay such ones, and what is known at one is so at others.
 use Rattle.std.proofs.Common.{◌≡◌, ℕ, zero, suc, ◌+◌, ◌-◌, ◌<◌, ◌≤◌, Bool, true, false, List, [], ◌∷◌, ◌++◌, length, Option, Some, None, refl, sym, ◌∙◌, subst, arith, ◌⊎◌, inl, inr}
 use Rattle.std.specs.Prelude.{nat_lt}
-use Rattle.std.proofs.lemmas.Bool.{cases_eq}
 use Rattle.std.proofs.lemmas.Bool.Decides.{nat_tests}
 use Rattle.std.proofs.lemmas.List.{length-append}
 use Rattle.ckc_tree.specs.Statements.{Assignment, Statement}
 use Rattle.bounds_exprs.specs.declared.term.Bounds.{Bounds}
-use Rattle.pointer_modes.specs.declared.ctype.Kind.TheVariants as kinds
-use Rattle.pointer_modes.specs.Types.{CType, Int, Pointer, Structure}
+use Rattle.pointer_modes.specs.Types.{CType, Int, Structure}
 use Rattle.bounds_flow.specs.Flows.{Knowledge, left, cut_off, met}
 use Rattle.bounds_flow.specs.Conditions.{AreBoundsBelow}
 use Rattle.bounds_flow_meaning.specs.Holding.{AreInts, IsInt}
@@ -21,9 +19,9 @@ use Rattle.region_typing_rules.specs.Scopes.{Scope}
 use Rattle.region_typing_rules.specs.Readings.{told}
 use Rattle.region_typing_rules.specs.Knowing.{without_locals, knowing, when, cut, with_way, way_out, broken, continued, with_others, at_loop, assigned_in}
 use Rattle.region_typing_rules.specs.Statements.{with_local, behind_block, behind_loop, before_step, meeting, in_loop}
-use Rattle.region_typing_rules.specs.KnownIsSo.{AreLimitedIf, IsAlike, FitsAlike, IsKnown, IsOnWay, IsSo, IsBetween, declared_at, IsOutside, IsDeclared, AreBetween, IsWalk, HasLocals}
+use Rattle.region_typing_rules.specs.KnownIsSo.{IsAlike, FitsAlike, IsKnown, IsOnWay, IsSo, declared_at, IsOutside, IsDeclared, HasLocals}
 use Rattle.region_typing_rules.proofs.Verdicts.{Extends, extends_append, extends_length}
-use Rattle.region_typing_rules.proofs.Between.{outside_beside, outside_here, beside_of, told_beside, between_told, between_cut, between_head, between_met, met_beside, between_entered, between_without, entered_here, entered_other, entered_below, entered_beyond, entered_outside, without_outside, between_way, between_others, between_same}
+use Rattle.region_typing_rules.proofs.Between.{IsBetween, AreBetween, MayStand, between_more, ways_more, outside_beside, outside_here, beside_of, told_beside, between_told, between_cut, between_head, between_met, met_beside, between_entered, between_without, entered_below, entered_beyond, entered_outside, without_outside, between_way, between_others, between_same}
 
 -- ---- longer lists of locals
 
@@ -43,33 +41,33 @@ way_further structs n m (Some f) s le h = fits_further structs n m f s le h
 -- ---- ways that meet
 
 module _ (structs : List Structure) (vars n : ℕ) (s : State) where
-  pub fits_first : (f g : Knowledge) → IsBetween vars f → IsBetween vars g → AreBeside f g → FitsAlike structs n f s → FitsAlike structs n (met f g) s
+  pub fits_first : {known : List Structure} {types : List CType} (f g : Knowledge) → IsBetween known types vars f → IsBetween known types vars g → AreBeside f g → FitsAlike structs n f s → FitsAlike structs n (met f g) s
   fits_first f g a b beside h t alike = (flows_hold structs f a.flow).join_first g t b.flow beside (h t alike)
 
-  pub fits_second : (f g : Knowledge) → IsBetween vars f → IsBetween vars g → AreBeside f g → FitsAlike structs n g s → FitsAlike structs n (met f g) s
+  pub fits_second : {known : List Structure} {types : List CType} (f g : Knowledge) → IsBetween known types vars f → IsBetween known types vars g → AreBeside f g → FitsAlike structs n g s → FitsAlike structs n (met f g) s
   fits_second f g a b beside h t alike = (flows_hold structs f a.flow).join_second g t b.flow beside a.settled (h t alike)
 
-  pub fits_left : (local count : ℕ) (f : Knowledge) → IsBetween vars f → local + count ≤ vars → FitsAlike structs n f s → FitsAlike structs n (without_locals local count f) s
+  pub fits_left : {known : List Structure} {types : List CType} (local count : ℕ) (f : Knowledge) → IsBetween known types vars f → local + count ≤ vars → FitsAlike structs n f s → FitsAlike structs n (without_locals local count f) s
   fits_left local zero f a low h = h
   fits_left local (suc count) f a low h =
       fits_left (suc local) count (left local f) (between_without vars local 1 f a) (omega (arith, low)) (λ t alike. (flows_hold structs f a.flow).leave local t (let size = a.size in omega (arith, low, size)) (h t alike))
 
-  module _ (out : ℕ) (f : Knowledge) where
+  module _ (known : List Structure) (types : List CType) (out : ℕ) (f : Knowledge) where
     -- a way more
-    pub on_way_here : (h : Knowledge) (o : Option Knowledge) → IsBetween vars h → IsOutside out f h → AreBetween vars out f o → FitsAlike structs n h s → FitsAlike structs n (with_way h o) s
+    pub on_way_here : (h : Knowledge) (o : Option Knowledge) → IsBetween known types vars h → IsOutside out f h → AreBetween known types vars out f o → FitsAlike structs n h s → FitsAlike structs n (with_way h o) s
     on_way_here h None a at b k = k
     on_way_here h (Some before) a at b k = fits_second before h b.0 a (beside_of vars out f before h b.0 a b.1 at) k
 
-    pub on_way_before : (h : Knowledge) (o : Option Knowledge) → IsBetween vars h → IsOutside out f h → AreBetween vars out f o → IsOnWay structs n o s → IsOnWay structs n (Some (with_way h o)) s
+    pub on_way_before : (h : Knowledge) (o : Option Knowledge) → IsBetween known types vars h → IsOutside out f h → AreBetween known types vars out f o → IsOnWay structs n o s → IsOnWay structs n (Some (with_way h o)) s
     on_way_before h None a at b k = absurd k
     on_way_before h (Some before) a at b k = fits_first before h b.0 a (beside_of vars out f before h b.0 a b.1 at) k
 
     -- where others meet a way
-    pub on_first : (h : Knowledge) (o : Option Knowledge) → IsBetween vars h → IsOutside out f h → AreBetween vars out f o → FitsAlike structs n h s → FitsAlike structs n (with_others o h) s
+    pub on_first : (h : Knowledge) (o : Option Knowledge) → IsBetween known types vars h → IsOutside out f h → AreBetween known types vars out f o → FitsAlike structs n h s → FitsAlike structs n (with_others o h) s
     on_first h None a at b k = k
     on_first h (Some others) a at b k = fits_first h others a b.0 (beside_of vars out f h others a b.0 at b.1) k
 
-    pub on_others : (h : Knowledge) (o : Option Knowledge) → IsBetween vars h → IsOutside out f h → AreBetween vars out f o → IsOnWay structs n o s → FitsAlike structs n (with_others o h) s
+    pub on_others : (h : Knowledge) (o : Option Knowledge) → IsBetween known types vars h → IsOutside out f h → AreBetween known types vars out f o → IsOnWay structs n o s → FitsAlike structs n (with_others o h) s
     on_others h None a at b k = absurd k
     on_others h (Some others) a at b k = fits_second h others a b.0 (beside_of vars out f h others a b.0 at b.1) k
 
@@ -81,16 +79,6 @@ int_extends ts us more (Some x) h = more x Int h
 
 ints_extends : (ts us : List CType) (b : Bounds) → Extends ts us → AreInts ts b → AreInts us b
 ints_extends ts us b more ints = record { lo = int_extends ts us more b.lo.var ints.lo; hi = int_extends ts us more b.hi.var ints.hi }
-
-pub declared_extends : (structs : List Structure) (ts us : List CType) (p : ℕ) (b : Bounds) → Extends ts us → IsDeclared structs ts p b → IsDeclared structs us p b
-declared_extends structs ts us p b more d = record {
-  some = d.some;
-  mode = d.mode;
-  element = d.element;
-  own = more p (Pointer d.mode kinds.Array d.element) d.own;
-  ints = record { lo = int_extends ts us more b.lo.var d.ints.lo; hi = int_extends ts us more b.hi.var d.ints.hi };
-  base = λ q e. let it = d.base q e in (it.0, more q (Pointer d.mode it.0 d.element) it.1);
-}
 
 same_declared : (a b : Option Bounds) (P : Bounds → Type 0) → a ≡ b → ((d : Bounds) → b ≡ Some d → P d) → (d : Bounds) → a ≡ Some d → P d
 same_declared a b P e h d q = h d (sym e ∙ q)
@@ -107,17 +95,30 @@ below_or_beyond p n = decided (nat_lt p n) refl
 
 -- ---- scopes
 
+-- what a walk inside a function knows, whose flows have so many variables: a flow with a variable for each local, and others beside
+-- it at the ways out of the innermost loop and to its next turn. The bounds of the function's result speak of `int` locals
+pub record IsWalk (vars : ℕ) (g : Scope) : Type 0 where
+  pub between : IsBetween g.structs g.locals vars g.flow
+  pub few : length g.locals ≤ vars
+  pub beyond : (p : ℕ) → length g.locals ≤ p → declared_at g.flow p ≡ None
+  pub result : (b : Bounds) → g.result_bounds ≡ Some b → AreInts g.locals b
+  pub outside : g.outside ≤ length g.locals
+  pub breaks : AreBetween g.structs g.locals vars g.outside g.flow g.breaks
+  pub continues : AreBetween g.structs g.locals vars g.outside g.flow g.continues
+
+pub walk_declared : (vars : ℕ) (g : Scope) → IsWalk vars g → (p : ℕ) (b : Bounds) → declared_at g.flow p ≡ Some b → IsDeclared g.structs g.locals p b
+walk_declared vars g w p b e = ((w.between.bounds p).declared b e).0
+
 -- another flow in which the same bounds are declared
-pub walk_knowing : (vars : ℕ) (f : Knowledge) (g : Scope) → IsBetween vars f → AreBeside g.flow f → IsWalk vars g → IsWalk vars (knowing f g)
+pub walk_knowing : (vars : ℕ) (f : Knowledge) (g : Scope) → IsBetween g.structs g.locals vars f → AreBeside g.flow f → IsWalk vars g → IsWalk vars (knowing f g)
 walk_knowing vars f g a beside w = record {
   between = a;
   few = w.few;
   beyond = λ p far. beside.declared p ∙ w.beyond p far;
-  declared = λ p b e. w.declared p b (sym (beside.declared p) ∙ e);
   result = w.result;
   outside = w.outside;
-  breaks = between_same vars g.outside g.flow f g.breaks (λ p low. beside.declared p) w.breaks;
-  continues = between_same vars g.outside g.flow f g.continues (λ p low. beside.declared p) w.continues;
+  breaks = between_same g.structs g.locals vars g.outside g.flow f g.breaks (λ p low. beside.declared p) w.breaks;
+  continues = between_same g.structs g.locals vars g.outside g.flow f g.continues (λ p low. beside.declared p) w.continues;
 }
 
 -- a flow between statements speaks of each local
@@ -131,7 +132,7 @@ pub walk_cut : (vars : ℕ) (g : Scope) → IsWalk vars g → IsWalk vars (cut g
 walk_cut vars g w = walk_knowing vars (cut_off g.flow) g (between_cut vars g.flow w.between) (flows_stay_alike.0 g.flow).cut w
 
 -- the way out of a loop, on which the locals inside of it have left their scopes
-pub way_out_between : (vars : ℕ) (g : Scope) → IsWalk vars g → IsBetween vars (way_out g)
+pub way_out_between : (vars : ℕ) (g : Scope) → IsWalk vars g → IsBetween g.structs g.locals vars (way_out g)
 way_out_between vars g w = between_without vars g.outside (length g.locals - g.outside) g.flow w.between
 
 pub way_out_outside : (vars : ℕ) (g : Scope) → IsWalk vars g → IsOutside g.outside g.flow (way_out g)
@@ -144,11 +145,10 @@ walk_broken vars g w =
       between = c.between;
       few = c.few;
       beyond = c.beyond;
-      declared = c.declared;
       result = c.result;
       outside = c.outside;
-      breaks = between_same vars g.outside g.flow (cut_off g.flow) (Some (with_way (way_out g) g.breaks)) (λ p low. refl)
-          (between_way vars g.outside g.flow (way_out g) g.breaks (way_out_between vars g w) (way_out_outside vars g w) w.breaks);
+      breaks = between_same g.structs g.locals vars g.outside g.flow (cut_off g.flow) (Some (with_way (way_out g) g.breaks)) (λ p low. refl)
+          (between_way g.structs g.locals vars g.outside g.flow (way_out g) g.breaks (way_out_between vars g w) (way_out_outside vars g w) w.breaks);
       continues = c.continues;
     }
 
@@ -159,12 +159,11 @@ walk_continued vars g w =
       between = c.between;
       few = c.few;
       beyond = c.beyond;
-      declared = c.declared;
       result = c.result;
       outside = c.outside;
       breaks = c.breaks;
-      continues = between_same vars g.outside g.flow (cut_off g.flow) (Some (with_way (way_out g) g.continues)) (λ p low. refl)
-          (between_way vars g.outside g.flow (way_out g) g.continues (way_out_between vars g w) (way_out_outside vars g w) w.continues);
+      continues = between_same g.structs g.locals vars g.outside g.flow (cut_off g.flow) (Some (with_way (way_out g) g.continues)) (λ p low. refl)
+          (between_way g.structs g.locals vars g.outside g.flow (way_out g) g.continues (way_out_between vars g w) (way_out_outside vars g w) w.continues);
     }
 
 -- what is declared in the one scope for its locals is so in the other, which stands in the same loop
@@ -194,14 +193,10 @@ walk_block vars g inside le at w =
       between = between_without vars (length g.locals) (length inside.locals - length g.locals) inside.flow w.between;
       few = w.few;
       beyond = λ p far. out.beyond p (omega (arith, far, le));
-      declared = λ p b e. elim (below_or_beyond p (length g.locals)) [
-        | inl low ↦ w.declared p b (sym (out.within p low) ∙ e)
-        | inr far ↦ none_declared (declared_at (behind_block g inside).flow p) (IsDeclared inside.structs inside.locals p b) b (out.beyond p far) e
-      ];
       result = w.result;
       outside = w.outside;
-      breaks = between_same vars inside.outside inside.flow (behind_block g inside).flow inside.breaks (λ p low. out.within p (omega (arith, low, at))) w.breaks;
-      continues = between_same vars inside.outside inside.flow (behind_block g inside).flow inside.continues (λ p low. out.within p (omega (arith, low, at))) w.continues;
+      breaks = between_same inside.structs inside.locals vars inside.outside inside.flow (behind_block g inside).flow inside.breaks (λ p low. out.within p (omega (arith, low, at))) w.breaks;
+      continues = between_same inside.structs inside.locals vars inside.outside inside.flow (behind_block g inside).flow inside.continues (λ p low. out.within p (omega (arith, low, at))) w.continues;
     }
 
 -- before the step of a loop, whose body stands outside of which there are as many locals as before it
@@ -210,37 +205,35 @@ walk_step vars g inside le at w =
     let block = walk_block vars g inside le (omega (arith, at)) w in
     let out = block_outside vars g inside le w in
     let here = outside_here inside.outside (behind_block g inside).flow (λ p far. out.beyond p (omega (arith, far, at))) in
-    let others = between_others vars inside.outside (behind_block g inside).flow (behind_block g inside).flow inside.continues block.between here block.continues in
+    let others = between_others inside.structs inside.locals vars inside.outside (behind_block g inside).flow (behind_block g inside).flow inside.continues block.between here block.continues in
     walk_knowing vars (with_others inside.continues (behind_block g inside).flow) (behind_block g inside) others.0 (beside_of vars inside.outside (behind_block g inside).flow (behind_block g inside).flow _ block.between others.0 here others.1) block
 
 -- behind a loop
 pub walk_behind : (vars : ℕ) (g head : Scope) (c : core.Expression) (inside : Scope) → g.structs ≡ inside.structs → Extends g.locals inside.locals → inside.outside ≡ length g.locals → AreBeside g.flow head.flow
-    → ((p : ℕ) → p < length g.locals → declared_at inside.flow p ≡ declared_at g.flow p) → length g.locals ≤ vars → IsWalk vars g → IsBetween vars head.flow → IsWalk vars inside → IsWalk vars (behind_loop g head c inside)
+    → ((p : ℕ) → p < length g.locals → declared_at inside.flow p ≡ declared_at g.flow p) → length g.locals ≤ vars → IsWalk vars g → IsBetween g.structs g.locals vars head.flow → IsWalk vars inside → IsWalk vars (behind_loop g head c inside)
 walk_behind vars g head c inside structs more at beside same few w h i =
     let le = extends_length g.locals inside.locals more in
     let no = told g.locals c false head.flow in
-    let no_between = between_told g.locals vars c false head.flow few h in
+    let no_between = subst (λ known. IsBetween known inside.locals vars no) structs (between_more g.locals inside.locals vars no more (between_told g.locals vars c false head.flow few h)) in
     let told_same = told_beside g.locals vars c false head.flow few h in
     let g_out = outside_here (length g.locals) g.flow w.beyond in
     let no_out = outside_beside (length g.locals) g.flow head.flow no told_same (outside_beside (length g.locals) g.flow g.flow head.flow beside g_out) in
-    let breaks = between_same vars (length g.locals) inside.flow g.flow inside.breaks (λ p low. sym (same p low)) (subst (λ n. AreBetween vars n inside.flow inside.breaks) at i.breaks) in
-    let others = between_others vars (length g.locals) g.flow no inside.breaks no_between no_out breaks in
+    let breaks = between_same inside.structs inside.locals vars (length g.locals) inside.flow g.flow inside.breaks (λ p low. sym (same p low)) (subst (λ n. AreBetween inside.structs inside.locals vars n inside.flow inside.breaks) at i.breaks) in
+    let others = between_others inside.structs inside.locals vars (length g.locals) g.flow no inside.breaks no_between no_out breaks in
     let out_few = w.outside in
     record {
       between = others.0;
       few = i.few;
       beyond = λ p far. others.1.beyond p (omega (arith, far, le));
-      declared = λ p b e. elim (below_or_beyond p (length g.locals)) [
-        | inl low ↦ subst (λ structs. IsDeclared structs inside.locals p b) structs (declared_extends g.structs g.locals inside.locals p b more (w.declared p b (sym (others.1.within p low) ∙ e)))
-        | inr far ↦ none_declared (declared_at (with_others inside.breaks no) p) (IsDeclared inside.structs inside.locals p b) b (others.1.beyond p far) e
-      ];
       result = i.result;
       outside = omega (arith, out_few, le);
-      breaks = between_same vars g.outside g.flow (with_others inside.breaks no) g.breaks (λ p low. others.1.within p (omega (arith, low, out_few))) w.breaks;
-      continues = between_same vars g.outside g.flow (with_others inside.breaks no) g.continues (λ p low. others.1.within p (omega (arith, low, out_few))) w.continues;
+      breaks = between_same inside.structs inside.locals vars g.outside g.flow (with_others inside.breaks no) g.breaks (λ p low. others.1.within p (omega (arith, low, out_few)))
+          (subst (λ known. AreBetween known inside.locals vars g.outside g.flow g.breaks) structs (ways_more g.structs g.locals inside.locals vars g.outside g.flow g.breaks more w.breaks));
+      continues = between_same inside.structs inside.locals vars g.outside g.flow (with_others inside.breaks no) g.continues (λ p low. others.1.within p (omega (arith, low, out_few)))
+          (subst (λ known. AreBetween known inside.locals vars g.outside g.flow g.continues) structs (ways_more g.structs g.locals inside.locals vars g.outside g.flow g.continues more w.continues));
     }
 
-pub walk_meeting : (vars : ℕ) (f : Knowledge) (g : Scope) → IsBetween vars f → AreBeside g.flow f → IsWalk vars g → IsWalk vars (meeting f g)
+pub walk_meeting : (vars : ℕ) (f : Knowledge) (g : Scope) → IsBetween g.structs g.locals vars f → AreBeside g.flow f → IsWalk vars g → IsWalk vars (meeting f g)
 walk_meeting vars f g a beside w =
     let back : AreBeside f g.flow = record { vars = sym beside.vars; declared = λ p. sym (beside.declared p) } in
     let m = met_beside vars f g.flow a w.between in
@@ -249,51 +242,40 @@ walk_meeting vars f g a beside w =
 pub walk_head : (vars : ℕ) (body : Statement) (step : Option Assignment) (g : Scope) → IsWalk vars g → IsWalk vars (at_loop body step g)
 walk_head vars body step g w =
     let beside = (flows_stay_alike.0 g.flow).enter_loop (assigned_in g body step) in
-    record { between = between_head vars (assigned_in g body step) g.flow w.between; few = w.few; beyond = λ p far. beside.declared p ∙ w.beyond p far; declared = λ p b e. w.declared p b (sym (beside.declared p) ∙ e); result = w.result; outside = omega arith; breaks = tt; continues = tt }
+    record { between = between_head vars (assigned_in g body step) g.flow w.between; few = w.few; beyond = λ p far. beside.declared p ∙ w.beyond p far; result = w.result; outside = omega arith; breaks = tt; continues = tt }
 
 pub walk_in_loop : (vars : ℕ) (g : Scope) → IsWalk vars g → IsWalk vars (in_loop g)
-walk_in_loop vars g w = record { between = w.between; few = w.few; beyond = w.beyond; declared = w.declared; result = w.result; outside = w.outside; breaks = w.breaks; continues = w.continues }
+walk_in_loop vars g w = record { between = w.between; few = w.few; beyond = w.beyond; result = w.result; outside = w.outside; breaks = w.breaks; continues = w.continues }
 
 -- bounds that may be declared for the local that comes next
 pub record MayCome (vars : ℕ) (structs : List Structure) (types : List CType) (t : CType) (declared : Option Bounds) : Type 0 where
   pub below : AreBoundsBelow vars declared
-  pub limited : AreLimitedIf declared
-  pub formed : (b : Bounds) → declared ≡ Some b → IsDeclared structs (types ++ t ∷ []) (length types) b
+  pub formed : (b : Bounds) → declared ≡ Some b → MayStand structs (types ++ t ∷ []) (length types) b
 
 pub none_comes : (vars : ℕ) (structs : List Structure) (types : List CType) (t : CType) → MayCome vars structs types t None
-none_comes vars structs types t = record { below = tt; limited = tt; formed = λ b e. absurd (cc) }
+none_comes vars structs types t = record { below = tt; formed = λ b e. absurd (cc) }
 
 pub walk_local : (vars name : ℕ) (t : CType) (declared : Option Bounds) (g : Scope) → MayCome vars g.structs g.locals t declared → IsWalk vars g → length (with_local name t declared g).locals ≤ vars → IsWalk vars (with_local name t declared g)
 walk_local vars name t declared g may w few =
     let longer = length-append g.locals (t ∷ []) in
     let at = w.outside in
     record {
-      between = between_entered vars (length g.locals) declared g.flow may.below may.limited w.between;
+      between = between_entered vars (length g.locals) declared g.flow may.below may.formed (between_more g.locals (g.locals ++ t ∷ []) vars g.flow (extends_append g.locals (t ∷ [])) w.between);
       few = few;
       beyond = λ p far. entered_beyond (length g.locals) declared g.flow w.beyond p (omega (arith, far, longer));
-      declared = local_declared;
       result = λ b e. ints_extends g.locals (g.locals ++ t ∷ []) b (extends_append g.locals (t ∷ [])) (w.result b e);
       outside = omega (arith, at, longer);
       breaks = local_ways g.breaks w.breaks;
       continues = local_ways g.continues w.continues;
     }
   where
-    here : (b : Bounds) → declared_at (with_local name t declared g).flow (length g.locals) ≡ Some b → declared ≡ Some b
-    here b e = entered_here (length g.locals) declared g.flow b e
-
-    local_declared : (p : ℕ) (b : Bounds) → declared_at (with_local name t declared g).flow p ≡ Some b → IsDeclared g.structs (with_local name t declared g).locals p b
-    local_declared p b e = elim (cases_eq p (length g.locals)) [
-      | inl same ↦ subst (λ p. IsDeclared g.structs (g.locals ++ t ∷ []) p b) (sym same) (may.formed b (here b (subst (λ p. declared_at (with_local name t declared g).flow p ≡ Some b) same e)))
-      | inr ne ↦ declared_extends g.structs g.locals (g.locals ++ t ∷ []) p b (extends_append g.locals (t ∷ [])) (w.declared p b (sym (entered_other (length g.locals) p declared g.flow ne) ∙ e))
-    ]
-
-    local_ways : (o : Option Knowledge) → AreBetween vars g.outside g.flow o → AreBetween vars g.outside (with_local name t declared g).flow o
+    local_ways : (o : Option Knowledge) → AreBetween g.structs g.locals vars g.outside g.flow o → AreBetween g.structs (with_local name t declared g).locals vars g.outside (with_local name t declared g).flow o
     local_ways None b = tt
-    local_ways (Some h) b = (b.0, entered_outside (length g.locals) g.outside declared g.flow h w.outside b.1)
+    local_ways (Some h) b = (between_more g.locals (g.locals ++ t ∷ []) vars h (extends_append g.locals (t ∷ [])) b.0, entered_outside (length g.locals) g.outside declared g.flow h w.outside b.1)
 
 -- whichever of its locals are arrays
 pub walk_arrays : (vars : ℕ) (arrays : List ℕ) (g : Scope) → IsWalk vars g → IsWalk vars (record g { arrays = arrays })
-walk_arrays vars arrays g w = record { between = w.between; few = w.few; beyond = w.beyond; declared = w.declared; result = w.result; outside = w.outside; breaks = w.breaks; continues = w.continues }
+walk_arrays vars arrays g w = record { between = w.between; few = w.few; beyond = w.beyond; result = w.result; outside = w.outside; breaks = w.breaks; continues = w.continues }
 
 pub declares_arrays : (arrays : List ℕ) (g h : Scope) → Declares g h → Declares g (record h { arrays = arrays })
 declares_arrays arrays g h d = record { same = d.same; loop = d.loop; structs = d.structs }
@@ -307,7 +289,7 @@ pub beside_sym : (f g : Knowledge) → AreBeside f g → AreBeside g f
 beside_sym f g b = record { vars = sym b.vars; declared = λ p. sym (b.declared p) }
 
 -- where two ways met, the same is declared as on the second
-pub met_behind : (vars : ℕ) (f g : Knowledge) → IsBetween vars f → IsBetween vars g → AreBeside f g → AreBeside g (met f g)
+pub met_behind : {known : List Structure} {types : List CType} (vars : ℕ) (f g : Knowledge) → IsBetween known types vars f → IsBetween known types vars g → AreBeside f g → AreBeside g (met f g)
 met_behind vars f g a b beside = let m = met_beside vars f g a b in record { vars = m.vars ∙ sym beside.vars; declared = λ p. m.declared p ∙ sym (beside.declared p) }
 
 pub block_outside_of : (vars : ℕ) (g inside : Scope) → length g.locals ≤ length inside.locals → Declares g inside → IsWalk vars inside → IsOutside (length g.locals) g.flow (behind_block g inside).flow
@@ -330,22 +312,23 @@ step_keeps vars g head inside le same at keeps w = record {
       let block = walk_block vars g inside le (omega (arith, at)) w in
       let out = block_outside vars g inside le w in
       let here = outside_here inside.outside (behind_block g inside).flow (λ p far. out.beyond p (omega (arith, far, at))) in
-      let others = between_others vars inside.outside (behind_block g inside).flow (behind_block g inside).flow inside.continues block.between here block.continues in
+      let others = between_others inside.structs inside.locals vars inside.outside (behind_block g inside).flow (behind_block g inside).flow inside.continues block.between here block.continues in
       others.1.within p (omega (arith, low_g, at)) ∙ (out.within p low_g ∙ keeps.same p low);
   loop = keeps.loop;
   structs = keeps.structs;
 }
 
 -- behind a loop
-pub loop_same : (vars : ℕ) (g head : Scope) (c : core.Expression) (inside : Scope) → inside.outside ≡ length g.locals → AreBeside g.flow head.flow → ((p : ℕ) → p < length g.locals → declared_at inside.flow p ≡ declared_at g.flow p) → length g.locals ≤ vars → IsWalk vars g
-    → IsBetween vars head.flow → IsWalk vars inside → (p : ℕ) → p < length g.locals → declared_at (behind_loop g head c inside).flow p ≡ declared_at g.flow p
-loop_same vars g head c inside at beside same few w h i p low =
+pub loop_same : (vars : ℕ) (g head : Scope) (c : core.Expression) (inside : Scope) → g.structs ≡ inside.structs → Extends g.locals inside.locals → inside.outside ≡ length g.locals → AreBeside g.flow head.flow
+    → ((p : ℕ) → p < length g.locals → declared_at inside.flow p ≡ declared_at g.flow p) → length g.locals ≤ vars → IsWalk vars g → IsBetween g.structs g.locals vars head.flow → IsWalk vars inside → (p : ℕ) → p < length g.locals
+    → declared_at (behind_loop g head c inside).flow p ≡ declared_at g.flow p
+loop_same vars g head c inside structs more at beside same few w h i p low =
     let no = told g.locals c false head.flow in
-    let no_between = between_told g.locals vars c false head.flow few h in
+    let no_between = subst (λ known. IsBetween known inside.locals vars no) structs (between_more g.locals inside.locals vars no more (between_told g.locals vars c false head.flow few h)) in
     let told_same = told_beside g.locals vars c false head.flow few h in
     let no_out = outside_beside (length g.locals) g.flow head.flow no told_same (outside_beside (length g.locals) g.flow g.flow head.flow beside (outside_here (length g.locals) g.flow w.beyond)) in
-    let breaks = between_same vars (length g.locals) inside.flow g.flow inside.breaks (λ p low. sym (same p low)) (subst (λ n. AreBetween vars n inside.flow inside.breaks) at i.breaks) in
-    (between_others vars (length g.locals) g.flow no inside.breaks no_between no_out breaks).1.within p low
+    let breaks = between_same inside.structs inside.locals vars (length g.locals) inside.flow g.flow inside.breaks (λ p low. sym (same p low)) (subst (λ n. AreBetween inside.structs inside.locals vars n inside.flow inside.breaks) at i.breaks) in
+    (between_others inside.structs inside.locals vars (length g.locals) g.flow no inside.breaks no_between no_out breaks).1.within p low
 
 -- ---- how a statement ends, behind a block
 
@@ -370,7 +353,7 @@ known_out structs vars g w s h =
     fits_left structs vars (length g.locals) s g.outside (length g.locals - g.outside) g.flow w.between (omega (arith, few, at)) h
 
 -- where another way meets the one behind it
-pub so_meeting : (structs : List Structure) (vars : ℕ) (f : Knowledge) (g : Scope) → IsBetween vars f → AreBeside f g.flow → IsWalk vars g → (flow : Flow) (s : State) → IsSo structs g flow s → IsSo structs (meeting f g) flow s
+pub so_meeting : (structs : List Structure) (vars : ℕ) (f : Knowledge) (g : Scope) → IsBetween g.structs g.locals vars f → AreBeside f g.flow → IsWalk vars g → (flow : Flow) (s : State) → IsSo structs g flow s → IsSo structs (meeting f g) flow s
 so_meeting structs vars f g a beside w Next s h = fits_second structs vars (length g.locals) s f g.flow a w.between beside h
 so_meeting structs vars f g a beside w Broke s h = h
 so_meeting structs vars f g a beside w Continued s h = h

@@ -1,6 +1,6 @@
 -- The expressions of a core have few nodes, by how many the tree has that they come from.
 use Rattle.std.proofs.Common.{◌≡◌, ℕ, ◌+◌, ◌*◌, ◌<◌, ◌≤◌, ◌^◌, Bool, true, false, List, [], ◌∷◌, length, Option, Some, None, refl, ap, arith}
-use Rattle.std.specs.Prelude.{◌==◌, nat_lt, ◌&&◌}
+use Rattle.std.specs.Prelude.{◌==◌, nat_lt, ◌&&◌, is_some}
 use Rattle.ckc_text.specs.declared.place.Span.{Span}
 use Rattle.ckc_text.specs.declared.code.Code.TheVariants.{E04, E13, E14, E26}
 use Rattle.ckc_tree.specs.declared.expr.CastWord.{CastWord}
@@ -30,12 +30,13 @@ use Rattle.ckc_core.specs.declared.program.PointerBounds.{PointerBounds}
 use Rattle.ckc_core.specs.declared.program.Direction.{Direction}
 use Rattle.ckc_core.specs.declared.program.Direction.TheVariants as directions
 use Rattle.ckc_core.specs.Core as core
+use Rattle.ckc_core.specs.Meaning.{bounds_of}
 use Rattle.ckc_core.specs.Weights.{expression_weight, arguments_weight, place_weight, statement_weight}
 use Rattle.ckc_names_rules.specs.declared.given.Given.{Given}
-use Rattle.region_typing_rules.specs.Verdicts.{Verdict, Passes, passing}
+use Rattle.region_typing_rules.specs.Verdicts.{Verdict, Passes, passing, picked}
 use Rattle.region_typing_rules.specs.Scopes.{Scope, Signature, WrittenBounds, Named, Local, Object, Array, Nothing, named, function_named, members_named}
 use Rattle.region_typing_rules.specs.Types.{type_named, is_number, is_pointer, are_comparable, converts}
-use Rattle.region_typing_rules.specs.Expressions.{Places, OfLocal, OfCell, OfBounded, Standing, ForNothing, ForArray, For, Typed, Value, AStruct, Called, Gives, GivesNothing, site_at, bounds_at, noted, noted_if, with_bounds, sum_node, bounded, plain, number, at_place, local_typed, name_typed, object_typed, member_place, member_from, offset_among, member_at, dotted, first_element, pointed_by, arrowed, pointed_at, dereferenced, pointer_to, address, number_of, scalar_of, unary_typed, two_numbers, two_scalars, operator_along, summed, sum_typed, as_pointer, equated_values, equated, are_related, ordered_values, ordered, arithmetic, binary_typed, beside, element_at, indexed, in_type, converted, arguments_as, is_import, call_of, declared_callee, first_of, writes, predefined_call, called, with_result, typed, all_typed, call_typed, malloc_typed, calloc_typed, cast_typed, cast_bounds, is_array, local_standing}
+use Rattle.region_typing_rules.specs.Expressions.{Places, OfLocal, OfCell, OfBounded, OfUnknown, Standing, ForNothing, ForArray, For, Typed, Value, AStruct, Called, Gives, GivesNothing, site_at, bounds_at, noted, noted_if, with_bounds, cell_bounds, with_cell_bounds, sum_node, bounded, in_cell, plain, number, at_place, local_typed, name_typed, object_typed, member_place, member_from, offset_among, member_at, dotted, first_element, first_or_end, pointed_by, arrowed, pointed_at, dereferenced, pointer_to, address, number_of, scalar_of, unary_typed, two_numbers, two_scalars, operator_along, summed, sum_typed, as_pointer, equated_values, equated, is_ended_element, zero_test, are_related, ordered_values, ordered, arithmetic, binary_typed, beside, element_at, indexed, in_type, converted, arguments_as, is_import, call_of, declared_callee, first_of, writes, is_text, length_typed, measures, predefined_call, called, with_result, typed, all_typed, call_typed, malloc_typed, calloc_typed, cast_typed, cast_bounds, is_array, local_standing}
 use Rattle.region_typing_rules.proofs.Knowledge.{crossing_promises}
 use Rattle.region_typing_rules.proofs.Kept.{passing_any}
 use Rattle.region_typing_rules.proofs.Memory.{IsCount, OfBytes, OfOne, OfLeft, OfRight, malloc_promises, calloc_promises, cast_promises}
@@ -49,6 +50,7 @@ LightPlace n ForArray = Unit {0}
 LightPlace n (For (OfLocal k)) = Unit {0}
 LightPlace n (For (OfCell p)) = place_weight p < n
 LightPlace n (For (OfBounded k b)) = place_weight (core.Direct k 0) < n
+LightPlace n (For (OfUnknown k)) = place_weight (core.Direct k 0) < n
 
 abbrev pub Light : ℕ → Typed → Type 0
 Light n (Value type zero value place) = (expression_weight value < n) × LightPlace n place
@@ -67,6 +69,7 @@ light_place_more n m ForArray le h = tt
 light_place_more n m (For (OfLocal k)) le h = tt
 light_place_more n m (For (OfCell p)) le h = omega arith
 light_place_more n m (For (OfBounded k b)) le h = omega arith
+light_place_more n m (For (OfUnknown k)) le h = omega arith
 
 light_more : (n m : ℕ) (t : Typed) → n ≤ m → Light n t → Light m t
 light_more n m (Value type zero value place) le h = let first = h.0 in (omega arith, light_place_more n m place le h.1)
@@ -104,6 +107,13 @@ with_bounds_light : (n : ℕ) (s : Scope) (site : Site) (t : Typed) → Light n 
 with_bounds_light n s site (Value type zero value place) h = let first = h.0 in (omega (arith, noted_if_light (bounds_at s.structs type site) value), h.1)
 with_bounds_light n s site (AStruct number place) h = h
 
+with_cell_bounds_light : (n : ℕ) (structs : List Structure) (site : Site) (t : Typed) → Light n t → Light n (with_cell_bounds structs site t)
+with_cell_bounds_light n structs site (Value type zero value place) h = let first = h.0 in (omega (arith, noted_if_light (cell_bounds structs type site) value), h.1)
+with_cell_bounds_light n structs site (AStruct number place) h = h
+
+in_cell_light : (n : ℕ) (s : Scope) (site : Site) (v : Verdict Typed) → Promises (Light n) v → Promises (Light n) (in_cell s site v)
+in_cell_light n s site v h = passing_promises (Light n) (Light n) v _ h (with_cell_bounds_light n s.structs site)
+
 bounded_light : (n : ℕ) (s : Scope) (site : Site) (v : Verdict Typed) → Promises (Light n) v → Promises (Light n) (bounded s site v)
 bounded_light n s site v h = passing_promises (Light n) (Light n) v _ h (with_bounds_light n s site)
 
@@ -125,17 +135,24 @@ local_light n structs f k Char array site h = (h, standing_light n k array)
 local_light n structs f k (Struct number) array site h = tt
 local_light n structs f k (Pointer m d t) array site h = (h, standing_light n k array)
 
-object_light : (n : ℕ) (structs : List Structure) (k : ℕ) (t : CType) (bounds : Option Bounds) (site : Site) → 2 < n → Light n (object_typed structs k t bounds site)
-object_light n structs k t None site h = at_place_light n t (core.Direct k 0) (omega arith)
-object_light n structs k Int (Some b) site h = (omega arith, omega arith)
-object_light n structs k Char (Some b) site h = (omega arith, omega arith)
-object_light n structs k (Struct number) (Some b) site h = omega arith
-object_light n structs k (Pointer m d t) (Some b) site h = (omega arith, omega arith)
+object_light : (n : ℕ) (structs : List Structure) (k : ℕ) (t : CType) (bounds : WrittenBounds) (site : Site) → 2 < n → Light n (object_typed structs k t bounds site)
+object_light n structs k t None site h = with_cell_bounds_light n structs site (at_place t (core.Direct k 0)) (at_place_light n t (core.Direct k 0) (omega arith))
+object_light n structs k Int (Some None) site h = (omega arith, omega arith)
+object_light n structs k Char (Some None) site h = (omega arith, omega arith)
+object_light n structs k (Struct number) (Some None) site h = omega arith
+object_light n structs k (Pointer m kinds.One t) (Some None) site h = (omega arith, omega arith)
+object_light n structs k (Pointer m kinds.Array t) (Some None) site h = (omega arith, omega arith)
+object_light n structs k (Pointer m kinds.Nt t) (Some None) site h = (omega arith, omega arith)
+object_light n structs k Int (Some (Some b)) site h = (omega arith, omega arith)
+object_light n structs k Char (Some (Some b)) site h = (omega arith, omega arith)
+object_light n structs k (Struct number) (Some (Some b)) site h = omega arith
+object_light n structs k (Pointer m d t) (Some (Some b)) site h = (omega arith, omega arith)
 
 name_light : (n : ℕ) (s : Scope) (x : Named) (site : Site) → 2 < n → Light n (name_typed s x site)
 name_light n s (Local k t) site h = local_light n s.structs s.flow k t (is_array s.arrays k) site (omega arith)
 name_light n s (Object k t b) site h = object_light n s.structs k t b site h
-name_light n s (Array k t length) site h = (omega arith, tt)
+name_light n s (Array k t length false) site h = (omega arith, tt)
+name_light n s (Array k t length true) site h = (omega arith, tt)
 name_light n s Nothing site h = (omega arith, tt)
 
 member_weight : (p : core.Place) (offset : ℕ) (site : Site) → place_weight (member_place p offset site) ≡ place_weight p
@@ -144,7 +161,8 @@ member_weight (core.Through pointer index first before) offset site = refl
 
 pointer_light : (n : ℕ) (t : CType) (p : core.Place) (site : Site) → place_weight p < n → Light n (pointer_to t p site)
 pointer_light n t (core.Direct object offset) site h = (h, tt)
-pointer_light n t (core.Through pointer index offset before) site h = (h, tt)
+pointer_light n t (core.Through pointer core.First offset before) site h = (h, tt)
+pointer_light n t (core.Through pointer (core.Element number terminated) offset before) site h = (h, tt)
 
 address_light : (n : ℕ) (a : Typed) (site : Site) (span : Span) → Light n a → Promises (Light n) (address a site span)
 address_light n (Value type zero value ForNothing) site span h = tt
@@ -152,9 +170,11 @@ address_light n (Value type zero value ForArray) site span h = tt
 address_light n (Value type zero value (For (OfLocal k))) site span h = tt
 address_light n (Value type zero value (For (OfCell p))) site span h = pointer_light n type p site h.1
 address_light n (Value type zero value (For (OfBounded k b))) site span h = tt
+address_light n (Value type zero value (For (OfUnknown k))) site span h = tt
 address_light n (AStruct number (OfLocal k)) site span h = tt
 address_light n (AStruct number (OfCell p)) site span h = pointer_light n (Struct number) p site h
 address_light n (AStruct number (OfBounded k b)) site span h = tt
+address_light n (AStruct number (OfUnknown k)) site span h = tt
 
 pointed_light : (n : ℕ) (t : CType) (value : core.Expression) (site : Site) (span : Span) → IsLight n value → Promises (Light (n + 3)) (pointed_at t value site span)
 pointed_light n Int value site span h = tt
@@ -162,7 +182,7 @@ pointed_light n Char value site span h = tt
 pointed_light n (Struct number) value site span h = tt
 pointed_light n (Pointer m kinds.One t) value site span h = at_place_light (n + 3) t (core.Through value core.First 0 site) (omega arith)
 pointed_light n (Pointer m kinds.Array t) value site span h = elements_promise (Light (n + 3)) value span _ (at_place_light (n + 3) t (first_element value site) (omega arith))
-pointed_light n (Pointer m kinds.Nt t) value site span h = tt
+pointed_light n (Pointer m kinds.Nt t) value site span h = elements_promise (Light (n + 3)) value span _ (at_place_light (n + 3) t (first_or_end value site) (omega arith))
 
 dereferenced_light : (n : ℕ) (a : Typed) (site : Site) (span : Span) → Light n a → Promises (Light (n + 3)) (dereferenced a site span)
 dereferenced_light n (Value type zero value place) site span h = pointed_light n type value site span h.0
@@ -182,6 +202,7 @@ dotted_light n s (Value type zero value place) name site span two h = tt
 dotted_light n s (AStruct number (OfLocal k)) name site span two h = member_at_light (n + 2) s number (core.Through (core.Local k None) core.First 0 site) name site span (omega arith)
 dotted_light n s (AStruct number (OfCell p)) name site span two h = member_at_light (n + 2) s number p name site span (omega arith)
 dotted_light n s (AStruct number (OfBounded k b)) name site span two h = member_at_light (n + 2) s number (core.Direct k 0) name site span (omega arith)
+dotted_light n s (AStruct number (OfUnknown k)) name site span two h = member_at_light (n + 2) s number (core.Direct k 0) name site span (omega arith)
 
 pointed_by_light : (n : ℕ) (s : Scope) (t : CType) (value : core.Expression) (name : ℕ) (site : Site) (span : Span) → IsLight n value → Promises (Light (n + 3)) (pointed_by s t value name site span)
 pointed_by_light n s Int value name site span h = tt
@@ -270,6 +291,17 @@ ordered_light n m comparison (Value t z v p) (Value u y w q) site span ha hb = o
 ordered_light n m comparison (Value t z v p) (AStruct k q) site span ha hb = tt
 ordered_light n m comparison (AStruct k p) b site span ha hb = tt
 
+-- whether an element is the zero takes no more than a comparison with 0
+zero_test_light : (n m : ℕ) (a b : Typed) (equal : core.Expression) → Light n a → IsLight (n + m + 1) equal → IsLight (n + m + 1) (zero_test a b equal)
+zero_test_light n m (Value t z v p) (Value u true w q) equal h light = by (is_number t && is_ended_element v)
+  where
+    by : (test : Bool) → IsLight (n + m + 1) (picked test (core.Not v) equal)
+    by true = let first = h.0 in omega arith
+    by false = light
+zero_test_light n m (Value t z v p) (Value u false w q) equal h light = light
+zero_test_light n m (Value t z v p) (AStruct k q) equal h light = light
+zero_test_light n m (AStruct k p) b equal h light = light
+
 binary_light : (n m : ℕ) (s : Scope) (operator : BinaryOperator) (a b : Typed) (site : Site) (span : Span) → 2 ≤ n → 2 ≤ m → Light n a → Light m b → Promises (Light (n + m + 2)) (binary_typed s operator a b site span)
 binary_light n m s binary.Or a b site span two two' ha hb = truths_light n m a b span ha hb core.OrElse (λ v w. refl)
 binary_light n m s binary.And a b site span two two' ha hb = truths_light n m a b span ha hb core.AndAlso (λ v w. refl)
@@ -277,7 +309,8 @@ binary_light n m s binary.BitOr a b site span two two' ha hb = arithmetic_light 
 binary_light n m s binary.BitXor a b site span two two' ha hb = arithmetic_light n m a b span ha hb (operators.Bitwise bits.Xor) site
 binary_light n m s binary.BitAnd a b site span two two' ha hb = arithmetic_light n m a b span ha hb (operators.Bitwise bits.And) site
 binary_light n m s binary.Equal a b site span two two' ha hb = passing_promises (IsLight (n + m + 1)) (Light (n + m + 2)) (equated a b span) number (equated_light n m a b span two two' ha hb) (λ v light. (omega arith, tt))
-binary_light n m s binary.NotEqual a b site span two two' ha hb = passing_promises (IsLight (n + m + 1)) (Light (n + m + 2)) (equated a b span) (λ v. number (core.Not v)) (equated_light n m a b span two two' ha hb) (λ v light. (omega arith, tt))
+binary_light n m s binary.NotEqual a b site span two two' ha hb = passing_promises (IsLight (n + m + 1)) (Light (n + m + 2)) (equated a b span) (λ v. number (core.Not (zero_test a b v))) (equated_light n m a b span two two' ha hb)
+    (λ v light. let test = zero_test_light n m a b v ha light in (omega arith, tt))
 binary_light n m s binary.Less a b site span two two' ha hb = ordered_light n m comparisons.Less a b site span ha hb
 binary_light n m s binary.LessEqual a b site span two two' ha hb = ordered_light n m comparisons.LessEqual a b site span ha hb
 binary_light n m s binary.Greater a b site span two two' ha hb = ordered_light n m comparisons.Greater a b site span ha hb
@@ -297,7 +330,8 @@ element_light n m (Struct k) pointer number site span hp hn = tt
 element_light n m (Pointer mode kinds.One t) pointer number site span hp hn = tt
 element_light n m (Pointer mode kinds.Array t) pointer number site span hp hn =
     elements_promise (Light (n + m + 2)) pointer span _ (at_place_light (n + m + 2) t (core.Through pointer (core.Element number false) 0 site) (omega arith))
-element_light n m (Pointer mode kinds.Nt t) pointer number site span hp hn = tt
+element_light n m (Pointer mode kinds.Nt t) pointer number site span hp hn =
+    elements_promise (Light (n + m + 2)) pointer span _ (at_place_light (n + m + 2) t (core.Through pointer (core.Element number true) 0 site) (omega arith))
 
 indexed_light : (n m : ℕ) (a b : Typed) (site : Site) (span : Span) → Light n a → Light m b → Promises (Light (n + m + 2)) (indexed a b site span)
 indexed_light n m (Value t z v p) (Value u y w q) site span ha hb = needs_promises (Light (n + m + 2)) (is_pointer t && is_number u) E13 span _ (λ x. element_light n m t v w site span ha.0 hb.0)
@@ -371,21 +405,42 @@ writes_light xs of arguments span same all =
     needs_promises (LightCall (n + 2)) (length arguments == 1) E14 span _
     (λ x. passing_promises (AreLight xs) (LightCall (n + 2)) (arguments_as arguments (Int ∷ [])) _ (arguments_light xs arguments (Int ∷ []) all) (λ values h. first_light n of values same h))
 
-predefined_light : (xs : Expressions) (given : Given) (name : ℕ) (arguments : List (Typed × Span)) (span : Span) → AllLight xs arguments → Promises (LightCall (5 * tree.expressions_weight xs + 2)) (predefined_call given name arguments span)
-predefined_light xs given name arguments span all = by (name == given.next_input) (name == given.print_int) (name == given.putchar) refl refl refl
+call_more : (n m : ℕ) (c : Called) → n ≤ m → LightCall n c → LightCall m c
+call_more n m (Gives type value) le h = omega arith
+call_more n m (GivesNothing call) le h = omega arith
+
+length_light : (n : ℕ) (a : Typed) (site : Site) (span : Span) → Light n a → Promises (LightCall (n + 2)) (length_typed a site span)
+length_light n (Value type zero value place) site span h =
+    let light = h.0 in
+    needs_promises (LightCall (n + 2)) (is_text type && is_some (bounds_of value)) E13 span (Passes (Gives Int (core.Length value site))) (λ text. omega arith)
+length_light n (AStruct number place) site span h = tt
+
+measures_light : (xs : Expressions) (arguments : List (Typed × Span)) (site : Site) (span : Span) → AllLight xs arguments → Promises (LightCall (5 * tree.expressions_weight xs + 2)) (measures arguments site span)
+measures_light xs [] site span all = tt
+measures_light e.NoMore (a ∷ arguments) site span all = absurd all
+measures_light (e.Then first others) (a ∷ arguments) site span all =
+    let n = 5 * tree.expression_weight first in
+    let m = 5 * tree.expressions_weight (e.Then first others) + 2 in
+    needs_promises (LightCall m) (length (a ∷ arguments) == 1) E14 span (length_typed a.0 site span)
+    (λ one. promised_so (LightCall (n + 2)) (LightCall m) (length_typed a.0 site span) (length_light n a.0 site span all.0) (λ c. call_more (n + 2) m c (omega arith)))
+
+predefined_light : (xs : Expressions) (given : Given) (name : ℕ) (arguments : List (Typed × Span)) (site : Site) (span : Span) → AllLight xs arguments → Promises (LightCall (5 * tree.expressions_weight xs + 2)) (predefined_call given name arguments site span)
+predefined_light xs given name arguments site span all = by (name == given.next_input) (name == given.print_int) (name == given.putchar) (name == given.strlen) refl refl refl refl
   where
-    by : (input print put : Bool) → (name == given.next_input) ≡ input → (name == given.print_int) ≡ print → (name == given.putchar) ≡ put → Promises (LightCall (5 * tree.expressions_weight xs + 2)) (predefined_call given name arguments span)
-    by true print put h0 h1 h2 = rw h0 (needs_promises (LightCall (5 * tree.expressions_weight xs + 2)) (length arguments == 0) E14 span (Passes (Gives Int core.NextInput)) (λ none. omega arith))
-    by false true put h0 h1 h2 = rw (h0, h1) (writes_light xs core.Print arguments span (λ v. refl) all)
-    by false false true h0 h1 h2 = rw (h0, h1, h2) (writes_light xs core.PutByte arguments span (λ v. refl) all)
-    by false false false h0 h1 h2 = rw (h0, h1, h2) tt
+    by : (input print put measure : Bool) → (name == given.next_input) ≡ input → (name == given.print_int) ≡ print → (name == given.putchar) ≡ put → (name == given.strlen) ≡ measure
+        → Promises (LightCall (5 * tree.expressions_weight xs + 2)) (predefined_call given name arguments site span)
+    by true print put measure h0 h1 h2 h3 = rw h0 (needs_promises (LightCall (5 * tree.expressions_weight xs + 2)) (length arguments == 0) E14 span (Passes (Gives Int core.NextInput)) (λ none. omega arith))
+    by false true put measure h0 h1 h2 h3 = rw (h0, h1) (writes_light xs core.Print arguments span (λ v. refl) all)
+    by false false true measure h0 h1 h2 h3 = rw (h0, h1, h2) (writes_light xs core.PutByte arguments span (λ v. refl) all)
+    by false false false true h0 h1 h2 h3 = rw (h0, h1, h2, h3) (measures_light xs arguments site span all)
+    by false false false false h0 h1 h2 h3 = rw (h0, h1, h2, h3) tt
 
 with_result_light : (n : ℕ) (c : Called) (span : Span) → LightCall n c → Promises (Light n) (with_result c span)
 with_result_light n (Gives type value) span h = (h, tt)
 with_result_light n (GivesNothing call) span h = tt
 
 called_light : (s : Scope) (xs : Expressions) (o : Option Signature) (name : ℕ) (arguments : List (Typed × Span)) (site : Site) (span : Span) → AllLight xs arguments → Promises (LightCall (5 * tree.expressions_weight xs + 2)) (called s o name arguments site span)
-called_light s xs None name arguments site span all = predefined_light xs s.given name arguments span all
+called_light s xs None name arguments site span all = predefined_light xs s.given name arguments site span all
 called_light s xs (Some f) name arguments site span all =
     let n = 5 * tree.expressions_weight xs in
     needs_promises (LightCall (n + 2)) (length f.parameters == length arguments) E14 span _
@@ -408,7 +463,7 @@ malloc_light n all word s t size (AStruct number place) site span two more h = m
 
 calloc_light : (n all : ℕ) (word : CallocWord) (s : Scope) (t : CType) (a : Typed) (size : Expression) (site : Site) (span : Span) → n + 1 ≤ all → Light n a → Promises (Light all) (calloc_typed word s t a size site span)
 calloc_light n all word s t (Value type zero value place) size site span more h =
-    calloc_promises (Light all) s t site span word (Value type zero value place) size (λ number bytes. let light = h.0 in (omega arith, tt))
+    calloc_promises (Light all) s t site span word (Value type zero value place) size (λ number ended may. let light = h.0 in (omega arith, tt))
 calloc_light n all word s t (AStruct number place) size site span more h = calloc_promises (Light all) s t site span word (AStruct number place) size tt
 
 cast_light : (n all : ℕ) (word : CastWord) (s : Scope) (t : CType) (a : Typed) (written : WrittenBounds) (site : Site) (span : Span) → n + 1 ≤ all → Light n a → Promises (Light all) (cast_typed word s t a written site span)
@@ -458,24 +513,24 @@ mutual
       let n = 5 * tree.expression_weight base in
       let m = 5 * tree.expression_weight index in
       let all = 5 * tree.expression_weight (e.Index base index span) in
-      bounded_light all s (site_at at span) (passing (typed at s base) (λ a. passing (typed at s index) (λ b. indexed a b (site_at at span) span)))
+      in_cell_light all s (site_at at span) (passing (typed at s base) (λ a. passing (typed at s index) (λ b. indexed a b (site_at at span) span)))
       (passing_promises (Light n) (Light all) (typed at s base) _ (typed_light at s base)
       (λ a ha. passing_promises (Light m) (Light all) (typed at s index) _ (typed_light at s index)
       (λ b hb. promised_so (Light (n + m + 2)) (Light all) (indexed a b (site_at at span) span) (indexed_light n m a b (site_at at span) span ha hb) (λ t. light_more (n + m + 2) all t (omega arith)))))
   typed_light at s (e.Dot base member span) =
       let n = 5 * tree.expression_weight base in
       let all = 5 * tree.expression_weight (e.Dot base member span) in
-      bounded_light all s (site_at at span) (passing (typed at s base) (λ a. dotted s a member.number (site_at at span) span)) (passing_promises (Light n) (Light all) (typed at s base) _ (typed_light at s base)
+      in_cell_light all s (site_at at span) (passing (typed at s base) (λ a. dotted s a member.number (site_at at span) span)) (passing_promises (Light n) (Light all) (typed at s base) _ (typed_light at s base)
       (λ a light. promised_so (Light (n + 2)) (Light all) (dotted s a member.number (site_at at span) span) (dotted_light n s a member.number (site_at at span) span (omega (arith, node_there base)) light) (λ t. light_more (n + 2) all t (omega arith))))
   typed_light at s (e.Arrow base member span) =
       let n = 5 * tree.expression_weight base in
       let all = 5 * tree.expression_weight (e.Arrow base member span) in
-      bounded_light all s (site_at at span) (passing (typed at s base) (λ a. arrowed s a member.number (site_at at span) span)) (passing_promises (Light n) (Light all) (typed at s base) _ (typed_light at s base)
+      in_cell_light all s (site_at at span) (passing (typed at s base) (λ a. arrowed s a member.number (site_at at span) span)) (passing_promises (Light n) (Light all) (typed at s base) _ (typed_light at s base)
       (λ a light. promised_so (Light (n + 3)) (Light all) (arrowed s a member.number (site_at at span) span) (arrowed_light n s a member.number (site_at at span) span light) (λ t. light_more (n + 3) all t (omega arith))))
   typed_light at s (e.Unary operator operand span) =
       let n = 5 * tree.expression_weight operand in
       let all = 5 * tree.expression_weight (e.Unary operator operand span) in
-      bounded_light all s (site_at at span) (passing (typed at s operand) (λ a. unary_typed operator a (site_at at span) span)) (passing_promises (Light n) (Light all) (typed at s operand) _ (typed_light at s operand)
+      in_cell_light all s (site_at at span) (passing (typed at s operand) (λ a. unary_typed operator a (site_at at span) span)) (passing_promises (Light n) (Light all) (typed at s operand) _ (typed_light at s operand)
       (λ a light. promised_so (Light (n + 3)) (Light all) (unary_typed operator a (site_at at span) span) (unary_light n operator a (site_at at span) span light) (λ t. light_more (n + 3) all t (omega arith))))
   typed_light at s (e.Binary operator left right span) =
       let n = 5 * tree.expression_weight left in
@@ -491,10 +546,6 @@ mutual
   all_light at s (e.Then first others) =
       passing_promises (Light (5 * tree.expression_weight first)) (AllLight (e.Then first others)) (typed at s first) _ (typed_light at s first)
       (λ t light. passing_promises (AllLight others) (AllLight (e.Then first others)) (all_typed at s others) _ (all_light at s others) (λ ts lights. (light, lights)))
-
-call_more : (n m : ℕ) (c : Called) → n ≤ m → LightCall n c → LightCall m c
-call_more n m (Gives type value) le h = omega arith
-call_more n m (GivesNothing call) le h = omega arith
 
 pub call_typed_light : (at : Places) (s : Scope) (x : Expression) → Promises (LightCall (5 * tree.expression_weight x)) (call_typed at s x)
 call_typed_light at s (e.Call callee arguments span) =

@@ -8,17 +8,19 @@ use Rattle.ckc_tree.specs.Expressions as e
 use Rattle.ckc_tree.specs.Expressions.{Expression, Expressions, bounds_span}
 use Rattle.bounds_exprs.specs.declared.term.Bounds.{Bounds}
 use Rattle.bounds_exprs.specs.Normal as normal
-use Rattle.bounds_exprs.specs.Normal.{How, bounds_of}
+use Rattle.bounds_exprs.specs.Normal.{How, bounds_of, constant}
 use Rattle.bounds_exprs.specs.Sums as sums
 use Rattle.bounds_exprs.specs.Sums.{Sum}
 use Rattle.pointer_modes.specs.declared.ctype.Mode.{Mode}
 use Rattle.pointer_modes.specs.declared.ctype.Mode.TheVariants as modes
+use Rattle.pointer_modes.specs.declared.ctype.Kind.{Kind}
+use Rattle.pointer_modes.specs.declared.ctype.Kind.TheVariants as kinds
 use Rattle.pointer_modes.specs.Types.{CType, Int, Char, Struct, Pointer}
 use Rattle.pointer_modes.specs.Layout.{size_of}
 use Rattle.ckc_core.specs.States.{same_mode, same_type}
 use Rattle.region_typing_rules.specs.Verdicts.{Verdict, Passes, passing, needs, breaks, picked}
 use Rattle.region_typing_rules.specs.Scopes.{Scope}
-use Rattle.region_typing_rules.specs.Types.{type_named, is_row}
+use Rattle.region_typing_rules.specs.Types.{type_named, is_number, is_row}
 use Rattle.region_typing_rules.specs.Knowing.{local_number}
 
 -- the pointer that bounds are for: its number among the locals, its mode, and its element
@@ -123,6 +125,22 @@ normal_bounds (normal.Count n) size span = normal_or_break (bounds_of (normal.Co
 normal_bounds (normal.ByteCount n) size span = normal_or_break (bounds_of (normal.ByteCount n) size) span
 normal_bounds (normal.Pair low high) size span = normal_or_break (bounds_of (normal.Pair low high) size) span
 
+-- as many elements as a number, from the pointer on
+abbrev pub row_of : ℕ → Bounds
+row_of n = record { base = None; lo = constant (pos 0); hi = constant (pos n) }
+
+-- the bounds that a pointer has where none are written: the end of a null-terminated one may be where it stands
+abbrev pub unwritten_bounds : CType → Option Bounds
+unwritten_bounds (Pointer mode kind target) = unwritten_of kind target
+  where
+    unwritten_of : Kind → CType → Option Bounds
+    unwritten_of kinds.One t = None
+    unwritten_of kinds.Array t = None
+    unwritten_of kinds.Nt t = picked (is_number t) (Some (row_of 0)) None
+unwritten_bounds Int = None
+unwritten_bounds Char = None
+unwritten_bounds (Struct number) = None
+
 -- what bounds of a local of a type are for; those of one that is no pointer are refused
 abbrev pub bounded_of : (own : ℕ) → CType → Bounded
 bounded_of own (Pointer mode kind target) = record { own = own; mode = mode; element = target }
@@ -132,7 +150,7 @@ bounded_of own (Struct number) = record { own = own; mode = modes.Checked; eleme
 
 -- bounds-on-pointer: only a pointer to an array has bounds, and to elements that have bytes, as all of a source have (E16, at the bounds)
 abbrev pub declared_bounds : Scope → CType → (own : ℕ) → Option e.Bounds → Verdict (Option Bounds)
-declared_bounds s t own None = Passes None
+declared_bounds s t own None = Passes (unwritten_bounds t)
 declared_bounds s t own (Some b) =
     passing (how_written s (bounded_of own t) b) (λ how.
     needs (is_row t && nat_lt 0 (size_of s.structs (bounded_of own t).element)) E16 (bounds_span b)

@@ -4,12 +4,12 @@ use Rattle.ckc_tree.specs.Expressions as e
 use Rattle.bounds_exprs.specs.declared.term.Bounds.{Bounds}
 use Rattle.pointer_modes.specs.declared.ctype.Mode.{Mode}
 use Rattle.pointer_modes.specs.declared.ctype.Kind.{Kind}
-use Rattle.pointer_modes.specs.declared.ctype.Kind.TheVariants as kinds
 use Rattle.pointer_modes.specs.Types.{CType, Pointer, Structure}
 use Rattle.pointer_modes.specs.Layout.{size_of}
 use Rattle.bounds_flow_meaning.specs.Holding.{AreInts}
 use Rattle.region_typing_rules.specs.Verdicts.{Passes}
 use Rattle.region_typing_rules.specs.Scopes.{Scope}
+use Rattle.region_typing_rules.specs.Types.{Counts}
 use Rattle.region_typing_rules.specs.KnownIsSo.{AreLimited}
 use Rattle.region_typing_rules.specs.DeclaredBounds.{declared_bounds}
 
@@ -17,8 +17,10 @@ use Rattle.region_typing_rules.specs.DeclaredBounds.{declared_bounds}
 -- of `int` locals, the base is a pointer of the same mode and element, and the constants are those of terms
 pub record IsFormedFor (structs : List Structure) (types : List CType) (t : CType) (b : Bounds) : Type 0 where
   pub mode : Mode
+  pub kind : Kind
+  pub counts : Counts kind
   pub element : CType
-  pub own : t ≡ Pointer mode kinds.Array element
+  pub own : t ≡ Pointer mode kind element
   pub some : 0 < size_of structs element
   pub ints : AreInts types b
   pub base : (q : ℕ) → b.base ≡ Some q → (k : Kind) × (slice_get types q ≡ Some (Pointer mode k element))

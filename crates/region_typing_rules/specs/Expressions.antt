@@ -1,5 +1,5 @@
 -- The rules of expressions, each with its name, in the order in which they are asked of a node behind its children.
-use Rattle.std.specs.Prelude.{ℕ, suc, ◌+◌, ◌^◌, nat_lt, Bool, true, false, not, ◌&&◌, ◌||◌, ◌==◌, List, [], ◌∷◌, length, pos}
+use Rattle.std.specs.Prelude.{ℕ, suc, ◌+◌, ◌-◌, ◌^◌, nat_lt, Bool, true, false, not, ◌&&◌, ◌||◌, ◌==◌, List, [], ◌∷◌, length, pos}
 use Rattle.std.specs.Prelude.{Option, Some, None, is_none, is_some, slice_index_or}
 use Rattle.ckc_text.specs.declared.place.Place.{Place}
 use Rattle.ckc_text.specs.declared.place.Span.{Span}
@@ -55,13 +55,15 @@ use Rattle.region_typing_rules.specs.Knowing.{knowing}
 use Rattle.region_typing_rules.specs.Types.{type_named, is_number, is_pointer, is_single, is_row, is_checked_pointer, are_comparable, pointer_converts}
 use Rattle.region_typing_rules.specs.Types.{converts}
 use Rattle.region_typing_rules.specs.Cells.{cells_with}
-use Rattle.region_typing_rules.specs.DeclaredBounds.{declared_bounds}
+use Rattle.region_typing_rules.specs.DeclaredBounds.{row_of, declared_bounds}
 
--- where a value may be stored: a local, a cell, or a file-level pointer for which bounds are declared
+-- where a value may be stored: a local, a cell, a file-level pointer for which bounds are declared, or one that a zero ends and whose bounds are
+-- declared as unknown
 pub data Lvalue : Type 0 where
   OfLocal : (local : ℕ) → Lvalue
   OfCell : (place : core.Place) → Lvalue
   OfBounded : (object : ℕ) (bounds : Bounds) → Lvalue
+  OfUnknown : (object : ℕ) → Lvalue
 
 -- what an expression stands for beside its value: nothing, the name of an array, or where a value may be stored
 pub data Standing : Type 0 where
@@ -90,7 +92,7 @@ site_at at span = record { place = at span.from }
 
 -- ---- bounds
 
--- a checked pointer to one element has the ends 0 and 1; no other pointer is built
+-- a checked pointer to one element has the ends 0 and 1; no other has its bounds by its type alone
 abbrev pub bounds_by : Mode → Kind → PointerBounds → Option PointerBounds
 bounds_by modes.Checked kinds.One p = Some p
 bounds_by modes.Checked kinds.Array p = None
@@ -140,9 +142,26 @@ abbrev pub with_bounds : List Structure → Site → Typed → Typed
 with_bounds structs site (Value type zero value place) = Value type zero (noted_if (bounds_at structs type site) value) place
 with_bounds structs site (AStruct number place) = AStruct number place
 
--- as many elements as a number, from the pointer on
-abbrev pub row_of : ℕ → Bounds
-row_of n = record { base = None; lo = constant_term (pos 0); hi = constant_term (pos n) }
+-- a checked pointer in a cell, where a zero may end what it leads to
+abbrev pub in_cell_by : Mode → Kind → (ended : PointerBounds) → Option PointerBounds → Option PointerBounds
+in_cell_by modes.Checked kinds.Nt ended other = Some ended
+in_cell_by modes.Checked kinds.One ended other = other
+in_cell_by modes.Checked kinds.Array ended other = other
+in_cell_by modes.Tainted kind ended other = other
+in_cell_by modes.Raw kind ended other = other
+
+-- the bounds of a value of a type that stands in a cell: the end of a null-terminated pointer may be where it stands
+abbrev pub cell_bounds : List Structure → CType → Site → Option PointerBounds
+cell_bounds structs Int site = None
+cell_bounds structs Char site = None
+cell_bounds structs (Struct number) site = None
+cell_bounds structs (Pointer mode kind target) site =
+    in_cell_by mode kind (record { bounds = row_of 0; size = size_of structs target; terminated = true; site = site })
+    (bounds_at structs (Pointer mode kind target) site)
+
+abbrev pub with_cell_bounds : List Structure → Site → Typed → Typed
+with_cell_bounds structs site (Value type zero value place) = Value type zero (noted_if (cell_bounds structs type site) value) place
+with_cell_bounds structs site (AStruct number place) = AStruct number place
 
 -- the bounds of one element
 abbrev pub one_element : Bounds
@@ -166,6 +185,10 @@ sum_node types direction pointer number site =
 abbrev pub bounded : Scope → Site → Verdict Typed → Verdict Typed
 bounded s site verdict = passing verdict (λ t. Passes (with_bounds s.structs site t))
 
+-- the same where it stands in a cell
+abbrev pub in_cell : Scope → Site → Verdict Typed → Verdict Typed
+in_cell s site verdict = passing verdict (λ t. Passes (with_cell_bounds s.structs site t))
+
 abbrev pub plain : CType → core.Expression → Verdict Typed
 plain type value = Passes (Value type false value ForNothing)
 
@@ -186,7 +209,8 @@ abbrev pub in_force : List Structure → Kind → CType → Option Bounds → Si
 in_force structs kinds.Array target (Some b) site = Some (record { bounds = b; size = size_of structs target; terminated = false; site = site })
 in_force structs kinds.Array target None site = None
 in_force structs kinds.One target bounds site = None
-in_force structs kinds.Nt target bounds site = None
+in_force structs kinds.Nt target (Some b) site = Some (record { bounds = b; size = size_of structs target; terminated = true; site = site })
+in_force structs kinds.Nt target None site = None
 
 -- whether a local is an array
 abbrev pub is_array : List ℕ → ℕ → Bool
@@ -205,11 +229,14 @@ local_typed structs f local (Pointer mode kind target) array site =
     Value (Pointer mode kind target) false (core.Local local (in_force structs kind target (held_at f.held local).bounds site)) (local_standing array local)
 local_typed structs f local (Struct number) array site = AStruct number (OfLocal local)
 
--- the name of an array is a pointer to its first element, with all of them
-abbrev pub array_typed : List Structure → ℕ → CType → ℕ → Site → Typed
-array_typed structs object type length site =
+-- the name of an array is a pointer to its first element, with all of them but the zero that ends it
+abbrev pub array_typed : List Structure → ℕ → CType → ℕ → (ended : Bool) → Site → Typed
+array_typed structs object type length false site =
     Value (Pointer modes.Checked kinds.Array type) false
     (core.AddressOf (core.Direct object 0) (Some (record { bounds = row_of length; size = size_of structs type; terminated = false; site = site }))) ForArray
+array_typed structs object type length true site =
+    Value (Pointer modes.Checked kinds.Nt type) false
+    (core.AddressOf (core.Direct object 0) (Some (record { bounds = row_of (length - 1); size = size_of structs type; terminated = true; site = site }))) ForArray
 
 -- a file-level pointer with the bounds that are declared for it; no other type has any
 abbrev pub pointer_typed : List Structure → ℕ → CType → Bounds → Site → Typed
@@ -220,15 +247,26 @@ pointer_typed structs object (Pointer mode kind target) b site =
     Value (Pointer mode kind target) false
     (core.Load (Pointer mode kind target) (core.Direct object 0) (in_force structs kind target (Some b) site)) (For (OfBounded object b))
 
+-- a file-level pointer whose bounds are declared as unknown: one that a zero ends has none, and others are as without
+abbrev pub unknown_typed : List Structure → ℕ → CType → Site → Typed
+unknown_typed structs object Int site = at_place Int (core.Direct object 0)
+unknown_typed structs object Char site = at_place Char (core.Direct object 0)
+unknown_typed structs object (Struct number) site = at_place (Struct number) (core.Direct object 0)
+unknown_typed structs object (Pointer mode kinds.One target) site = at_place (Pointer mode kinds.One target) (core.Direct object 0)
+unknown_typed structs object (Pointer mode kinds.Array target) site = at_place (Pointer mode kinds.Array target) (core.Direct object 0)
+unknown_typed structs object (Pointer mode kinds.Nt target) site =
+    Value (Pointer mode kinds.Nt target) false (core.Load (Pointer mode kinds.Nt target) (core.Direct object 0) None) (For (OfUnknown object))
+
 -- a file-level variable
-abbrev pub object_typed : List Structure → ℕ → CType → Option Bounds → Site → Typed
-object_typed structs object type None site = at_place type (core.Direct object 0)
-object_typed structs object type (Some b) site = pointer_typed structs object type b site
+abbrev pub object_typed : List Structure → ℕ → CType → WrittenBounds → Site → Typed
+object_typed structs object type None site = with_cell_bounds structs site (at_place type (core.Direct object 0))
+object_typed structs object type (Some None) site = unknown_typed structs object type site
+object_typed structs object type (Some (Some b)) site = pointer_typed structs object type b site
 
 abbrev pub name_typed : Scope → Named → Site → Typed
 name_typed s (Local local type) site = local_typed s.structs s.flow local type (is_array s.arrays local) site
 name_typed s (Object object type bounds) site = object_typed s.structs object type bounds site
-name_typed s (Array object type length) site = array_typed s.structs object type length site
+name_typed s (Array object type length ended) site = array_typed s.structs object type length ended site
 name_typed s Nothing site = Value Int true (core.Number (pos 0)) ForNothing
 
 -- so many bytes behind a place, where checks name another expression
@@ -242,6 +280,7 @@ abbrev pub struct_place : Lvalue → Site → core.Place
 struct_place (OfLocal local) site = core.Through (core.Local local None) core.First 0 site
 struct_place (OfCell place) site = place
 struct_place (OfBounded object bounds) site = core.Direct object 0
+struct_place (OfUnknown object) site = core.Direct object 0
 
 -- a member of a struct, where these are the names of its members: its number, and its type
 abbrev pub member_from : ℕ → List ℕ → List Member → ℕ → Option (ℕ × CType)
@@ -276,6 +315,10 @@ with_elements value span next = needs (is_some (bounds_of value)) E18 span next
 abbrev pub first_element : core.Expression → Site → core.Place
 first_element value site = core.Through value (core.Element (core.Number (pos 0)) false) 0 site
 
+-- the same where that may be the zero at its upper end
+abbrev pub first_or_end : core.Expression → Site → core.Place
+first_or_end value site = core.Through value (core.Element (core.Number (pos 0)) true) 0 site
+
 -- a pointer is asked for its bounds behind the member
 abbrev pub pointed_by : Scope → CType → core.Expression → ℕ → Site → Span → Verdict Typed
 pointed_by s (Pointer mode kinds.One (Struct number)) value name site span = member_at s number (core.Through value core.First 0 site) name site span
@@ -291,6 +334,7 @@ arrowed s (AStruct number place) name site span = breaks E13 span
 abbrev pub pointed_at : CType → core.Expression → Site → Span → Verdict Typed
 pointed_at (Pointer mode kinds.One target) value site span = Passes (at_place target (core.Through value core.First 0 site))
 pointed_at (Pointer mode kinds.Array target) value site span = with_elements value span (Passes (at_place target (first_element value site)))
+pointed_at (Pointer mode kinds.Nt target) value site span = with_elements value span (Passes (at_place target (first_or_end value site)))
 pointed_at _ value site span = breaks E13 span
 
 -- operand-is-pointer: E13. pointer-has-bounds: E18
@@ -298,10 +342,15 @@ abbrev pub dereferenced : Typed → Site → Span → Verdict Typed
 dereferenced (Value type zero value place) site span = pointed_at type value site span
 dereferenced (AStruct number place) site span = breaks E13 span
 
--- the same place, whose check names another expression
+-- an element, but not what stands at the upper end of a null-terminated pointer
+abbrev pub below_end : core.Index → core.Index
+below_end core.First = core.First
+below_end (core.Element number terminated) = core.Element number false
+
+-- the same place, whose check names another expression, and lets no upper end through
 abbrev pub checked_at : core.Place → Site → core.Place
 checked_at (core.Direct object offset) site = core.Direct object offset
-checked_at (core.Through pointer index offset before) site = core.Through pointer index offset site
+checked_at (core.Through pointer index offset before) site = core.Through pointer (below_end index) offset site
 
 -- a pointer to a place, whose check names the address
 abbrev pub pointer_to : CType → core.Place → Site → Typed
@@ -313,9 +362,10 @@ address_at type ForArray site span = breaks E22 span
 address_at type (For (OfLocal local)) site span = breaks E22 span
 address_at type (For (OfCell place)) site span = Passes (pointer_to type place site)
 address_at type (For (OfBounded object bounds)) site span = breaks E22 span
+address_at type (For (OfUnknown object)) site span = breaks E22 span
 
 -- address-of-place: a variable, an element or a member (E12). address-allowed: no local, no array, and no pointer for which bounds are
--- declared (E22)
+-- declared, or that a zero ends and whose bounds are declared as unknown (E22)
 abbrev pub address : Typed → Site → Span → Verdict Typed
 address (Value type zero value place) site span = address_at type place site span
 address (AStruct number place) site span = address_at (Struct number) (For place) site span
@@ -416,6 +466,16 @@ abbrev pub ordered : Comparison → Typed → Typed → Site → Span → Verdic
 ordered comparison (Value t z v p) (Value u y w q) site span = ordered_values comparison t v u w site span
 ordered comparison _ _ site span = breaks E13 span
 
+-- an element, or what stands at the upper end, of a null-terminated pointer
+abbrev pub is_ended_element : core.Expression → Bool
+is_ended_element (core.Load type (core.Through pointer (core.Element number true) offset site) bounds) = true
+is_ended_element _ = false
+
+-- a number that is compared with the constant 0: of such an element that tells whether it is the zero
+abbrev pub zero_test : Typed → Typed → core.Expression → core.Expression
+zero_test (Value t z v p) (Value u true w q) equal = picked (is_number t && is_ended_element v) (core.Not v) equal
+zero_test a b equal = equal
+
 abbrev pub arithmetic : Operator → Site → core.Expression → core.Expression → Verdict Typed
 arithmetic operator site v w = number (core.Arithmetic operator v w site)
 
@@ -426,7 +486,7 @@ binary_typed s binary.BitOr a b site span = two_numbers a b span (arithmetic (op
 binary_typed s binary.BitXor a b site span = two_numbers a b span (arithmetic (operators.Bitwise bits.Xor) site)
 binary_typed s binary.BitAnd a b site span = two_numbers a b span (arithmetic (operators.Bitwise bits.And) site)
 binary_typed s binary.Equal a b site span = passing (equated a b span) number
-binary_typed s binary.NotEqual a b site span = passing (equated a b span) (λ v. number (core.Not v))
+binary_typed s binary.NotEqual a b site span = passing (equated a b span) (λ v. number (core.Not (zero_test a b v)))
 binary_typed s binary.Less a b site span = ordered comparisons.Less a b site span
 binary_typed s binary.LessEqual a b site span = ordered comparisons.LessEqual a b site span
 binary_typed s binary.Greater a b site span = ordered comparisons.Greater a b site span
@@ -447,6 +507,8 @@ beside operator (AStruct number place) s = s
 abbrev pub element_at : CType → core.Expression → core.Expression → Site → Span → Verdict Typed
 element_at (Pointer mode kinds.Array target) pointer number site span =
     with_elements pointer span (Passes (at_place target (core.Through pointer (core.Element number false) 0 site)))
+element_at (Pointer mode kinds.Nt target) pointer number site span =
+    with_elements pointer span (Passes (at_place target (core.Through pointer (core.Element number true) 0 site)))
 element_at _ pointer number site span = breaks E19 span
 
 -- operand-is-pointer with a number for an index (E13), no element of a `ptr` (E19), and pointer-has-bounds (E18)
@@ -555,8 +617,13 @@ abbrev row_bounds : List Structure → Mode → CType → Option Bounds → Site
 row_bounds structs mode target None site = bounds_at structs (Pointer mode kinds.Array target) site
 row_bounds structs mode target (Some b) site = Some (record { bounds = b; size = size_of structs target; terminated = false; site = site })
 
+abbrev ended_bounds : List Structure → CType → Option Bounds → Site → Option PointerBounds
+ended_bounds structs target None site = None
+ended_bounds structs target (Some b) site = Some (record { bounds = b; size = size_of structs target; terminated = true; site = site })
+
 abbrev pub call_bounds : List Structure → CType → Option Bounds → Site → Option PointerBounds
 call_bounds structs (Pointer mode kinds.Array target) bounds site = row_bounds structs mode target bounds site
+call_bounds structs (Pointer mode kinds.Nt target) bounds site = ended_bounds structs target bounds site
 call_bounds structs type bounds site = bounds_at structs type site
 
 -- a call has its bounds from the start, since one that stands alone is evaluated too
@@ -650,18 +717,38 @@ abbrev pub writes : (core.Expression → core.Statement) → List (Typed × Span
 writes of arguments span =
     needs (length arguments == 1) E14 span (passing (arguments_as arguments (Int ∷ [])) (λ values. Passes (GivesNothing (first_of of values))))
 
--- a call of a name that isn't declared. `strlen` isn't a form of which rules speak here
-abbrev pub predefined_call : Given → ℕ → List (Typed × Span) → Span → Verdict Called
-predefined_call given name arguments span = by_name (name == given.next_input) (name == given.print_int) (name == given.putchar)
+-- a checked null-terminated pointer to `char`s
+abbrev pub is_text : CType → Bool
+is_text (Pointer modes.Checked kinds.Nt Char) = true
+is_text _ = false
+
+-- length-of-text: of such a pointer with bounds (E13)
+abbrev pub length_typed : Typed → Site → Span → Verdict Called
+length_typed (Value type zero value place) site span =
+    needs (is_text type && is_some (bounds_of value)) E13 span (Passes (Gives Int (core.Length value site)))
+length_typed (AStruct number place) site span = breaks E13 span
+
+abbrev first_length : List (Typed × Span) → Site → Span → Verdict Called
+first_length [] site span = breaks E14 span
+first_length (argument ∷ arguments) site span = length_typed argument.0 site span
+
+abbrev pub measures : List (Typed × Span) → Site → Span → Verdict Called
+measures arguments site span = needs (length arguments == 1) E14 span (first_length arguments site span)
+
+-- a call of a name that isn't declared
+abbrev pub predefined_call : Given → ℕ → List (Typed × Span) → Site → Span → Verdict Called
+predefined_call given name arguments site span =
+    by_name (name == given.next_input) (name == given.print_int) (name == given.putchar) (name == given.strlen)
   where
-    by_name : Bool → Bool → Bool → Verdict Called
-    by_name true print put = needs (length arguments == 0) E14 span (Passes (Gives Int core.NextInput))
-    by_name false true put = writes core.Print arguments span
-    by_name false false true = writes core.PutByte arguments span
-    by_name false false false = Unnamed
+    by_name : Bool → Bool → Bool → Bool → Verdict Called
+    by_name true print put measure = needs (length arguments == 0) E14 span (Passes (Gives Int core.NextInput))
+    by_name false true put measure = writes core.Print arguments span
+    by_name false false true measure = writes core.PutByte arguments span
+    by_name false false false true = measures arguments site span
+    by_name false false false false = Unnamed
 
 abbrev pub called : Scope → Option Signature → ℕ → List (Typed × Span) → Site → Span → Verdict Called
-called s None name arguments site span = predefined_call s.given name arguments span
+called s None name arguments site span = predefined_call s.given name arguments site span
 called s (Some f) name arguments site span = declared_call s f arguments site span
 
 -- void-stands-alone: a call without a result is only a statement (E13)
@@ -704,12 +791,12 @@ elements_in s t size value =
     or_other (factor_beside s t size value) (picked (is_size s t size) (Some (core.Number (pos 1))) (picked (is_char t) (Some value) None))
 
 -- so many elements from the pointer on, where their number has a term
-abbrev pub row_counted : List Structure → CType → Option Term → Site → Option PointerBounds
-row_counted structs t None site = None
-row_counted structs t (Some n) site = Some (record {
+abbrev pub row_counted : List Structure → CType → (ended : Bool) → Option Term → Site → Option PointerBounds
+row_counted structs t ended None site = None
+row_counted structs t ended (Some n) site = Some (record {
   bounds = record { base = None; lo = constant_term (pos 0); hi = n };
   size = size_of structs t;
-  terminated = false;
+  terminated = ended;
   site = site;
 })
 
@@ -718,7 +805,14 @@ abbrev pub allocation : Scope → CType → core.Expression → Site → Span �
 allocation s t count site span =
     needs (nat_lt 0 (size_of s.structs t)) E13 span
     (plain (Pointer modes.Checked kinds.Array t)
-    (core.Allocate count (cells_with s.structs t (pos 0)) false (row_counted s.structs t (term s.locals count) site)))
+    (core.Allocate count (cells_with s.structs t (pos 0)) false (row_counted s.structs t false (term s.locals count) site)))
+
+-- ended-are-numbers: new memory of so many numbers, and a zero behind them (E13)
+abbrev pub ended_allocation : Scope → CType → core.Expression → Site → Span → Verdict Typed
+ended_allocation s t count site span =
+    needs (is_number t) E13 span
+    (plain (Pointer modes.Checked kinds.Nt t)
+    (core.Allocate count (cells_with s.structs t (pos 0)) true (row_counted s.structs t true (term s.locals count) site)))
 
 abbrev pub allocation_if : Scope → CType → Option core.Expression → Site → Span → Verdict Typed
 allocation_if s t None site span = breaks E13 span
@@ -732,14 +826,18 @@ allocated_in s t size a site span = number_of a span (λ value. allocation_if s 
 abbrev pub allocated_of : Scope → CType → Typed → Expression → Site → Span → Verdict Typed
 allocated_of s t a size site span = number_of a span (λ count. needs (is_size s t size) E13 span (allocation s t count site span))
 
--- what gives tainted memory, and what a zero ends, aren't forms of which rules speak here
+-- the same of what a zero ends
+abbrev pub ended_of : Scope → CType → Typed → Expression → Site → Span → Verdict Typed
+ended_of s t a size site span = number_of a span (λ count. needs (is_size s t size) E13 span (ended_allocation s t count site span))
+
+-- what gives tainted memory isn't a form of which rules speak here
 abbrev pub malloc_typed : MallocWord → Scope → CType → Expression → Typed → Site → Span → Verdict Typed
 malloc_typed malloc_words.Malloc s t size a site span = allocated_in s t size a site span
 malloc_typed malloc_words.TMalloc s t size a site span = breaks E13 span
 
 abbrev pub calloc_typed : CallocWord → Scope → CType → Typed → Expression → Site → Span → Verdict Typed
 calloc_typed calloc_words.Calloc s t a size site span = allocated_of s t a size site span
-calloc_typed calloc_words.NtCalloc s t a size site span = breaks E13 span
+calloc_typed calloc_words.NtCalloc s t a size site span = ended_of s t a size site span
 
 -- ---- casts
 
@@ -818,10 +916,10 @@ abbrev mutual
       passing (type_named s type) (λ t. passing (typed at s count) (λ a. passing (typed at s size)
       (λ b. calloc_typed word s t a size (site_at at span) span)))
   typed at s (e.Index base index span) =
-      bounded s (site_at at span) (passing (typed at s base) (λ a. passing (typed at s index) (λ b. indexed a b (site_at at span) span)))
-  typed at s (e.Dot base member span) = bounded s (site_at at span) (passing (typed at s base) (λ a. dotted s a member.number (site_at at span) span))
-  typed at s (e.Arrow base member span) = bounded s (site_at at span) (passing (typed at s base) (λ a. arrowed s a member.number (site_at at span) span))
-  typed at s (e.Unary operator operand span) = bounded s (site_at at span) (passing (typed at s operand) (λ a. unary_typed operator a (site_at at span) span))
+      in_cell s (site_at at span) (passing (typed at s base) (λ a. passing (typed at s index) (λ b. indexed a b (site_at at span) span)))
+  typed at s (e.Dot base member span) = in_cell s (site_at at span) (passing (typed at s base) (λ a. dotted s a member.number (site_at at span) span))
+  typed at s (e.Arrow base member span) = in_cell s (site_at at span) (passing (typed at s base) (λ a. arrowed s a member.number (site_at at span) span))
+  typed at s (e.Unary operator operand span) = in_cell s (site_at at span) (passing (typed at s operand) (λ a. unary_typed operator a (site_at at span) span))
   typed at s (e.Binary operator left right span) =
       passing (typed at s left) (λ a. passing (typed at (beside operator a s) right) (λ b. binary_typed s operator a b (site_at at span) span))
 

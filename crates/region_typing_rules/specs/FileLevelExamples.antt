@@ -8,12 +8,11 @@ use Rattle.ckc_tree.specs.Expressions as e
 use Rattle.ckc_tree.specs.Expressions.{Expression}
 use Rattle.ckc_tree.specs.Statements.{Declarator}
 use Rattle.pointer_modes.specs.Types.{Int}
-use Rattle.bounds_exprs.specs.declared.term.Bounds.{Bounds}
 use Rattle.ckc_core.specs.declared.program.Direction.TheVariants as directions
 use Rattle.ckc_core.specs.Core as core
 use Rattle.ckc_core.specs.Programs.{open_variable}
 use Rattle.region_typing_rules.specs.Verdicts.{Verdict, Passes, breaks}
-use Rattle.region_typing_rules.specs.Scopes.{Object}
+use Rattle.region_typing_rules.specs.Scopes.{Object, WrittenBounds}
 use Rattle.region_typing_rules.specs.Expressions.{Typed, Value, For, ForNothing, OfBounded, OfCell, address, name_typed}
 use Rattle.region_typing_rules.specs.Statements.{moved, set_to}
 use Rattle.region_typing_rules.specs.Items.{object_bounds, variable_of}
@@ -35,19 +34,21 @@ declared_as array bounds = record {
 abbrev three_more : Expression
 three_more = e.Binary binary.Add (name 2) (e.Number 3 here) here
 
-abbrev bounds_of : e.Bounds → Verdict (Option Bounds)
+abbrev bounds_of : e.Bounds → Verdict WrittenBounds
 bounds_of bounds = object_bounds scope (declared_as None bounds) row
 
 -- bounds name nothing but the pointer itself, though other names stand for locals where it is declared; and an array has none. What has bounds
 -- is sealed
 abbrev pub declared : Type 0
 declared =
-    (bounds_of (e.Count (e.Number 3 here) here) ≡ Passes (Some three)) × (bounds_of (e.Range (name 2) three_more here) ≡ Passes (Some three))
-    × (bounds_of (e.Unknown here) ≡ Passes None) × (bounds_of (e.Count (name 0) here) ≡ breaks E16 here)
+    (bounds_of (e.Count (e.Number 3 here) here) ≡ Passes (Some (Some three)))
+    × (bounds_of (e.Range (name 2) three_more here) ≡ Passes (Some (Some three)))
+    × (bounds_of (e.Unknown here) ≡ Passes (Some None)) × (bounds_of (e.Count (name 0) here) ≡ breaks E16 here)
     × (bounds_of (e.Range (name 1) (name 1) here) ≡ breaks E16 here)
     × (object_bounds scope (declared_as (Some (record { kind = array_kinds.Checked; length = 3; span = here })) (e.Count (e.Number 3 here) here)) Int
     ≡ breaks E16 here)
-    × (variable_of (Some three) [] ≡ record { cells = []; zero_ended = false; is_sealed = true }) × (variable_of None [] ≡ open_variable [])
+    × (variable_of false (Some (Some three)) [] ≡ record { cells = []; zero_ended = false; is_sealed = true })
+    × (variable_of false None [] ≡ open_variable []) × (variable_of false (Some None) [] ≡ open_variable [])
 
 -- ---- names
 
@@ -63,7 +64,7 @@ pointer = Value row false p (For (OfBounded 0 three))
 -- it has its bounds where it is named, and no address; without bounds it is a cell
 abbrev pub names : Type 0
 names =
-    (name_typed scope (Object 0 row (Some three)) site ≡ pointer) × (address pointer site here ≡ breaks E22 here)
+    (name_typed scope (Object 0 row (Some (Some three))) site ≡ pointer) × (address pointer site here ≡ breaks E22 here)
     × (name_typed scope (Object 0 row None) site ≡ Value row false (core.Load row place None) (For (OfCell place)))
 
 -- ---- assignments

@@ -43,7 +43,7 @@ use Rattle.region_typing_rules.specs.Expressions.{Places, Typed, Value, AStruct,
 use Rattle.region_typing_rules.specs.DeclaredBounds.{declared_bounds}
 use Rattle.region_typing_rules.specs.KeptParameters.{all_changed}
 use Rattle.region_typing_rules.specs.Knowing.{all_declared, knowing}
-use Rattle.region_typing_rules.specs.Statements.{length_of, statements, with_local, is_unchecked, is_checked}
+use Rattle.region_typing_rules.specs.Statements.{length_of, is_ended_array, array_element, before_end, statements, with_local, is_unchecked, is_checked}
 
 -- what is known behind an item: what stands at file level, the cells of the file-level variables with the bytes that their
 -- blocks take, and the functions that have bodies, in the order of these
@@ -196,26 +196,33 @@ is_zero_constant c = not c.negative && is_zero_number c.constant
 abbrev pub are_zeros : List SignedConstant → Bool
 are_zeros cs = list_all is_zero_constant cs
 
-abbrev pub listed_cells : List Structure → CType → ℕ → List SignedConstant → Span → Verdict (List Initial)
+abbrev pub listed_cells : List Structure → CType → (length : ℕ) → List SignedConstant → Span → Verdict (List Initial)
 listed_cells structs Int length cs span = cells_or_break (cells_listed structs Int (λ z. z) length cs) span
 listed_cells structs Char length cs span = cells_or_break (cells_listed structs Char low_byte length cs) span
 listed_cells structs (Struct number) length cs span = breaks E13 span
 listed_cells structs (Pointer mode kind target) length cs span =
     needs (are_zeros cs) E13 span (cells_or_break (cells_listed structs (Pointer mode kind target) (λ z. pos 0) length cs) span)
 
--- constant-initialiser: a signed number for a number, 0 or `NULL` for a pointer, and nothing for a struct; for an array of numbers a
--- list of them, for one of pointers a list of zeros, neither longer than it is, and for one of structs nothing (E13, at the item)
-abbrev pub object_cells : Given → List Structure → CType → Option ℕ → Walked → Span → Verdict (List Initial)
-object_cells given structs type None Missing span = Passes (cells_with structs type (pos 0))
-object_cells given structs type None (Written value t) span = written_cells given structs type value t span
-object_cells given structs type None (Constants cs) span = breaks E13 span
-object_cells given structs type (Some length) Missing span = Passes (zeros_of length structs type)
-object_cells given structs type (Some length) (Written value t) span = breaks E13 span
-object_cells given structs type (Some length) (Constants cs) span = listed_cells structs type length cs span
+-- behind the elements of a list stands the zero that ends the array, where one does
+abbrev pub closed : (ended : Bool) → List Structure → CType → List Initial → List Initial
+closed true structs type cells = cells ++ zeros_of 1 structs type
+closed false structs type cells = cells
 
-abbrev pub with_variable : ℕ → CType → Option ℕ → Option Bounds → Scope → Scope
-with_variable name type length bounds g =
-    record g { variables = g.variables ++ record { name = name; type = type; length = length; bounds = bounds } ∷ [] }
+-- constant-initialiser: a signed number for a number, 0 or `NULL` for a pointer, and nothing for a struct; for an array of numbers a
+-- list of them, for one of pointers a list of zeros, neither longer than it is, without the zero that ends it, and for one of structs nothing (E13, at
+-- the item)
+abbrev pub object_cells : Given → List Structure → CType → Option ℕ → (ended : Bool) → Walked → Span → Verdict (List Initial)
+object_cells given structs type None ended Missing span = Passes (cells_with structs type (pos 0))
+object_cells given structs type None ended (Written value t) span = written_cells given structs type value t span
+object_cells given structs type None ended (Constants cs) span = breaks E13 span
+object_cells given structs type (Some length) ended Missing span = Passes (zeros_of length structs type)
+object_cells given structs type (Some length) ended (Written value t) span = breaks E13 span
+object_cells given structs type (Some length) ended (Constants cs) span =
+    passing (listed_cells structs type (before_end ended length) cs span) (λ cells. Passes (closed ended structs type cells))
+
+abbrev pub with_variable : ℕ → CType → Option ℕ → (ended : Bool) → WrittenBounds → Scope → Scope
+with_variable name type length ended bounds g =
+    record g { variables = g.variables ++ record { name = name; type = type; length = length; ended = ended; bounds = bounds } ∷ [] }
 
 -- of how many values of its type a variable consists
 abbrev pub count_of : Option ℕ → ℕ
@@ -250,15 +257,22 @@ bounded_type (Some length) t = Int
 abbrev pub with_own : ℕ → CType → Scope → Scope
 with_own name t g = record g { locals = t ∷ []; visible = record { name = name; local = 0 } ∷ [] }
 
--- the bounds of a file-level variable (E16)
-abbrev pub object_bounds : Scope → Declarator → CType → Verdict (Option Bounds)
-object_bounds g d t = declared_bounds (with_own d.name.number t g) (bounded_type (length_of d) t) 0 d.bounds
+-- what is written, where it comes to these bounds
+abbrev pub written_as : {A : Type 0} → Option A → Option Bounds → WrittenBounds
+written_as None bounds = None
+written_as (Some text) bounds = Some bounds
+
+-- the bounds that are written for a file-level variable (E16)
+abbrev pub object_bounds : Scope → Declarator → CType → Verdict WrittenBounds
+object_bounds g d t =
+    passing (declared_bounds (with_own d.name.number t g) (bounded_type (length_of d) t) 0 d.bounds) (λ b. Passes (written_as d.bounds b))
 
 -- a variable whose children were walked
 pub record WalkedVariable : Type 0 where
   pub type : CType
   pub length : Option ℕ
-  pub bounds : Option Bounds
+  pub ended : Bool
+  pub bounds : WrittenBounds
   pub initial : Walked
 
 abbrev pub variables : Places → Walk → TypeTree → CType → Span → List Declarator → List WalkedVariable → Verdict (Walk × List WalkedVariable)
@@ -266,10 +280,11 @@ variables at w base type span [] done = Passes (w, done)
 variables at w base type span (d ∷ ds) done =
     passing (room_for w base span d) (λ taken.
     passing (without_stars base d.stars type) (λ t.
-    passing (object_bounds w.scope d t) (λ bounds.
-    passing (initializer at (with_variable d.name.number t (length_of d) bounds w.scope) d.initializer) (λ initial.
-    variables at (record w { scope = with_variable d.name.number t (length_of d) bounds w.scope; taken = taken }) base type span ds (done
-    ++ record { type = t; length = length_of d; bounds = bounds; initial = initial } ∷ [])))))
+    array_element (is_ended_array d) t base
+    (passing (object_bounds w.scope d t) (λ bounds.
+    passing (initializer at (with_variable d.name.number t (length_of d) (is_ended_array d) bounds w.scope) d.initializer) (λ initial.
+    variables at (record w { scope = with_variable d.name.number t (length_of d) (is_ended_array d) bounds w.scope; taken = taken }) base type span ds (done
+    ++ record { type = t; length = length_of d; ended = is_ended_array d; bounds = bounds; initial = initial } ∷ []))))))
 
 -- whether there is room for the first variable is asked before the type that all share is walked
 abbrev pub room_for_first : Walk → i.Global → List Declarator → Verdict ℕ
@@ -277,16 +292,16 @@ room_for_first w g [] = Passes w.taken
 room_for_first w g (d ∷ ds) = room_for w g.base g.span d
 
 -- a variable with its cells: no place leads to a pointer for which bounds are declared
-abbrev pub variable_of : Option Bounds → List Initial → Variable
-variable_of bounds cells = record { cells = cells; zero_ended = false; is_sealed = is_some bounds }
+abbrev pub variable_of : (ended : Bool) → WrittenBounds → List Initial → Variable
+variable_of ended bounds cells = record { cells = cells; zero_ended = ended; is_sealed = is_some (bounds_in bounds) }
 
 -- the initialisers are judged behind the children of all. variable-has-cells: a struct is declared, and has members (E10); those
 -- of a source whose names have a meaning are
 abbrev pub with_objects : Walk → Span → List WalkedVariable → Verdict Walk
 with_objects w span [] = Passes w
 with_objects w span (v ∷ vs) =
-    passing (object_cells w.scope.given w.scope.structs v.type v.length v.initial span) (λ cells.
-    needs (nat_lt 0 (length cells)) E10 span (with_objects (record w { objects = w.objects ++ variable_of v.bounds cells ∷ [] }) span vs))
+    passing (object_cells w.scope.given w.scope.structs v.type v.length v.ended v.initial span) (λ cells.
+    needs (nat_lt 0 (length cells)) E10 span (with_objects (record w { objects = w.objects ++ variable_of v.ended v.bounds cells ∷ [] }) span vs))
 
 abbrev pub global : Places → Walk → i.Global → Verdict Walk
 global at w g =
@@ -324,10 +339,11 @@ seen_parameters local (p ∷ parameters) = record { name = p.name.number; local 
 abbrev pub among_parameters : Scope → List i.Member → Scope
 among_parameters g parameters = record g { locals = types_ahead g parameters; visible = seen_parameters 0 parameters }
 
--- what is written, where it comes to these bounds
-abbrev pub written_as : {A : Type 0} → Option A → Option Bounds → WrittenBounds
-written_as None bounds = None
-written_as (Some text) bounds = Some bounds
+-- what is declared: what is written, where it comes to these bounds, and else those that the type has
+abbrev pub declared_as : {A : Type 0} → Option A → Option Bounds → WrittenBounds
+declared_as None None = None
+declared_as None (Some b) = Some (Some b)
+declared_as (Some text) bounds = Some bounds
 
 -- few-parameters: at most 16 (E08, at the parameter's type)
 abbrev pub parameter_types : Scope → (all : List i.Member) → List i.Member → List Parameter → Verdict (List Parameter)
@@ -335,7 +351,7 @@ parameter_types g all [] done = Passes done
 parameter_types g all (p ∷ parameters) done =
     needs (nat_lt (length done) 16) E08 (type_span p.type.base)
     (passing (type_named g p.type) (λ t. passing (declared_bounds (among_parameters g all) t (length done) p.bounds) (λ b.
-    parameter_types g all parameters (done ++ record { name = p.name.number; type = t; bounds = written_as p.bounds b } ∷ []))))
+    parameter_types g all parameters (done ++ record { name = p.name.number; type = t; bounds = declared_as p.bounds b } ∷ []))))
 
 -- bounds of a result count from no pointer (E16, at the bounds)
 abbrev without_base : Option e.Bounds → Option Bounds → Verdict (Option Bounds)
@@ -352,7 +368,7 @@ type_of_result (Some t) = t
 abbrev pub bounds_of_result : Scope → (all : List i.Member) → Option CType → Option e.Bounds → Verdict WrittenBounds
 bounds_of_result g all result bounds =
     passing (declared_bounds (among_parameters g all) (type_of_result result) (length all) bounds) (λ b.
-    passing (without_base bounds b) (λ kept. Passes (written_as bounds kept)))
+    passing (without_base bounds b) (λ kept. Passes (declared_as bounds kept)))
 
 -- stars make a raw pointer (E15)
 abbrev pub result_type : Scope → ResultForm → ℕ → Verdict (Option CType)

@@ -11,9 +11,10 @@ use Rattle.subsumption.specs.ClosedTables.{ClosedTable}
 use Rattle.bounds_flow.specs.declared.held.Held.{Held}
 use Rattle.bounds_flow.specs.declared.steps.Source.{Source}
 use Rattle.bounds_flow.specs.declared.steps.Source.TheVariants as sources
-use Rattle.bounds_flow.specs.Flows.{Knowledge, held_at, left, number_assigned, pointer_assigned, at_head, cut_off, met, settled}
+use Rattle.bounds_flow.specs.Flows.{Knowledge, held_at, left, number_assigned, length_assigned, pointer_assigned, at_head, cut_off, met, settled}
 use Rattle.bounds_flow.specs.Settling.{Finding, Meets, WasLost, Falls, finding}
 use Rattle.bounds_exprs.specs.declared.term.Bounds.{Bounds}
+use Rattle.bounds_exprs.specs.declared.term.Term.{Term}
 use Rattle.bounds_exprs.specs.Normal.{is_same}
 use Rattle.pointer_modes.specs.declared.ctype.Kind.{Kind}
 use Rattle.pointer_modes.specs.declared.ctype.Kind.TheVariants as kinds
@@ -21,7 +22,7 @@ use Rattle.pointer_modes.specs.Types.{CType, Int, Char, Struct, Pointer}
 use Rattle.ckc_core.specs.Core as core
 use Rattle.region_typing_rules.specs.Verdicts.{Verdict, Passes, breaks, picked}
 use Rattle.region_typing_rules.specs.Scopes.{Scope, Visible}
-use Rattle.region_typing_rules.specs.Readings.{Behind, term, own_bounds, based_bounds, behind_local, is_null, is_not_null, told}
+use Rattle.region_typing_rules.specs.Readings.{Behind, term, own_bounds, based_bounds, behind_local, pointer_local, is_null, is_not_null, told}
 
 -- ---- how many locals there are
 
@@ -170,9 +171,19 @@ abbrev pub moved_from : ℕ → Option Behind → Option ℤ
 moved_from local None = None
 moved_from local (Some b) = cond (b.local == local) (Some b.elements) None
 
+-- the local pointer whose elements before the zero an expression counts
+abbrev pub measured_local : List CType → core.Expression → Option ℕ
+measured_local types (core.Length pointer site) = pointer_local types pointer
+measured_local types _ = None
+
+-- an `int` local is assigned such a count, or another number
+abbrev pub count_assigned : ℕ → Option ℕ → Option Term → Knowledge → Knowledge
+count_assigned local None to f = number_assigned local to f
+count_assigned local (Some pointer) to f = length_assigned local pointer f
+
 -- a local of a type is assigned a value: a `char` isn't tracked
 abbrev pub value_assigned : Option CType → List CType → ℕ → core.Expression → Knowledge → Knowledge
-value_assigned (Some Int) types local value f = number_assigned local (term types value) f
+value_assigned (Some Int) types local value f = count_assigned local (measured_local types value) (term types value) f
 value_assigned (Some (Pointer mode kind target)) types local value f =
     pointer_assigned local (source f.vars kind (held_at f.held local).declared value) (moved_from local (behind_local types value))
     (is_not_null types f value) f

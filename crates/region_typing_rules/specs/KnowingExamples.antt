@@ -59,7 +59,7 @@ two first second = s.Block None (s.Then first (s.Then second s.NoMore)) here
 -- ---- what is known
 
 abbrev given : Given
-given = record { null = 100; next_input = 101; print_int = 102; putchar = 103; main = 104 }
+given = record { null = 100; next_input = 101; print_int = 102; putchar = 103; strlen = 105; main = 104 }
 
 abbrev scope : Scope
 scope = record (nothing_known given) {

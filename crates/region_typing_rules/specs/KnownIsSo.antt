@@ -2,25 +2,21 @@
 use Rattle.std.specs.Prelude.{ℕ, ◌<◌, ◌≤◌, ◌≡◌, Bool, List, length, Option, None, Some, slice_get, false, replicate, slice_index_or, true}
 use Rattle.pointer_modes.specs.declared.ctype.Mode.{Mode}
 use Rattle.pointer_modes.specs.declared.ctype.Kind.{Kind}
-use Rattle.pointer_modes.specs.declared.ctype.Kind.TheVariants as kinds
 use Rattle.pointer_modes.specs.Types.{CType, Char, Pointer, Structure}
 use Rattle.pointer_modes.specs.Layout.{size_of}
 use Rattle.ckc_tree.specs.Statements.{Statement}
 use Rattle.bounds_exprs.specs.declared.term.Bounds.{Bounds}
 use Rattle.bounds_exprs.specs.Terms.{is_within, term_limit}
-use Rattle.bounds_flow.specs.declared.held.Held.{Held}
-use Rattle.bounds_flow.specs.Conditions.{IsFlow}
 use Rattle.bounds_flow.specs.Flows.{Knowledge, held_at}
-use Rattle.bounds_flow_meaning.specs.Holding.{AreInts, Fits, HaveTypes, Holds, IsSettled, types_of}
+use Rattle.bounds_flow_meaning.specs.Holding.{AreInts, Fits, HaveTypes, Holds, types_of}
 use Rattle.ckc_core.specs.Outcome.{Gives, Ends, Stuck, Unsound, Short}
 use Rattle.ckc_core.specs.States.{State, Grows, shapes}
-use Rattle.ckc_core.specs.Steps.{Result, Flow, Next, Broke, Continued, Returned, truth}
-use Rattle.ckc_core.specs.Meaning.{Setting, effect, knot, value}
-use Rattle.ckc_core.specs.Core as core
-use Rattle.ckc_core.specs.Core.{Core}
-use Rattle.region_typing_rules.specs.Knowing.{marked, when}
+use Rattle.ckc_core.specs.Steps.{Result, Flow, Next, Broke, Continued, Returned}
+use Rattle.ckc_core.specs.Meaning.{Setting, effect, knot}
+use Rattle.region_typing_rules.specs.Knowing.{marked}
 use Rattle.region_typing_rules.specs.Verdicts.{Passes}
 use Rattle.region_typing_rules.specs.Scopes.{Scope}
+use Rattle.region_typing_rules.specs.Types.{Counts}
 use Rattle.region_typing_rules.specs.Expressions.{Places}
 use Rattle.region_typing_rules.specs.Statements.{Walked, statement}
 
@@ -75,23 +71,7 @@ pub record AreLimited (b : Bounds) : Type 0 where
   pub low : is_within term_limit b.lo.plus ≡ true
   pub high : is_within term_limit b.hi.plus ≡ true
 
-abbrev pub AreLimitedIf : Option Bounds → Type 0
-AreLimitedIf None = Unit {0}
-AreLimitedIf (Some b) = AreLimited b
-
--- the bounds that are declared for a pointer are limited, and they are those that are in force
-pub record IsLimited (h : Held) : Type 0 where
-  pub declared : AreLimitedIf h.declared
-  pub in_force : h.bounds ≡ h.declared
-
 -- ---- scopes of a walk
-
--- a flow between statements, of so many variables
-pub record IsBetween (vars : ℕ) (f : Knowledge) : Type 0 where
-  pub flow : IsFlow f
-  pub size : f.vars ≡ vars
-  pub settled : IsSettled f
-  pub limited : (p : ℕ) → IsLimited (held_at f.held p)
 
 abbrev pub declared_at : Knowledge → ℕ → Option Bounds
 declared_at f p = (held_at f.held p).declared
@@ -105,40 +85,19 @@ pub record IsOutside (n : ℕ) (f h : Knowledge) : Type 0 where
 -- of its mode and element
 pub record IsDeclared (structs : List Structure) (types : List CType) (p : ℕ) (b : Bounds) : Type 0 where
   pub mode : Mode
+  pub kind : Kind
+  pub counts : Counts kind
   pub element : CType
-  pub own : slice_get types p ≡ Some (Pointer mode kinds.Array element)
+  pub own : slice_get types p ≡ Some (Pointer mode kind element)
   pub some : 0 < size_of structs element
   pub ints : AreInts types b
   pub base : (q : ℕ) → b.base ≡ Some q → (k : Kind) × (slice_get types q ≡ Some (Pointer mode k element))
-
--- what is known of some ways out of a loop, or on to its next turn, outside of which there are so many locals
-abbrev pub AreBetween : (vars outside : ℕ) → Knowledge → Option Knowledge → Type 0
-AreBetween vars outside f None = Unit {0}
-AreBetween vars outside f (Some h) = IsBetween vars h × IsOutside outside f h
-
--- what a walk inside a function knows, whose flows have so many variables: a flow with a variable for each local, and others beside
--- it at the ways out of the innermost loop and to its next turn. The bounds of the function's result speak of `int` locals
-pub record IsWalk (vars : ℕ) (g : Scope) : Type 0 where
-  pub between : IsBetween vars g.flow
-  pub few : length g.locals ≤ vars
-  pub beyond : (p : ℕ) → length g.locals ≤ p → declared_at g.flow p ≡ None
-  pub declared : (p : ℕ) (b : Bounds) → declared_at g.flow p ≡ Some b → IsDeclared g.structs g.locals p b
-  pub result : (b : Bounds) → g.result_bounds ≡ Some b → AreInts g.locals b
-  pub outside : g.outside ≤ length g.locals
-  pub breaks : AreBetween vars g.outside g.flow g.breaks
-  pub continues : AreBetween vars g.outside g.flow g.continues
 
 -- the locals of a state have the types of those that are known, and maybe there are more
 abbrev pub HasLocals : List CType → State → Type 0
 HasLocals types s = (x : ℕ) (t : CType) → slice_get types x ≡ Some t → slice_get (types_of s.locals) x ≡ Some t
 
 -- ---- the laws
-
--- what is known behind a condition that came out so is so
-abbrev pub ConditionsAreSo : Type 0
-ConditionsAreSo = (vars : ℕ) (g : Scope) (c : core.Expression) → IsWalk vars g → (structs : List Structure) (audited : Bool) (setting : Setting) (ticks : ℕ)
-    (s : State) → HasLocals g.locals s → IsKnown structs g s
-    → WhereGiven (λ v t. IsKnown structs (when c (truth v) g) t) (value audited setting (knot audited setting ticks) c s)
 
 -- from the one state to the other, blocks are only added, and of the locals that have marks only those change whose mark is set
 pub record ChangesMarked (marks : List Bool) (s t : State) : Type 0 where

@@ -14,6 +14,7 @@ pub mod KnownIsSo
 pub mod Readings
 pub mod ReadingExamples
 pub mod Typed
+pub mod ConditionsAreSo
 pub mod Lowerable
 pub mod Knowing
 pub mod KnowingExamples
@@ -22,3 +23,4 @@ pub mod KeptParameters
 pub mod KeptExamples
 pub mod MemoryExamples
 pub mod FileLevelExamples
+pub mod EndedExamples

@@ -38,7 +38,7 @@ abbrev pub site : Site
 site = record { place = record { line = 1; col = 1 } }
 
 abbrev given : Given
-given = record { null = 100; next_input = 101; print_int = 102; putchar = 103; main = 104 }
+given = record { null = 100; next_input = 101; print_int = 102; putchar = 103; strlen = 105; main = 104 }
 
 abbrev pub scope : Scope
 scope = record (nothing_known given) {

@@ -8,7 +8,9 @@ use Rattle.bounds_exprs.specs.Changes.{moved_by}
 use Rattle.bounds_flow.specs.declared.steps.How.{How}
 use Rattle.bounds_flow.specs.declared.steps.How.TheVariants as hows
 use Rattle.bounds_flow.specs.declared.steps.Test.TheVariants.{NotNull, Compare}
-use Rattle.bounds_flow.specs.Flows.{Knowledge, variable, held_at, assumed, met}
+use Rattle.bounds_flow.specs.Flows.{Knowledge, variable, held_at, assumed, met, widened}
+use Rattle.pointer_modes.specs.declared.ctype.Mode.TheVariants as modes
+use Rattle.pointer_modes.specs.declared.ctype.Kind.TheVariants as kinds
 use Rattle.pointer_modes.specs.Types.{CType, Int, Pointer}
 use Rattle.ckc_tree.specs.declared.expr.BinaryOperator.{BinaryOperator}
 use Rattle.ckc_tree.specs.declared.expr.BinaryOperator.TheVariants as binary
@@ -185,6 +187,29 @@ same_told types left right truth f =
     picked (is_null right) (null_told (pointer_local types left) (not truth) f)
     (picked (is_null left) (null_told (pointer_local types right) (not truth) f) f)
 
+-- a local that is a checked null-terminated pointer
+abbrev pub is_ended_local : Option CType → Bool
+is_ended_local (Some (Pointer modes.Checked kinds.Nt target)) = true
+is_ended_local _ = false
+
+-- the element at an index of a local isn't zero
+abbrev pub element_told : Bool → ℕ → Option Term → Knowledge → Knowledge
+element_told false local index f = f
+element_told true local None f = f
+element_told true local (Some index) f = widened local index f
+
+-- the same of what stands at a number of elements behind a pointer: `p[e]` and `*p`, and `*(p + e)`
+abbrev pub elements_told : List CType → (pointer number : core.Expression) → Knowledge → Knowledge
+elements_told types (core.Local local bounds) number f = element_told (is_ended_local (slice_get types local)) local (term types number) f
+elements_told types (core.Sum (core.Local local bounds) directions.Forward elements site own) (core.Number (pos ℕ.zero)) f =
+    element_told (is_ended_local (slice_get types local)) local (term types elements) f
+elements_told types pointer number f = f
+
+-- what stands at a place isn't zero
+abbrev pub place_told : List CType → core.Place → Knowledge → Knowledge
+place_told types (core.Through pointer (core.Element number true) offset site) f = elements_told types pointer number f
+place_told types _ f = f
+
 -- what is known behind a condition that came out so
 abbrev pub told : List CType → core.Expression → Bool → Knowledge → Knowledge
 told types (core.AndAlso left right) true f = told types right true (told types left true f)
@@ -194,6 +219,8 @@ told types (core.OrElse left right) false f = told types right false (told types
 told types (core.Not operand) truth f = told types operand (not truth) f
 told types (core.Compare comparison left right) truth f = compared comparison (term types left) (term types right) truth f
 told types (core.Same left right) truth f = same_told types left right truth f
+told types (core.Load type place bounds) true f = place_told types place f
+told types (core.Load type place bounds) false f = f
 told types (core.Local local bounds) truth f = null_told (pointer_local types (core.Local local bounds)) truth f
 told types _ truth f = f
 

@@ -27,12 +27,14 @@ pub record Signature : Type 0 where
   pub result : Option CType
   pub result_bounds : WrittenBounds
 
--- a file-level variable; an array has so many elements of the type, and a pointer may have bounds that are declared for it
+-- a file-level variable; an array has so many elements of the type, of which the last one may be the zero that ends it, and a pointer may have
+-- bounds that are written for it
 pub record FileVariable : Type 0 where
   pub name : ℕ
   pub type : CType
   pub length : Option ℕ
-  pub bounds : Option Bounds
+  pub ended : Bool
+  pub bounds : WrittenBounds
 
 -- a local that is visible: its name, and its number in its function
 pub record Visible : Type 0 where
@@ -68,10 +70,10 @@ pub record Scope : Type 0 where
 -- what a name stands for as an expression
 pub data Named : Type 0 where
   Local : (local : ℕ) (type : CType) → Named
-  -- a file-level variable, with the bounds that are declared for it
-  Object : (object : ℕ) (type : CType) (bounds : Option Bounds) → Named
-  -- an array of so many elements
-  Array : (object : ℕ) (type : CType) (length : ℕ) → Named
+  -- a file-level variable, with the bounds that are written for it
+  Object : (object : ℕ) (type : CType) (bounds : WrittenBounds) → Named
+  -- an array of so many elements, which a zero ends or not
+  Array : (object : ℕ) (type : CType) (length : ℕ) (ended : Bool) → Named
   -- `NULL`
   Nothing : Named
 
@@ -90,7 +92,7 @@ local_named types (v ∷ visible) name = found_if (name == v.name) (local_if (sl
 
 abbrev pub object_of : ℕ → FileVariable → Option ℕ → Named
 object_of number v None = Object number v.type v.bounds
-object_of number v (Some length) = Array number v.type length
+object_of number v (Some length) = Array number v.type length v.ended
 
 -- the file-level variable of a name, where the first of these has a number
 abbrev pub object_named : ℕ → List FileVariable → ℕ → Option Named

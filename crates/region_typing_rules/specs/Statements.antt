@@ -1,5 +1,5 @@
 -- The rules of statements, in the order in which they are asked of a node behind its children.
-use Rattle.std.specs.Prelude.{◌&&◌, ℕ, Bool, true, false, not, ◌||◌, nat_lt, List, [], ◌∷◌, ◌++◌, length, Option, Some, None, option_map, pos}
+use Rattle.std.specs.Prelude.{◌&&◌, ◌-◌, ℕ, Bool, true, false, not, ◌||◌, nat_lt, List, [], ◌∷◌, ◌++◌, length, Option, Some, None, option_map, pos}
 use Rattle.ckc_text.specs.declared.place.Span.{Span}
 use Rattle.ckc_text.specs.declared.code.Code.TheVariants.{E08, E12, E13, E15, E18, E30, E17}
 use Rattle.ckc_tree.specs.declared.stmt.Mark.{Mark}
@@ -8,14 +8,17 @@ use Rattle.ckc_tree.specs.declared.stmt.StoreOperator.{StoreOperator}
 use Rattle.ckc_tree.specs.declared.stmt.StoreOperator.TheVariants as stores
 use Rattle.ckc_tree.specs.declared.stmt.StepOperator.{StepOperator}
 use Rattle.ckc_tree.specs.declared.stmt.StepOperator.TheVariants as steps
-use Rattle.ckc_tree.specs.Types.{TypeTree}
+use Rattle.ckc_tree.specs.Types.{TypeTree, type_span}
 use Rattle.ckc_tree.specs.declared.stmt.ArrayForm.{ArrayForm}
+use Rattle.ckc_tree.specs.declared.stmt.ArrayKind.{ArrayKind}
+use Rattle.ckc_tree.specs.declared.stmt.ArrayKind.TheVariants as array_kinds
 use Rattle.ckc_tree.specs.Expressions as e
 use Rattle.ckc_tree.specs.Expressions.{Expression, expression_span}
 use Rattle.ckc_tree.specs.Statements as s
 use Rattle.ckc_tree.specs.Statements.{Initializer, Declarator, Declaration, Assignment, assignment_span, ForInitial, Statement, Statements}
 use Rattle.bounds_flow.specs.Flows.{Knowledge, entered, met}
 use Rattle.pointer_modes.specs.declared.ctype.Mode.TheVariants as modes
+use Rattle.pointer_modes.specs.declared.ctype.Kind.{Kind}
 use Rattle.pointer_modes.specs.declared.ctype.Kind.TheVariants as kinds
 use Rattle.pointer_modes.specs.Types.{CType, Int, Char, Struct, Pointer}
 use Rattle.ckc_core.specs.declared.program.Site.{Site}
@@ -27,13 +30,13 @@ use Rattle.ckc_core.specs.Core as core
 use Rattle.ckc_core.specs.Steps.{is_char}
 use Rattle.region_typing_rules.specs.Verdicts.{Verdict, Passes, passing, needs, breaks}
 use Rattle.region_typing_rules.specs.Scopes.{Scope}
-use Rattle.region_typing_rules.specs.Types.{is_scalar, without_stars, base_type}
+use Rattle.region_typing_rules.specs.Types.{is_scalar, may_lead_to, without_stars, base_type}
 use Rattle.region_typing_rules.specs.Expressions.{Places, Typed, Value, AStruct, ForNothing, ForArray, For, Called, Gives, GivesNothing, asked_of, meets}
-use Rattle.region_typing_rules.specs.Expressions.{Lvalue, OfLocal, OfCell, OfBounded, site_at}
+use Rattle.region_typing_rules.specs.Expressions.{Lvalue, OfLocal, OfCell, OfBounded, OfUnknown, site_at}
 use Rattle.region_typing_rules.specs.Expressions.{typed, call_typed, scalar_of, converted, bounds_met, number_of, two_numbers}
-use Rattle.region_typing_rules.specs.Expressions.{without_ptr, operator_along, sum_node, row_of, allocation}
+use Rattle.region_typing_rules.specs.Expressions.{without_ptr, operator_along, sum_node, allocation, ended_allocation}
 use Rattle.region_typing_rules.specs.Cells.{is_length}
-use Rattle.region_typing_rules.specs.DeclaredBounds.{declared_bounds}
+use Rattle.region_typing_rules.specs.DeclaredBounds.{row_of, unwritten_bounds, declared_bounds}
 use Rattle.region_typing_rules.specs.Readings.{told}
 use Rattle.region_typing_rules.specs.Knowing.{assigned_by, settling, outside_of, knowing, when, cut, broken, continued, with_others, at_loop}
 
@@ -51,6 +54,7 @@ abbrev pub store : Lvalue → CType → core.Expression → core.Statement
 store (OfLocal local) type value = core.SetLocal local value
 store (OfCell place) type value = core.Store type place value
 store (OfBounded object bounds) type value = core.Store type (core.Direct object 0) value
+store (OfUnknown object) type value = core.Store type (core.Direct object 0) value
 
 -- the checks of an update name the whole assignment
 abbrev pub updated_place : core.Place → Site → core.Place
@@ -61,6 +65,7 @@ abbrev pub update : Lvalue → CType → Operator → core.Expression → Site �
 update (OfLocal local) type operator value site = core.UpdateLocal (is_char type) local operator value site
 update (OfCell place) type operator value site = core.Update type (updated_place place site) operator value site
 update (OfBounded object bounds) type operator value site = core.Update type (core.Direct object 0) operator value site
+update (OfUnknown object) type operator value site = core.Update type (core.Direct object 0) operator value site
 
 -- target-is-place: a variable, an element or a member, and no array (E12). target-is-scalar: E13
 abbrev pub assigned : Typed → Span → (CType → Lvalue → Verdict core.Statement) → Verdict core.Statement
@@ -70,10 +75,11 @@ assigned (Value type zero value (For place)) span next = next type place
 assigned (AStruct number place) span next = breaks E13 span
 
 -- the bounds that are declared for where a value goes, which it is asked for at once; those of a local are asked when what is known is settled
-abbrev pub declared_for : Lvalue → Option Bounds
-declared_for (OfLocal local) = None
-declared_for (OfCell place) = None
-declared_for (OfBounded object bounds) = Some bounds
+abbrev pub declared_for : Lvalue → CType → Option Bounds
+declared_for (OfLocal local) type = None
+declared_for (OfCell place) type = unwritten_bounds type
+declared_for (OfBounded object bounds) type = Some bounds
+declared_for (OfUnknown object) type = None
 
 -- the bounds of a value meet those that are declared for where it goes, and those of the type there
 abbrev pub meets_declared : Knowledge → Option Bounds → Typed → CType → Bool
@@ -85,15 +91,16 @@ meets_declared f bounds (AStruct number place) to = true
 abbrev pub set_to : Knowledge → Typed → Typed → Span → Verdict core.Statement
 set_to f target right span =
     assigned target span (λ type place. converted right type span (λ value.
-    needs (meets_declared f (declared_for place) right type) E17 span (Passes (store place type value))))
+    needs (meets_declared f (declared_for place type) right type) E17 span (Passes (store place type value))))
 
--- a pointer with bounds becomes a sum of it, which a file-level pointer is asked for its bounds (E17); a pointer in a cell has no bounds, so it
--- has no sums
+-- a pointer with bounds becomes a sum of it, which a file-level pointer is asked for its bounds (E17), and so is a null-terminated one in a cell;
+-- other pointers in cells have no bounds, so they have no sums. No sum is stored in a cell, not even one of 0
 abbrev pub moved : Knowledge → Lvalue → CType → core.Expression → Span → Verdict core.Statement
 moved f (OfLocal local) type sum span = Passes (core.SetLocal local sum)
-moved f (OfCell place) type sum span = breaks E18 span
+moved f (OfCell place) type sum span = needs (meets f sum (unwritten_bounds type)) E17 span (breaks E18 span)
 moved f (OfBounded object bounds) type sum span =
     needs (meets f sum (Some bounds)) E17 span (Passes (core.Store type (core.Direct object 0) sum))
+moved f (OfUnknown object) type sum span = breaks E18 span
 
 abbrev pub updated_as : Scope → Direction → CType → Lvalue → Typed → Typed → Site → Span → Verdict core.Statement
 updated_as g direction (Pointer mode kind target) place (Value type zero pointer old) right site span =
@@ -187,13 +194,44 @@ plain_local at g base type span d =
 abbrev pub length_of : Declarator → Option ℕ
 length_of d = option_map (λ (a : ArrayForm). a.length) d.array
 
+-- whether a zero ends the array that is declared
+abbrev ends_array : Option ArrayForm → Bool
+ends_array None = false
+ends_array (Some a) = is_ended_kind a.kind
+  where
+    is_ended_kind : ArrayKind → Bool
+    is_ended_kind array_kinds.Checked = false
+    is_ended_kind array_kinds.NullTerminated = true
+
+abbrev pub is_ended_array : Declarator → Bool
+is_ended_array d = ends_array d.array
+
+abbrev pub array_kind : (ended : Bool) → Kind
+array_kind true = kinds.Nt
+array_kind false = kinds.Array
+
+-- how many elements of so many stand before the zero that ends them, where one does
+abbrev pub before_end : (ended : Bool) → ℕ → ℕ
+before_end true count = count - 1
+before_end false count = count
+
 -- a pointer to the first of so many elements, which nothing else is assigned to
-abbrev pub row_type : CType → CType
-row_type t = Pointer modes.Checked kinds.Array t
+abbrev pub row_type : (ended : Bool) → CType → CType
+row_type ended t = Pointer modes.Checked (array_kind ended) t
 
 -- a local array more, which is visible from now on
-abbrev pub with_array : ℕ → CType → ℕ → Scope → Scope
-with_array name t count g = record (with_local name (row_type t) (Some (row_of count)) g) { arrays = length g.locals ∷ g.arrays }
+abbrev pub with_array : ℕ → CType → ℕ → (ended : Bool) → Scope → Scope
+with_array name t count ended g =
+    record (with_local name (row_type ended t) (Some (row_of (before_end ended count))) g) { arrays = length g.locals ∷ g.arrays }
+
+-- ended-are-numbers: a zero ends only numbers (E13, at the type)
+abbrev pub array_element : {A : Type 0} → (ended : Bool) → CType → TypeTree → Verdict A → Verdict A
+array_element ended t base next = needs (may_lead_to (array_kind ended) t) E13 (type_span base) next
+
+-- new memory for an array
+abbrev pub array_memory : Scope → (ended : Bool) → CType → ℕ → Site → Span → Verdict Typed
+array_memory g false t count site span = allocation g t (core.Number (pos count)) site span
+array_memory g true t count site span = ended_allocation g t (core.Number (pos (count - 1))) site span
 
 -- bounds-on-pointer: an array has no others than those of its elements (E16, at the bounds)
 abbrev pub array_bounds : Scope → Option e.Bounds → Verdict (Option Bounds)
@@ -212,21 +250,22 @@ made_array g local memory t span =
     passing (settling (assigned_by g.locals (core.SetLocal local v) g.flow) span)
     (λ f. Passes (both (core.SetLocal local (zero_value t)) (core.SetLocal local v), knowing f g)))
 
-abbrev pub array_in : Places → Scope → ℕ → Declarator → CType → ℕ → Span → Verdict Walked
-array_in at g local d t count span =
+abbrev pub array_in : Places → Scope → ℕ → Declarator → CType → ℕ → (ended : Bool) → Span → Verdict Walked
+array_in at g local d t count ended span =
     passing (array_bounds g d.bounds) (λ bounds.
     passing (without_initial at g d.initializer span) (λ initial.
-    passing (allocation g t (core.Number (pos count)) (site_at at span) span) (λ memory. made_array g local memory (row_type t) span)))
+    passing (array_memory g ended t count (site_at at span) span) (λ memory. made_array g local memory (row_type ended t) span)))
 
 -- array-has-length: E08, at the declaration
-abbrev pub array_local : Places → Scope → TypeTree → CType → Span → Declarator → ℕ → Verdict Walked
-array_local at g base type span d count =
+abbrev pub array_local : Places → Scope → TypeTree → CType → Span → Declarator → ℕ → (ended : Bool) → Verdict Walked
+array_local at g base type span d count ended =
     needs (is_length (Some count)) E08 span
-    (passing (without_stars base d.stars type) (λ t. array_in at (with_array d.name.number t count g) (length g.locals) d t count span))
+    (passing (without_stars base d.stars type) (λ t.
+    array_element ended t base (array_in at (with_array d.name.number t count ended g) (length g.locals) d t count ended span)))
 
 abbrev pub local_of : Places → Scope → TypeTree → CType → Span → Declarator → Option ℕ → Verdict Walked
 local_of at g base type span d None = plain_local at g base type span d
-local_of at g base type span d (Some count) = array_local at g base type span d count
+local_of at g base type span d (Some count) = array_local at g base type span d count (is_ended_array d)
 
 abbrev pub declarator : Places → Scope → TypeTree → CType → Span → Declarator → Verdict Walked
 declarator at g base type span d = few_locals g span (local_of at g base type span d (length_of d))

@@ -30,11 +30,12 @@ use Rattle.ckc_core.specs.States.{Value, Number, Null, At, Local, State, Shape, 
 use Rattle.ckc_core.specs.Meaning.{bounds_of}
 use Rattle.ckc_core.specs.Steps.{is_char, is_zero}
 use Rattle.ckc_core.specs.Pointers.{element_size}
-use Rattle.region_typing_rules.specs.Types.{is_number, is_scalar}
+use Rattle.region_typing_rules.specs.Types.{Counts, is_number, is_scalar}
 use Rattle.region_typing_rules.specs.Scopes.{Scope}
 use Rattle.region_typing_rules.specs.Knowing.{when}
 use Rattle.region_typing_rules.specs.Readings.{constant, against, term, pointer_local, own_bounds, based_bounds}
-use Rattle.region_typing_rules.specs.Expressions.{bounds_at, row_of, one_element, at_call}
+use Rattle.region_typing_rules.specs.Expressions.{bounds_at, one_element, at_call}
+use Rattle.region_typing_rules.specs.DeclaredBounds.{row_of}
 use Rattle.region_typing_rules.specs.KnownIsSo.{HasLocals, IsKnown, AreLimited}
 use Rattle.region_typing_rules.specs.Lowerable.{IsRoomy}
 
@@ -52,6 +53,13 @@ pub record Frame : Type 0 where
 -- the bounds at the node of a value of a type
 abbrev pub HasBounds : List Structure → CType → Option PointerBounds → Type 0
 HasBounds structs t b = (site : Site) × (b ≡ bounds_at structs t site)
+
+-- the bounds at the node of a value of a type that stands in a cell: it may have none, or those of its type, or, in a row that a zero ends, be where
+-- the end may be
+pub data HasCellBounds (structs : List Structure) : CType → Option PointerBounds → Type 0 where
+  unbounded : {t : CType} → HasCellBounds structs t None
+  by_type : {t : CType} {b : Option PointerBounds} → HasBounds structs t b → HasCellBounds structs t b
+  at_end : {mode : Mode} {t : CType} {site : Site} → HasCellBounds structs (Pointer mode kinds.Nt t) (Some (at_node (row_of 0) (size_of structs t) true site))
 
 -- so many numbers of a type stand in a block of this shape, and a zero behind them, to which pointers may lead
 pub record IsEndedRow (structs : List Structure) (s : Shape) (type : CType) (n : ℕ) : Type 0 where
@@ -92,13 +100,15 @@ IsNumberResult (Some t) = is_number t ≡ true
 -- parameters with bounds are pointers to arrays
 abbrev pub HaveRows : List CType → List (Option Bounds) → Type 0
 HaveRows types bounds = (x : ℕ) (b : Bounds) → slice_get bounds x ≡ Some (Some b)
-    → (m : Mode) × (t : CType) × (slice_get types x ≡ Some (Pointer m kinds.Array t))
+    → (m : Mode) × (k : Kind) × (t : CType) × (slice_get types x ≡ Some (Pointer m k t)) × Counts k
 
 -- the bounds of a result are those of a pointer to an array, count from no pointer, and their ends speak of parameters that are `int`
 pub record AreOfResult (types : List CType) (result : Option CType) (b : Bounds) : Type 0 where
   pub mode : Mode
+  pub kind : Kind
+  pub counts : Counts kind
   pub element : CType
-  pub is : result ≡ Some (Pointer mode kinds.Array element)
+  pub is : result ≡ Some (Pointer mode kind element)
   pub base : b.base ≡ None
   pub ints : AreInts types b
 
@@ -188,12 +198,6 @@ AreAsked structs here terms pointers (core.More e rest) [] = Unit {0}
 AreAsked structs here terms pointers (core.More e rest) (b ∷ bounds) =
     IsAskedAt structs here terms pointers e b × AreAsked structs here terms pointers rest bounds
 
--- a pointer of this kind counts the elements of an array
-abbrev pub Counts : Kind → Type 0
-Counts kinds.One = ⊥
-Counts kinds.Array = Unit {0}
-Counts kinds.Nt = Unit {0}
-
 -- a pointer that counts elements is one of the same kind, or one to an array
 abbrev pub CountsAs : Kind → Kind → Type 0
 CountsAs kinds.Array kinds.Array = Unit {0}
@@ -210,9 +214,9 @@ pub record IsNodeOf (structs : List Structure) (type : CType) (p : PointerBounds
 pub data HasCallBounds (structs : List Structure) (locals : List CType) (terms : List (Option Term)) :
     CType → Option Bounds → Option PointerBounds → Type 0 where
   by_type : {t : CType} {declared : Option Bounds} {b : Option PointerBounds} → HasBounds structs t b → HasCallBounds structs locals terms t declared b
-  by_result : {mode : Mode} {target : CType} {declared : Bounds} {p : PointerBounds} → ends_filled_in terms declared ≡ Some p.bounds
-      → IsNodeOf structs (Pointer mode kinds.Array target) p → 0 < size_of structs target → AreLimited p.bounds → p.bounds.base ≡ None → AreInts locals p.bounds
-      → HasCallBounds structs locals terms (Pointer mode kinds.Array target) (Some declared) (Some p)
+  by_result : {mode : Mode} {kind : Kind} {target : CType} {declared : Bounds} {p : PointerBounds} → ends_filled_in terms declared ≡ Some p.bounds
+      → Counts kind → IsNodeOf structs (Pointer mode kind target) p → 0 < size_of structs target → AreLimited p.bounds → p.bounds.base ≡ None
+      → AreInts locals p.bounds → HasCallBounds structs locals terms (Pointer mode kind target) (Some declared) (Some p)
 
 -- so many values of the type stand in a row from the beginning of a block of this shape on
 abbrev pub AreRows : List Structure → Shape → CType → ℕ → Type 0
@@ -304,8 +308,8 @@ mutual
         → HasBounds g.structs (Pointer mode kinds.One t) (bounds_of e) → HasType g locals here e (Pointer mode kinds.Array t)
     ended_row : {here : Scope} {e : Expression} {mode : Mode} {t : CType} → HasType g locals here e (Pointer mode kinds.Nt t)
         → HasType g locals here e (Pointer mode kinds.Array t)
-    load : {here : Scope} {t : CType} {p : Place} {b : Option PointerBounds} → is_scalar t ≡ true → HasAccess g locals here p t → HasBounds g.structs t b
-        → HasType g locals here (core.Load t p b) t
+    load : {here : Scope} {t : CType} {p : Place} {b : Option PointerBounds} → is_scalar t ≡ true → HasAccess g locals here p t
+        → HasCellBounds g.structs t b → HasType g locals here (core.Load t p b) t
     -- a file-level pointer with the bounds that are declared for it
     bounded_object : {here : Scope} {object : ℕ} {mode : Mode} {kind : Kind} {t : CType} {p : PointerBounds} → IsBoundedObject g object mode kind t p.bounds
         → IsNodeOf g.structs (Pointer mode kind t) p
@@ -368,9 +372,9 @@ mutual
         → HasType g locals here e (Pointer modes.Checked kind t) → HasElements g.structs e (Pointer modes.Checked kind t) p → AreLocalsOf locals here
         → HasBounds g.structs (Pointer modes.Checked kinds.One t) b → HasType g locals here (core.Cast e b) (Pointer modes.Checked kinds.One t)
     -- one without bounds
-    cast_unbounded : {here : Scope} {e : Expression} {mode : Mode} {kind : Kind} {t : CType} {p : PointerBounds}
+    cast_unbounded : {here : Scope} {e : Expression} {mode : Mode} {kind kind' : Kind} {t : CType} {p : PointerBounds}
         → HasType g locals here e (Pointer mode kind t) → HasElements g.structs e (Pointer mode kind t) p
-        → HasType g locals here (core.Cast e None) (Pointer mode kinds.Array t)
+        → CountsAs kind kind' → HasType g locals here (core.Cast e None) (Pointer mode kind' t)
 
   -- arguments, and the types of the parameters
   pub data HaveTypes (g : Frame) (locals : List CType) : Scope → Arguments → List CType → Type 0 where
@@ -412,9 +416,9 @@ pub data IsSimple (g : Frame) (locals : List CType) (here : Scope) : Statement �
   store : {t : CType} {p : Place} {e : Expression} → is_scalar t ≡ true → HasAccess g locals here p t → HasType g locals here e t
       → IsSimple g locals here (core.Store t p e)
   -- a file-level pointer is asked for the bounds that are declared for it
-  store_bounded : {object : ℕ} {mode : Mode} {t : CType} {b : Bounds} {e : Expression} → IsBoundedObject g object mode kinds.Array t b
-      → HasType g locals here e (Pointer mode kinds.Array t) → IsAsked g.structs here e b
-      → IsSimple g locals here (core.Store (Pointer mode kinds.Array t) (core.Direct object 0) e)
+  store_bounded : {object : ℕ} {mode : Mode} {kind : Kind} {t : CType} {b : Bounds} {e : Expression} → Counts kind
+      → IsBoundedObject g object mode kind t b → HasType g locals here e (Pointer mode kind t) → IsAsked g.structs here e b
+      → IsSimple g locals here (core.Store (Pointer mode kind t) (core.Direct object 0) e)
   update_local : {char : Bool} {k : ℕ} {t : CType} {operator : Operator} {e : Expression} {site : Site} → slice_get locals k ≡ Some t
       → is_number t ≡ true → is_char t ≡ char → HasType g locals here e Int → IsSimple g locals here (core.UpdateLocal char k operator e site)
   update : {t : CType} {p : Place} {operator : Operator} {e : Expression} {site : Site} → is_number t ≡ true → HasAccess g locals here p t
@@ -433,7 +437,8 @@ IsReturned structs here e Int bounds = Unit {0}
 IsReturned structs here e Char bounds = Unit {0}
 IsReturned structs here e (Struct number) bounds = Unit {0}
 IsReturned structs here e (Pointer mode kinds.One target) bounds = Unit {0}
-IsReturned structs here e (Pointer mode kinds.Nt target) bounds = Unit {0}
+IsReturned structs here e (Pointer mode kinds.Nt target) None = Unit {0}
+IsReturned structs here e (Pointer mode kinds.Nt target) (Some b) = IsAsked structs here e b
 IsReturned structs here e (Pointer mode kinds.Array target) None = Unit {0}
 IsReturned structs here e (Pointer mode kinds.Array target) (Some b) = IsAsked structs here e b
 

@@ -1,6 +1,6 @@
 -- The types that are written in a source, and what converts to what.
 use Rattle.std.specs.Prelude.{ℕ, Bool, true, false, ◌&&◌, ◌||◌, ◌==◌}
-use Rattle.ckc_text.specs.declared.code.Code.TheVariants.{E15}
+use Rattle.ckc_text.specs.declared.code.Code.TheVariants.{E13, E15}
 use Rattle.ckc_tree.specs.declared.type_form.PointerMode.{PointerMode}
 use Rattle.ckc_tree.specs.declared.type_form.PointerMode.TheVariants as written_modes
 use Rattle.ckc_tree.specs.declared.type_form.PointerKind.{PointerKind}
@@ -28,13 +28,26 @@ kind_of written_kinds.NullTerminated = kinds.Nt
 abbrev pub without_stars : TypeTree → ℕ → CType → Verdict CType
 without_stars base stars t = needs (stars == 0) E15 (type_span base) (Passes t)
 
--- a type without stars
+abbrev pub is_number : CType → Bool
+is_number Int = true
+is_number Char = true
+is_number (Struct number) = false
+is_number (Pointer mode kind target) = false
+
+-- what a pointer of this kind may lead to: a zero ends only numbers
+abbrev pub may_lead_to : Kind → CType → Bool
+may_lead_to kinds.One t = true
+may_lead_to kinds.Array t = true
+may_lead_to kinds.Nt t = is_number t
+
+-- a type without stars. ended-are-numbers: a zero ends only numbers (E13)
 abbrev pub base_type : Scope → TypeTree → Verdict CType
 base_type s (IntType span) = Passes Int
 base_type s (CharType span) = Passes Char
 base_type s (StructType tag span) = passing (meant (struct_named s tag.number)) (λ number. Passes (Struct number))
 base_type s (PointerType word element stars span) =
-    passing (passing (base_type s element) (without_stars element stars)) (λ t. Passes (Pointer (mode_of word.mode) (kind_of word.kind) t))
+    passing (passing (base_type s element) (without_stars element stars)) (λ t.
+    needs (may_lead_to (kind_of word.kind) t) E13 span (Passes (Pointer (mode_of word.mode) (kind_of word.kind) t)))
 
 -- a type with stars
 abbrev pub starred_type : Scope → TypeTree → ℕ → Verdict CType
@@ -42,12 +55,6 @@ starred_type s base stars = passing (base_type s base) (without_stars base stars
 
 abbrev pub type_named : Scope → TypeName → Verdict CType
 type_named s t = starred_type s t.base t.stars
-
-abbrev pub is_number : CType → Bool
-is_number Int = true
-is_number Char = true
-is_number (Struct number) = false
-is_number (Pointer mode kind target) = false
 
 abbrev pub is_pointer : CType → Bool
 is_pointer (Pointer mode kind target) = true
@@ -68,7 +75,7 @@ is_checked_pointer (Struct number) = false
 abbrev pub is_single : CType → Bool
 is_single (Pointer mode kinds.One target) = true
 is_single (Pointer mode kinds.Array target) = false
-is_single (Pointer mode kinds.Nt target) = true
+is_single (Pointer mode kinds.Nt target) = false
 is_single Int = false
 is_single Char = false
 is_single (Struct number) = false
@@ -77,13 +84,19 @@ is_single (Struct number) = false
 abbrev pub is_row : CType → Bool
 is_row (Pointer mode kinds.One target) = false
 is_row (Pointer mode kinds.Array target) = true
-is_row (Pointer mode kinds.Nt target) = false
+is_row (Pointer mode kinds.Nt target) = true
 is_row Int = false
 is_row Char = false
 is_row (Struct number) = false
 
 abbrev pub is_scalar : CType → Bool
 is_scalar t = is_number t || is_pointer t
+
+-- a pointer of this kind counts the elements of an array
+abbrev pub Counts : Kind → Type 0
+Counts kinds.One = ⊥
+Counts kinds.Array = Unit {0}
+Counts kinds.Nt = Unit {0}
 
 -- two pointers of one mode and element
 abbrev pub are_comparable : CType → CType → Bool

@@ -13,7 +13,8 @@ ghost use Rattle.region_typing_rules.specs.Verdicts.{Unnamed};
 ghost use Rattle.region_typing_rules.specs.Expressions.{Places};
 ghost use Rattle.region_typing_rules.specs.Cores.{checked};
 ghost use Rattle.region_typing_rules.specs.NeverStuck.{HasCore, NeverStuck, NeverUnsound, AlwaysEnds};
-ghost use Rattle.region_typing_rules.specs.KnownIsSo.{ConditionsAreSo, MarkedAlone};
+ghost use Rattle.region_typing_rules.specs.KnownIsSo.{MarkedAlone};
+ghost use Rattle.region_typing_rules.specs.ConditionsAreSo.{ConditionsAreSo};
 ghost use Rattle.region_typing_rules.specs.Typed.{IsTyped};
 ghost use Rattle.region_typing_rules.specs.Lowerable.{HasFewFunctions, IsSmallCore};
 ghost use Rattle.region_typing_rules.specs.DeclaredFormed.{DeclaredFormed};
@@ -24,6 +25,7 @@ ghost use Rattle.region_typing_rules.specs.CallExamples as calls;
 ghost use Rattle.region_typing_rules.specs.KeptExamples as kept;
 ghost use Rattle.region_typing_rules.specs.MemoryExamples as memory;
 ghost use Rattle.region_typing_rules.specs.FileLevelExamples as file_level;
+ghost use Rattle.region_typing_rules.specs.EndedExamples as ended;
 
 /// Programs and what they become, worked out from the rules.
 pub fn examples()
@@ -86,6 +88,16 @@ pub fn file_level()
     ensures declared { file_level.declared }
     ensures names { file_level.names }
     ensures assigned { file_level.assigned }
+{}
+
+/// What null-terminated pointers are: how far they are read, what widens them, and what they are where no bounds are written.
+pub fn null_terminated()
+    ensures widening { ended.widening }
+    ensures tests { ended.tests }
+    ensures elements { ended.elements }
+    ensures lengths { ended.lengths }
+    ensures unwritten { ended.unwritten }
+    ensures memory { ended.memory }
 {}
 
 /// Bounds that are declared for a local or a parameter are formed: they are of a pointer to elements that have bytes, their ends speak of `int` locals, their

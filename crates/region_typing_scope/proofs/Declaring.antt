@@ -1,5 +1,5 @@
 -- Bounds that are declared for the local that was added last.
-use Rattle.std.proofs.Common.{◌≡◌, ℕ, ◌+◌, ◌-◌, List, [], ◌∷◌, ◌++◌, length, Option, Some, None, refl, ap, ◌∙◌, arith}
+use Rattle.std.proofs.Common.{◌≡◌, ℕ, ◌+◌, ◌-◌, Bool, List, [], ◌∷◌, ◌++◌, length, Option, Some, None, refl, ap, ◌∙◌, arith}
 use Rattle.std.proofs.lemmas.List.{length-append, set-set}
 use Rattle.bounds_exprs.specs.declared.term.Bounds.{Bounds}
 use Rattle.bounds_flow.specs.Flows.{Knowledge, entered}
@@ -7,8 +7,8 @@ use Rattle.bounds_flow.specs.Pointers.{fresh}
 use Rattle.pointer_modes.specs.Types.{CType}
 use Rattle.region_typing_rules.specs.Scopes.{Scope}
 use Rattle.region_typing_rules.specs.Knowing.{knowing}
-use Rattle.region_typing_rules.specs.Expressions.{row_of}
-use Rattle.region_typing_rules.specs.Statements.{with_local, row_type, with_array}
+use Rattle.region_typing_rules.specs.DeclaredBounds.{row_of}
+use Rattle.region_typing_rules.specs.Statements.{with_local, before_end, row_type, with_array}
 
 -- a variable that comes into scope twice, the second time with bounds
 entered_again : (k : ℕ) (b : Option Bounds) (f : Knowledge) → entered k b (entered k None f) ≡ entered k b f
@@ -24,11 +24,12 @@ declared_so k name t b f g old last is was =
     rw (known, was) refl
 
 -- a local array, which is noted among the arrays once it has its bounds
-pub array_so : (name : ℕ) (u t : CType) (elements local : ℕ) (b : Bounds) (arrays : List ℕ) (g mid : Scope) → mid ≡ with_local name u (Some b) g → b ≡ row_of elements → u ≡ row_type t → local ≡ length g.locals → arrays ≡ local ∷ mid.arrays
-    → record mid { arrays = arrays } ≡ with_array name t elements g
-array_so name u t elements local b arrays g mid was bounds row here are =
+pub array_so : (name : ℕ) (u t : CType) (elements local : ℕ) (ended : Bool) (b : Bounds) (arrays : List ℕ) (g mid : Scope) → mid ≡ with_local name u (Some b) g
+    → b ≡ row_of (before_end ended elements) → u ≡ row_type ended t → local ≡ length g.locals → arrays ≡ local ∷ mid.arrays
+    → record mid { arrays = arrays } ≡ with_array name t elements ended g
+array_so name u t elements local ended b arrays g mid was bounds row here are =
     ap (λ xs. record mid { arrays = xs }) are
     ∙ ap (λ (m : Scope). record m { arrays = local ∷ m.arrays }) was
     ∙ ap (λ k. record (with_local name u (Some b) g) { arrays = k ∷ g.arrays }) here
     ∙ ap (λ d. record (with_local name u (Some d) g) { arrays = length g.locals ∷ g.arrays }) bounds
-    ∙ ap (λ v. record (with_local name v (Some (row_of elements)) g) { arrays = length g.locals ∷ g.arrays }) row
+    ∙ ap (λ v. record (with_local name v (Some (row_of (before_end ended elements))) g) { arrays = length g.locals ∷ g.arrays }) row

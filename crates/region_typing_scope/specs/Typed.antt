@@ -1,15 +1,20 @@
 -- Inside: what an expression is, as the code holds it.
-use Rattle.std.specs.Prelude.{ℕ, ◌==◌, pos, false, Option, Some, None}
+use Rattle.std.specs.Prelude.{ℕ, ◌==◌, pos, false, List, Option, Some, None}
 use Rattle.ckc_text.specs.declared.place.Span.{Span}
 use Rattle.ckc_tree.specs.Types.{TypeName}
 use Rattle.pointer_modes.specs.Layout.{size_of}
-use Rattle.pointer_modes.specs.Types.{CType, Int, Char, Struct, Pointer, ctype}
+use Rattle.pointer_modes.specs.declared.ctype.Mode.TheVariants as modes
+use Rattle.pointer_modes.specs.declared.ctype.Kind.{Kind}
+use Rattle.pointer_modes.specs.Types.{CType, Int, Char, Struct, Pointer, Structure, ctype}
+use Rattle.ckc_core.specs.declared.program.PointerBounds.{PointerBounds}
+use Rattle.ckc_core.specs.declared.program.Site.{Site}
 use Rattle.ckc_core.specs.Core as core
 use Rattle.ckc_core.specs.Core.{expression, place}
 use Rattle.region_typing_rules.specs.Verdicts.{Verdict, passing}
 use Rattle.region_typing_rules.specs.Scopes.{Scope}
 use Rattle.region_typing_rules.specs.Types.{type_named}
-use Rattle.region_typing_rules.specs.Expressions.{constant_typed, number, Lvalue, OfLocal, OfCell, OfBounded, local_standing}
+use Rattle.region_typing_rules.specs.DeclaredBounds.{row_of}
+use Rattle.region_typing_rules.specs.Expressions.{constant_typed, in_force, noted_if, number, Lvalue, OfLocal, OfCell, OfBounded, OfUnknown, local_standing}
 use Rattle.region_typing_rules.specs.Expressions.{Typed, Value, AStruct, ForNothing, ForArray, For}
 use Rattle.region_typing_scope.specs.declared.typed.Base as code_base
 use Rattle.region_typing_scope.specs.declared.typed.Base.TheVariants as bases
@@ -22,7 +27,7 @@ use Rattle.region_typing_scope.specs.declared.typed.Typed.TheVariants as forms
 abbrev pub base_place : code_base.Base → core.Place
 base_place (bases.Object object) = core.Direct object 0
 base_place (bases.Behind pointer site) = core.Through (expression pointer.value) core.First 0 site
-base_place (bases.Element pointer number site) = core.Through (expression pointer.value) (core.Element (expression number.value) false) 0 site
+base_place (bases.Element pointer number terminated site) = core.Through (expression pointer.value) (core.Element (expression number.value) terminated) 0 site
 
 -- where a struct stands
 abbrev pub struct_place : code_place.StructPlace → Lvalue
@@ -36,8 +41,20 @@ typed (forms.Local type local is_array bounds) = Value (ctype type) false (core.
 typed (forms.Cell type at bounds) = Value (ctype type) false (core.Load (ctype type) (place at) bounds) (For (OfCell (place at)))
 typed (forms.Bounded type object declared bounds) =
     Value (ctype type) false (core.Load (ctype type) (core.Direct object 0) bounds) (For (OfBounded object declared))
+typed (forms.Unknown type object bounds) =
+    Value (ctype type) false (core.Load (ctype type) (core.Direct object 0) bounds) (For (OfUnknown object))
 typed (forms.Array type object bounds) = Value (ctype type) false (core.AddressOf (core.Direct object 0) bounds) ForArray
 typed (forms.Struct struct at) = AStruct struct (struct_place at)
+
+-- a value with bounds at its node, where its type gives it some
+abbrev pub noted_by : Option PointerBounds → Typed → Typed
+noted_by bounds (Value type zero value standing) = Value type zero (noted_if bounds value) standing
+noted_by bounds (AStruct struct at) = AStruct struct at
+
+-- the name of an array of so many elements, as a pointer of a kind to the first of them
+abbrev pub elements_typed : List Structure → ℕ → CType → ℕ → Kind → Site → Typed
+elements_typed structs object type count kind site =
+    Value (Pointer modes.Checked kind type) false (core.AddressOf (core.Direct object 0) (in_force structs kind type (Some (row_of count)) site)) ForArray
 
 -- the struct that a type is
 abbrev pub struct_of : CType → Option ℕ

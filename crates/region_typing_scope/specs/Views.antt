@@ -10,7 +10,7 @@ pub use Rattle.region_typing_scope.specs.Signatures.{signature}
 pub use Rattle.region_typing_scope.specs.Visibles.{visible}
 
 abbrev pub variable : code.Variable.Variable → FileVariable
-variable v = record { name = v.name; type = ctype v.ctype; length = v.length; bounds = v.bounds }
+variable v = record { name = v.name; type = ctype v.ctype; length = v.length; ended = v.ended; bounds = v.bounds }
 
 -- what the name of a file-level variable stands for
 abbrev pub known_object : lookups_code.KnownObject.KnownObject → Named

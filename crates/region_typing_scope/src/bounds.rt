@@ -1,18 +1,22 @@
 // The bounds at the nodes of values that are checked pointers.
 
-ghost use Rattle.std.specs.Prelude.{◌≡◌, ℕ, IfOk, map};
+ghost use Rattle.std.specs.Prelude.{◌≡◌, ℕ, ◌-◌, Bool, true, false, IfOk, map};
+ghost use Rattle.std.specs.Option.{option_map};
 ghost use Rattle.pointer_modes.specs.Types.{CType as TypeTree, ctype as ctype_of};
+ghost use Rattle.pointer_modes.specs.Layout.{size_of};
 ghost use Rattle.ckc_core.specs.Core.{AddressOf, Local, Load, Place, expression};
 ghost use Rattle.region_typing_rules.specs.Verdicts.{Passes};
 ghost use Rattle.bounds_flow.specs.Flows.{held_at};
-ghost use Rattle.region_typing_rules.specs.Expressions.{in_force as in_force_of, bounds_by as bounds_by_kind, bounds_at as bounds_of_type, noted as noted_with, noted_if as noted_where, with_bounds as noted_typed, row_of as row_of_length, array_typed, sum_node as sum_node_of, site_at};
+ghost use Rattle.region_typing_rules.specs.Expressions.{in_force as in_force_of, bounds_by as bounds_by_kind, bounds_at as bounds_of_type, in_cell_by as in_cell_of_kind, cell_bounds as cell_bounds_of, noted as noted_with, noted_if as noted_where, with_bounds as noted_typed, with_cell_bounds as noted_in_cell, array_typed, sum_node as sum_node_of, site_at};
+ghost use Rattle.region_typing_rules.specs.DeclaredBounds.{row_of as row_of_length};
 ghost use Rattle.ckc_text.specs.Places.{place_at};
 ghost use Rattle.region_typing_scope.specs.Answering.{Answers};
 ghost use Rattle.region_typing_scope.specs.Views.{scope as scope_of};
-ghost use Rattle.region_typing_scope.specs.Typed.{typed as typed_view};
+ghost use Rattle.region_typing_scope.specs.Typed.{typed as typed_view, elements_typed, noted_by};
 ghost use Rattle.region_typing_scope.specs.OnHeap.{typed as typed_on_heap};
 
 use crate::context::Context;
+use crate::initial_cells::before_end;
 use crate::refusals::CheckError;
 use crate::scope::Scope;
 use crate::typed::Typed;
@@ -68,6 +72,42 @@ pub fn bounds_at(structs: &Structs, t: &CType, site: Site) -> Option<PointerBoun
     }
 }
 
+// The bounds of a pointer of a mode and a kind in a cell: others where a zero may end what it leads to.
+fn in_cell_by(
+    mode: Mode,
+    kind: Kind,
+    ended: PointerBounds,
+    other: Option<PointerBounds>,
+) -> Option<PointerBounds>
+    ensures { result ≡ in_cell_of_kind mode kind ended other }
+{
+    match mode {
+        Mode::Checked => match kind {
+            Kind::Nt => Some(ended),
+            Kind::One | Kind::Array => other,
+        },
+        Mode::Tainted | Mode::Raw => other,
+    }
+}
+
+/// The bounds of a value of a type that stands in a cell: the end of a null-terminated pointer may be where it stands.
+pub fn cell_bounds(structs: &Structs, t: &CType, site: Site) -> Option<PointerBounds>
+    ensures { result ≡ cell_bounds_of structs.now (ctype_of t.now) site }
+{
+    match t {
+        CType::Pointer(mode, kind, target) => {
+            let ended = PointerBounds {
+                bounds: row_of(0),
+                size: structs.size_of(target),
+                terminated: true,
+                site,
+            };
+            in_cell_by(*mode, *kind, ended, bounds_at(structs, t, site))
+        }
+        CType::Int | CType::Char | CType::Struct(_) => None,
+    }
+}
+
 /// The bounds in force of a local; beyond the flow's variables there are none.
 pub fn bounds_in_force(flow: &Flow, local: u32) -> Option<Bounds>
     ensures { result ≡ (held_at flow.now.held local).bounds }
@@ -77,6 +117,27 @@ pub fn bounds_in_force(flow: &Flow, local: u32) -> Option<Bounds>
         flow.bounds(local)
     } else {
         None
+    }
+}
+
+// Bounds of a pointer to such elements, which a zero ends or not, at its node.
+fn node_bounds(
+    structs: &Structs,
+    target: &CType,
+    bounds: Option<Bounds>,
+    terminated: bool,
+    site: Site,
+) -> Option<PointerBounds>
+    ensures { result ≡ option_map (λ b. record { bounds = b; size = size_of structs.now (ctype_of target.now); terminated = terminated; site = site }) bounds }
+{
+    match bounds {
+        None => None,
+        Some(bounds) => Some(PointerBounds {
+            bounds,
+            size: structs.size_of(target),
+            terminated,
+            site,
+        }),
     }
 }
 
@@ -91,16 +152,9 @@ pub fn in_force(
     ensures { result ≡ in_force_of structs.now kind (ctype_of target.now) bounds site }
 {
     match kind {
-        Kind::Array => match bounds {
-            None => None,
-            Some(bounds) => Some(PointerBounds {
-                bounds,
-                size: structs.size_of(target),
-                terminated: false,
-                site,
-            }),
-        },
-        Kind::One | Kind::Nt => None,
+        Kind::Array => node_bounds(structs, target, bounds, false, site),
+        Kind::Nt => node_bounds(structs, target, bounds, true, site),
+        Kind::One => None,
     }
 }
 
@@ -172,13 +226,13 @@ fn noted_value(
     }
 }
 
-// What an expression is, with bounds at its node.
-fn noted_at(context: &Context, structs: &Structs, t: Typed, site: Site) -> Result<Typed, NoMemory>
-    ensures { IfOk result (λ noted. typed_view noted ≡ noted_typed structs.now site (typed_view t)) }
+// What an expression is, with bounds at its node where its type gives it some.
+fn noted_at(context: &Context, t: Typed, by_type: Option<PointerBounds>) -> Result<Typed, NoMemory>
+    ensures { IfOk result (λ noted. typed_view noted ≡ noted_by by_type (typed_view t)) }
 {
     match t {
         Typed::Value { ctype, zero, value } => {
-            let value = noted_value(context, value, bounds_at(structs, &ctype, site))?;
+            let value = noted_value(context, value, by_type)?;
             Ok(Typed::Value { ctype, zero, value })
         }
         Typed::Local {
@@ -186,54 +240,81 @@ fn noted_at(context: &Context, structs: &Structs, t: Typed, site: Site) -> Resul
             local,
             is_array,
             bounds,
-        } => {
-            let bounds = noted_as(bounds_at(structs, &ctype, site), bounds);
-            Ok(Typed::Local {
-                ctype,
-                local,
-                is_array,
-                bounds,
-            })
-        }
+        } => Ok(Typed::Local {
+            ctype,
+            local,
+            is_array,
+            bounds: noted_as(by_type, bounds),
+        }),
         Typed::Cell {
             ctype,
             place,
             bounds,
-        } => {
-            let bounds = noted_as(bounds_at(structs, &ctype, site), bounds);
-            Ok(Typed::Cell {
-                ctype,
-                place,
-                bounds,
-            })
-        }
+        } => Ok(Typed::Cell {
+            ctype,
+            place,
+            bounds: noted_as(by_type, bounds),
+        }),
         Typed::Bounded {
             ctype,
             object,
             declared,
             bounds,
-        } => {
-            let bounds = noted_as(bounds_at(structs, &ctype, site), bounds);
-            Ok(Typed::Bounded {
-                ctype,
-                object,
-                declared,
-                bounds,
-            })
-        }
+        } => Ok(Typed::Bounded {
+            ctype,
+            object,
+            declared,
+            bounds: noted_as(by_type, bounds),
+        }),
+        Typed::Unknown {
+            ctype,
+            object,
+            bounds,
+        } => Ok(Typed::Unknown {
+            ctype,
+            object,
+            bounds: noted_as(by_type, bounds),
+        }),
         Typed::Array {
             ctype,
             object,
             bounds,
-        } => {
-            let bounds = noted_as(bounds_at(structs, &ctype, site), bounds);
-            Ok(Typed::Array {
-                ctype,
-                object,
-                bounds,
-            })
-        }
+        } => Ok(Typed::Array {
+            ctype,
+            object,
+            bounds: noted_as(by_type, bounds),
+        }),
         Typed::Struct { number, place } => Ok(Typed::Struct { number, place }),
+    }
+}
+
+// The bounds that its type gives what an expression is.
+fn type_bounds(structs: &Structs, t: &Typed, site: Site) -> Option<PointerBounds>
+    ensures { noted_by result (typed_view t.now) ≡ noted_typed structs.now site (typed_view t.now) }
+{
+    match t {
+        Typed::Value { ctype, .. }
+        | Typed::Local { ctype, .. }
+        | Typed::Cell { ctype, .. }
+        | Typed::Bounded { ctype, .. }
+        | Typed::Unknown { ctype, .. }
+        | Typed::Array { ctype, .. } => bounds_at(structs, ctype, site),
+        Typed::Struct { .. } => None,
+    }
+}
+
+// The same where it stands in a cell.
+fn type_bounds_in_cell(structs: &Structs, t: &Typed, site: Site) -> Option<PointerBounds>
+    ensures { noted_by result (typed_view t.now) ≡ noted_in_cell structs.now site (typed_view t.now) }
+{
+    match t {
+        Typed::Value { ctype, .. }
+        | Typed::Local { ctype, .. }
+        | Typed::Cell { ctype, .. }
+        | Typed::Bounded { ctype, .. }
+        | Typed::Unknown { ctype, .. }
+        | Typed::Array { ctype, .. } => cell_bounds(structs, ctype, site),
+        Typed::Struct { .. } => None,
     }
 }
 
@@ -246,34 +327,64 @@ pub fn with_bounds(
 ) -> Result<Box<Typed>, CheckError>
     ensures { Answers typed_on_heap (Passes (noted_typed (scope_of scope.now).structs (site_at (place_at context.now) span) (typed_on_heap t))) result }
 {
-    let site = context.site(span);
-    let noted = noted_at(context, &scope.structs, Box::into_inner(t), site)?;
+    let by_type = type_bounds(&scope.structs, &t, context.site(span));
+    let noted = noted_at(context, Box::into_inner(t), by_type)?;
     Ok(context.boxed(noted)?)
 }
 
-/// The name of an array of so many elements.
+/// What an expression at a span is that stands in a cell, with bounds at its node.
+pub fn with_cell_bounds(
+    context: &Context,
+    scope: &Scope,
+    t: Box<Typed>,
+    span: Span,
+) -> Result<Box<Typed>, CheckError>
+    ensures { Answers typed_on_heap (Passes (noted_in_cell (scope_of scope.now).structs (site_at (place_at context.now) span) (typed_on_heap t))) result }
+{
+    let by_type = type_bounds_in_cell(&scope.structs, &t, context.site(span));
+    let noted = noted_at(context, Box::into_inner(t), by_type)?;
+    Ok(context.boxed(noted)?)
+}
+
+// The name of an array, of which so many elements stand before the zero that ends it, if one does.
+fn elements(
+    context: &Context,
+    structs: &Structs,
+    object: u32,
+    element: CType,
+    count: u32,
+    kind: Kind,
+    site: Site,
+) -> Result<Typed, NoMemory>
+    ensures { IfOk result (λ t. typed_view t ≡ elements_typed structs.now object (ctype_of element) count kind site) }
+{
+    let bounds = in_force(structs, kind, &element, Some(row_of(count)), site);
+    let element = context.boxed(element)?;
+    Ok(Typed::Array {
+        ctype: CType::Pointer(Mode::Checked, kind, element),
+        object,
+        bounds,
+    })
+}
+
+/// The name of an array of so many elements, of which the last one may be the zero that ends it.
 pub fn array(
     context: &Context,
     structs: &Structs,
     object: u32,
     element: CType,
     length: u32,
+    ended: bool,
     site: Site,
 ) -> Result<Typed, NoMemory>
-    ensures { IfOk result (λ t. typed_view t ≡ array_typed structs.now object (ctype_of element) length site) }
+    ensures { IfOk result (λ t. typed_view t ≡ array_typed structs.now object (ctype_of element) length ended site) }
 {
-    let bounds = PointerBounds {
-        bounds: row_of(length),
-        size: structs.size_of(&element),
-        terminated: false,
-        site,
-    };
-    let element = context.boxed(element)?;
-    Ok(Typed::Array {
-        ctype: CType::Pointer(Mode::Checked, Kind::Array, element),
-        object,
-        bounds: Some(bounds),
-    })
+    if ended {
+        let count = before_end(true, length);
+        elements(context, structs, object, element, count, Kind::Nt, site)
+    } else {
+        elements(context, structs, object, element, length, Kind::Array, site)
+    }
 }
 
 /// The bounds at the node of a sum, where the locals have these types: those without a base where there are any, and else those

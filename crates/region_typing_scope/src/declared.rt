@@ -7,17 +7,19 @@ ghost use Rattle.bounds_exprs.specs.Normal.{how as how_of};
 ghost use Rattle.pointer_modes.specs.Types.{ctype as ctype_of};
 ghost use Rattle.bounds_flow.specs.Conditions.{AreBoundsBelow};
 ghost use Rattle.region_typing_rules.specs.Types.{is_row as row_type};
-ghost use Rattle.region_typing_rules.specs.DeclaredBounds.{how_written, normal_bounds as normal_bounds_of, declared_bounds as declared_bounds_of};
+ghost use Rattle.region_typing_rules.specs.DeclaredBounds.{how_written, normal_bounds as normal_bounds_of, unwritten_bounds as unwritten_bounds_of, declared_bounds as declared_bounds_of};
 ghost use Rattle.region_typing_scope.specs.Answering.{Answers};
 ghost use Rattle.region_typing_scope.specs.Views.{scope as scope_of};
 ghost use Rattle.region_typing_scope.specs.DeclaredViews.{bounded as bounded_view, place as place_view};
 
+use crate::bounds::row_of;
 use crate::context::Context;
 use crate::names::Bounded;
 use crate::place::Place;
 use crate::refusals::{CheckError, needs};
 use crate::scope::Scope;
 use crate::sums::sum_form;
+use crate::types::is_number;
 use bounds_exprs::form::{BoundsForm, BoundsHow};
 use bounds_exprs::normalize::normal;
 use bounds_exprs::term::Bounds;
@@ -64,13 +66,29 @@ fn normal_bounds(how: BoundsHow, size: u32, span: Span) -> Result<Option<Bounds>
     }
 }
 
-// Whether a type is that of pointers to arrays.
+// Whether a type is that of pointers to arrays, or of null-terminated ones.
 fn is_row(t: &CType) -> bool
     ensures { result ≡ row_type (ctype_of t.now) }
 {
     match t {
-        CType::Pointer(_, kind, _) => matches!(kind, Kind::Array),
+        CType::Pointer(_, kind, _) => matches!(kind, Kind::Array | Kind::Nt),
         CType::Int | CType::Char | CType::Struct(_) => false,
+    }
+}
+
+/// The bounds that a pointer of a type has where none are written: the end of a null-terminated one may be where it stands.
+pub fn unwritten_bounds(t: &CType) -> Option<Bounds>
+    ensures { result ≡ unwritten_bounds_of (ctype_of t.now) }
+{
+    match t {
+        CType::Pointer(_, Kind::Nt, target) => {
+            if is_number(target) {
+                Some(row_of(0))
+            } else {
+                None
+            }
+        }
+        _ => None,
     }
 }
 
@@ -91,13 +109,13 @@ fn written_bounds(
     normal_bounds(how, size, written.span())
 }
 
-/// The bounds that are declared for a local of a type, by its number, where the names in them are looked up in a place; none
-/// where none are written, or unknown ones.
+/// The bounds that are declared for a local of a type, by its number, where the names in them are looked up in a place: where
+/// none are written those that the type has without, and none where unknown ones are.
 ///
 /// # Errors
 ///
 /// What a type under `sizeof` breaks, and E13 at strings, from left to right; then E16 at the
-/// bounds where the local is no pointer to an array, or one to elements without bytes, and where they have no normal form.
+/// bounds where the local is no pointer to an array and no null-terminated one, or one to elements without bytes, and where they have no normal form.
 pub fn bounds_at(
     context: &Context,
     place: &Place,
@@ -109,7 +127,7 @@ pub fn bounds_at(
     ensures below { IfOk result (AreBoundsBelow (length place.now.locals.now)) }
 {
     match written {
-        None => Ok(None),
+        None => Ok(unwritten_bounds(t)),
         Some(bounds) => written_bounds(context, place, t, own, bounds),
     }
 }

@@ -69,6 +69,7 @@ fn asked_for(t: &Typed, to: &CType) -> Option<Bounds>
         Typed::Local { ctype, .. }
         | Typed::Cell { ctype, .. }
         | Typed::Bounded { ctype, .. }
+        | Typed::Unknown { ctype, .. }
         | Typed::Array { ctype, .. } => asked_of(ctype, to),
         Typed::Struct { .. } => None,
     }
@@ -83,6 +84,7 @@ fn own(t: &Typed) -> Option<Bounds>
         Typed::Local { bounds, .. }
         | Typed::Cell { bounds, .. }
         | Typed::Bounded { bounds, .. }
+        | Typed::Unknown { bounds, .. }
         | Typed::Array { bounds, .. } => match bounds {
             None => None,
             Some(noted) => Some(noted.bounds),
@@ -98,8 +100,11 @@ fn based(t: &Typed) -> Option<Bounds>
     match t {
         Typed::Value { value, .. } => based_bounds(value),
         Typed::Local { local, bounds, .. } => local_bounds(*local, *bounds),
-        Typed::Cell { .. } | Typed::Bounded { .. } | Typed::Array { .. } | Typed::Struct { .. } =>
-            None,
+        Typed::Cell { .. }
+        | Typed::Bounded { .. }
+        | Typed::Unknown { .. }
+        | Typed::Array { .. }
+        | Typed::Struct { .. } => None,
     }
 }
 
@@ -171,8 +176,11 @@ pub fn is_unasked(t: &Typed) -> bool
 {
     match t {
         Typed::Value { zero, value, .. } => *zero || is_null(value),
-        Typed::Local { .. } | Typed::Cell { .. } | Typed::Bounded { .. } | Typed::Array { .. } =>
-            false,
+        Typed::Local { .. }
+        | Typed::Cell { .. }
+        | Typed::Bounded { .. }
+        | Typed::Unknown { .. }
+        | Typed::Array { .. } => false,
         Typed::Struct { .. } => true,
     }
 }

@@ -99,16 +99,18 @@ impl Scope {
         self.structs.give(number, members);
     }
 
-    /// A file-level variable more; an array has so many elements of the type, and a pointer may have bounds.
+    /// A file-level variable more; an array has so many elements of the type, which a zero ends or not, and a pointer may have
+    /// bounds that are written for it.
     pub fn add_variable(
         &mut self,
         name: usize,
         ctype: CType,
         elements: Option<u32>,
-        bounds: Option<Bounds>,
+        ended: bool,
+        bounds: Option<Option<Bounds>>,
     ) -> Result<(), NoMemory>
         requires { length self.old.variables.items < 4096 }
-        ensures { OnOk result (scope_of self.new ≡ with_variable name (ctype_of ctype) elements bounds (scope_of self.old)) }
+        ensures { OnOk result (scope_of self.new ≡ with_variable name (ctype_of ctype) elements ended bounds (scope_of self.old)) }
     {
         self.variables.reserve(1)?;
         self.variable_places.note(name, self.variables.len())?;
@@ -116,6 +118,7 @@ impl Scope {
             name,
             ctype,
             length: elements,
+            ended,
             bounds,
         });
         Ok(())

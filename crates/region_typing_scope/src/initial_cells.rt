@@ -6,6 +6,7 @@ ghost use Rattle.pointer_modes.specs.Layout.{cells_of as cells_in};
 ghost use Rattle.ckc_core.specs.Core.{initial as initial_of};
 ghost use Rattle.region_typing_rules.specs.Types.{is_scalar};
 ghost use Rattle.region_typing_rules.specs.Cells.{is_length as is_length_of, cells_with as cells_as};
+ghost use Rattle.region_typing_rules.specs.Statements.{before_end as before_end_of};
 ghost use Rattle.region_typing_scope.specs.CellParts.{IsStructOf, stride_at};
 
 use crate::context::Context;
@@ -25,6 +26,17 @@ pub fn is_length(count: Option<u32>) -> bool
     match count {
         None => true,
         Some(count) => 0 < count && count <= MOST_ELEMENTS,
+    }
+}
+
+/// How many elements of so many stand before the zero that ends them, where one does.
+pub fn before_end(ended: bool, count: u32) -> u32
+    ensures { result ≡ before_end_of ended count }
+{
+    if ended {
+        count.saturating_sub(1)
+    } else {
+        count
     }
 }
 

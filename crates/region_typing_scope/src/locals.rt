@@ -11,6 +11,7 @@ ghost use Rattle.region_typing_scope.specs.Declaring.{last_declared};
 ghost use Rattle.region_typing_scope.specs.Views.{scope as scope_of, visible as visible_of};
 
 use crate::bounds::row_of;
+use crate::initial_cells::before_end;
 use crate::scope::{BlockStart, Scope};
 use crate::visible::Visible;
 use bounds_exprs::term::Bounds;
@@ -56,16 +57,23 @@ impl Scope {
         self.flow.enter(last, bounds)
     }
 
-    /// A local array of so many elements more, which is visible from now on: a pointer to the first of them.
-    pub fn add_array(&mut self, name: usize, row: CType, elements: u32) -> Result<(), NoMemory>
+    /// A local array of so many elements more, which a zero ends or not, and which is visible from now on: a pointer to the
+    /// first of them.
+    pub fn add_array(
+        &mut self,
+        name: usize,
+        row: CType,
+        elements: u32,
+        ended: bool,
+    ) -> Result<(), NoMemory>
         requires room { length self.old.locals.items < self.old.flow.vars }
-        ensures known { OnOk result ((t : TypeTree) → ctype_of row ≡ row_type t → scope_of self.new ≡ with_array name t elements (scope_of self.old)) }
+        ensures known { OnOk result ((t : TypeTree) → ctype_of row ≡ row_type ended t → scope_of self.new ≡ with_array name t elements ended (scope_of self.old)) }
         ensures seen { OnOk result ((v : _) × (self.new.visible.items ≡ self.old.visible.items ++ v ∷ [])) }
         ensures size { OnOk result (self.new.flow.vars ≡ self.old.flow.vars) }
     {
         let local = self.locals.len() as u32;
         self.add_local(name, row)?;
-        self.declare(Some(row_of(elements)))?;
+        self.declare(Some(row_of(before_end(ended, elements))))?;
         self.arrays.push(local)?;
         Ok(())
     }

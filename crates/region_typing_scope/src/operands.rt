@@ -56,6 +56,11 @@ pub fn value_of(context: &Context, t: Box<Typed>, span: Span) -> Result<Operand,
             object,
             bounds,
             ..
+        }
+        | Typed::Unknown {
+            ctype,
+            object,
+            bounds,
         } => {
             let copy = copied(context, &ctype)?;
             let cell = CellPlace::Direct { object, offset: 0 };

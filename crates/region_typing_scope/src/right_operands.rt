@@ -13,7 +13,7 @@ use bounds_flow::flow::Flow;
 use ckc_core::program::Expr;
 use ckc_text::fault::NoMemory;
 use ckc_tree::expr::BinaryOperator;
-use region_typing_flow::conditions::told;
+use region_typing_flow::conditions::{place_told, told};
 
 impl Scope {
     /// Where an expression stands that is worked out first.
@@ -53,7 +53,7 @@ pub fn left_truth(operator: BinaryOperator) -> Option<bool>
     }
 }
 
-// What a value tells that came out so: of a local, whether it is null.
+// What a value tells that came out so: of a local, whether it is null, and of a cell, whether what stands there isn't zero.
 fn value_told(
     point: &Point<'_>,
     value: &Typed,
@@ -74,8 +74,12 @@ fn value_told(
             };
             told(locals, &value, truth, flow)
         }
-        Typed::Cell { .. } | Typed::Bounded { .. } | Typed::Array { .. } | Typed::Struct { .. } =>
-            Ok(()),
+        Typed::Cell { place, .. } if truth => place_told(locals, place, flow),
+        Typed::Cell { .. }
+        | Typed::Bounded { .. }
+        | Typed::Unknown { .. }
+        | Typed::Array { .. }
+        | Typed::Struct { .. } => Ok(()),
     }
 }
 

@@ -17,13 +17,15 @@ use ckc_names_rules::given::Given;
 use pointer_modes::ctype::CType;
 use pointer_modes::structs::Structs;
 
-/// A file-level variable; an array has so many elements of the type, and a pointer may have bounds that are declared for it.
+/// A file-level variable; an array has so many elements of the type, of which the last one may be the zero that ends it, and a
+/// pointer may have bounds that are written for it, or unknown ones.
 #[derive(Drop)]
 pub struct Variable {
     pub name: usize,
     pub ctype: CType,
     pub length: Option<u32>,
-    pub bounds: Option<Bounds>,
+    pub ended: bool,
+    pub bounds: Option<Option<Bounds>>,
 }
 
 /// Where a block begins: how many names are visible and how many locals there are, and whether a loop is around.

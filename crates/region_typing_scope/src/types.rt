@@ -4,7 +4,7 @@ ghost use Rattle.std.specs.Prelude.{◌≡◌, ◌&&◌, IfOk};
 ghost use Rattle.pointer_modes.specs.Types.{ctype};
 ghost use Rattle.ckc_core.specs.States.{same_mode as same_mode_of, same_kind as same_kind_of, same_type as same_type_of};
 ghost use Rattle.ckc_tree.specs.Types.{type_tree, type_name};
-ghost use Rattle.region_typing_rules.specs.Types.{mode_of as mode_from, kind_of as kind_from, without_stars as starless, base_type as base_from, starred_type as starred_from, type_named as named_from, is_number as number_type, is_pointer as pointer_type, is_checked_pointer as checked_pointer, is_scalar as scalar_type, are_comparable as comparable_types, kind_converts as kind_converts_to, pointer_converts as pointer_converts_to, converts as converts_to};
+ghost use Rattle.region_typing_rules.specs.Types.{mode_of as mode_from, kind_of as kind_from, may_lead_to as may_lead, without_stars as starless, base_type as base_from, starred_type as starred_from, type_named as named_from, is_number as number_type, is_pointer as pointer_type, is_checked_pointer as checked_pointer, is_scalar as scalar_type, are_comparable as comparable_types, kind_converts as kind_converts_to, pointer_converts as pointer_converts_to, converts as converts_to};
 ghost use Rattle.region_typing_scope.specs.Answering.{Answers};
 ghost use Rattle.region_typing_scope.specs.Views.{scope as scope_of};
 
@@ -74,6 +74,16 @@ pub fn is_number(t: &CType) -> bool
     match t {
         CType::Int | CType::Char => true,
         CType::Struct(_) | CType::Pointer(..) => false,
+    }
+}
+
+/// Whether a pointer of a kind may lead to a type: a zero ends only numbers.
+pub fn may_lead_to(kind: Kind, t: &CType) -> bool
+    ensures { result ≡ may_lead kind (ctype t.now) }
+{
+    match kind {
+        Kind::One | Kind::Array => true,
+        Kind::Nt => is_number(t),
     }
 }
 
@@ -185,7 +195,7 @@ pub fn without_stars(base: &TypeForm, stars: usize, t: CType) -> Result<CType, C
     Ok(t)
 }
 
-/// A type that is written without stars behind it.
+/// A type that is written without stars behind it. A null-terminated pointer leads only to numbers: E13 at the pointer.
 pub fn base_type(context: &Context, scope: &Scope, base: &TypeForm) -> Result<CType, CheckError>
     ensures { Answers ctype (base_from (scope_of scope.now) (type_tree base.now)) result }
 {
@@ -200,12 +210,14 @@ pub fn base_type(context: &Context, scope: &Scope, base: &TypeForm) -> Result<CT
             word,
             element,
             stars,
-            ..
+            span,
         } => {
             let target = base_type(context, scope, element)?;
             let target = without_stars(element, *stars, target)?;
+            let kind = kind_of(word.kind);
+            needs(may_lead_to(kind, &target), Code::E13, *span)?;
             let target = context.boxed(target)?;
-            Ok(CType::Pointer(mode_of(word.mode), kind_of(word.kind), target))
+            Ok(CType::Pointer(mode_of(word.mode), kind, target))
         }
     }
 }

@@ -1,23 +1,24 @@
 -- Declared locals.
-use Rattle.std.proofs.Common.{◌≡◌, ℕ, ◌<◌, map, drop, get_or, nat_lt, List, [], ◌∷◌, ◌++◌, length, Option, None, Some, Result, Box, Global, pos, ap, sym, subst, ◌∙◌}
+use Rattle.std.proofs.Common.{◌≡◌, ℕ, ◌<◌, Bool, map, drop, get_or, nat_lt, List, [], ◌∷◌, ◌++◌, length, Option, None, Some, Result, Box, Global, ap, sym, subst, ◌∙◌}
+use Rattle.std.specs.Option.{option_map}
 use Rattle.std.proofs.lemmas.List.{length-map}
 use Rattle.ckc_text.specs.declared.place.Span.{Span}
 use Rattle.region_typing_scope.specs.declared.refusals.CheckError.{CheckError}
 use Rattle.bounds_exprs.specs.declared.term.Bounds.{Bounds}
 use Rattle.ckc_tree.specs.Types.{TypeTree}
 use Rattle.ckc_tree.specs.Expressions as written
+use Rattle.ckc_tree.specs.declared.stmt.ArrayForm.{ArrayForm}
 use Rattle.ckc_tree.specs.declared.stmt.Declarator as code_declarator
 use Rattle.ckc_tree.specs.Statements.{Initializer, Declarator, declarator as declarator_tree}
 use Rattle.pointer_modes.specs.Types.{CType, ctype}
-use Rattle.ckc_core.specs.declared.program.Site.{Site}
 use Rattle.ckc_core.specs.declared.program.Stmt.{Stmt}
 use Rattle.ckc_core.specs.Core as core
 use Rattle.region_typing_scope.specs.OnHeap.{statement, typed}
 use Rattle.region_typing_rules.specs.Verdicts.{Verdict, Passes, passing}
 use Rattle.region_typing_rules.specs.Scopes.{Scope}
-use Rattle.region_typing_rules.specs.Expressions.{Places, allocation}
+use Rattle.region_typing_rules.specs.Expressions.{Places}
 use Rattle.region_typing_rules.specs.DeclaredBounds.{declared_bounds}
-use Rattle.region_typing_rules.specs.Statements.{both, zero_value, with_local, first_value, bounded_local, row_type, with_array, made_array, array_in, declarator, declarators}
+use Rattle.region_typing_rules.specs.Statements.{both, zero_value, with_local, first_value, bounded_local, few_locals, local_of, is_ended_array, row_type, with_array, made_array, array_in, array_local, declarator, declarators}
 use Rattle.region_typing_scope.specs.declared.scope as code
 use Rattle.region_typing_scope.specs.declared.typed.Typed.{Typed}
 use Rattle.region_typing_scope.specs.declared.visible as visible_code
@@ -54,24 +55,27 @@ local_declared at d t bounds local span old mid new r here number more walk =
     from_more statement (bounded_local at (scope old) d t span bounds) (by_scope (scope mid)) old mid new r (ap by_number (sym last) ∙ ap by_scope (sym here)) more walk
 
 -- a local array, whose elements are made where it is visible
-pub array_added : (at : Places) (d : Declarator) (t : CType) (count local : ℕ) (span : Span) (old mid new : code.Scope.Scope) (r : Result (Box Stmt Global) CheckError) → scope mid ≡ with_array d.name.number t count (scope old) → local ≡ length old.locals.items
-    → ((v : visible_code.Visible.Visible) × (mid.visible.items ≡ old.visible.items ++ v ∷ [])) → Walks statement (array_in at (scope mid) local d t count span) mid r new
-    → Walks statement (array_in at (with_array d.name.number t count (scope old)) (length (scope old).locals) d t count span) old r new
-array_added at d t count local span old mid new r here number seen walk =
+pub array_added : (at : Places) (d : Declarator) (t : CType) (count local : ℕ) (ended : Bool) (span : Span) (old mid new : code.Scope.Scope) (r : Result (Box Stmt Global) CheckError)
+    → scope mid ≡ with_array d.name.number t count ended (scope old) → local ≡ length old.locals.items
+    → ((v : visible_code.Visible.Visible) × (mid.visible.items ≡ old.visible.items ++ v ∷ [])) → Walks statement (array_in at (scope mid) local d t count ended span) mid r new
+    → Walks statement (array_in at (with_array d.name.number t count ended (scope old)) (length (scope old).locals) d t count ended span) old r new
+array_added at d t count local ended span old mid new r here number seen walk =
     let last : local ≡ length (scope old).locals = number ∙ sym (length-map old.locals.items ctype) in
-    let by_number = λ (n : ℕ). array_in at (with_array d.name.number t count (scope old)) n d t count span in
-    let by_scope = λ (g : Scope). array_in at g local d t count span in
-    from_more statement (by_number (length (scope old).locals)) (by_scope (scope mid)) old mid new r (ap by_number (sym last) ∙ ap by_scope (sym here)) (array_more d.name.number t count old mid here seen) walk
-
--- memory for so many elements, as the code writes their number
-pub memory_counted : (g : Scope) (t : CType) (count : ℕ) (e : core.Expression) (site : Site) (span : Span) (r : Result (Box Typed Global) CheckError) → e ≡ core.Number (pos count)
-    → Answers typed (allocation g t e site span) r → Answers typed (allocation g t (core.Number (pos count)) site span) r
-memory_counted g t count e site span r is answer = subst (λ x. Answers typed (allocation g t x site span) r) is answer
+    let by_number = λ (n : ℕ). array_in at (with_array d.name.number t count ended (scope old)) n d t count ended span in
+    let by_scope = λ (g : Scope). array_in at g local d t count ended span in
+    from_more statement (by_number (length (scope old).locals)) (by_scope (scope mid)) old mid new r (ap by_number (sym last) ∙ ap by_scope (sym here)) (array_more d.name.number t count ended old mid here seen) walk
 
 -- what becomes an array of them, as a pointer to the first
-pub made_row : (local : ℕ) (memory : Box Typed Global) (u t : CType) (span : Span) (old new : code.Scope.Scope) (r : Result (Box Stmt Global) CheckError) → u ≡ row_type t
-    → Walks statement (made_array (scope old) local (typed memory) u span) old r new → Walks statement (made_array (scope old) local (typed memory) (row_type t) span) old r new
-made_row local memory u t span old new r is walk = subst (λ v. Walks statement (made_array (scope old) local (typed memory) v span) old r new) is walk
+pub made_row : (local : ℕ) (memory : Box Typed Global) (u t : CType) (ended : Bool) (span : Span) (old new : code.Scope.Scope) (r : Result (Box Stmt Global) CheckError) → u ≡ row_type ended t
+    → Walks statement (made_array (scope old) local (typed memory) u span) old r new → Walks statement (made_array (scope old) local (typed memory) (row_type ended t) span) old r new
+made_row local memory u t ended span old new r is walk = subst (λ v. Walks statement (made_array (scope old) local (typed memory) v span) old r new) is walk
+
+-- a declarator with the form of an array declares one
+pub array_declared : (at : Places) (base : TypeTree) (t : CType) (span : Span) (d : Declarator) (form : ArrayForm) (old new : code.Scope.Scope) (r : Result (Box Stmt Global) CheckError) → d.array ≡ Some form
+    → Walks statement (few_locals (scope old) span (array_local at (scope old) base t span d form.length (is_ended_array d))) old r new → Walks statement (declarator at (scope old) base t span d) old r new
+array_declared at base t span d form old new r is walk =
+    let by_form = λ (o : Option ArrayForm). local_of at (scope old) base t span d (option_map (λ (a : ArrayForm). a.length) o) in
+    subst (λ v. Walks statement (few_locals (scope old) span v) old r new) (sym (ap by_form is)) walk
 
 -- few locals, as the code counts them
 pub few_counted : (g : code.Scope.Scope) → nat_lt (length g.locals.items) g.flow.vars ≡ nat_lt (length (scope g).locals) (scope g).flow.vars

@@ -90,8 +90,8 @@ pub one_more : (name : ℕ) (t : CType) (bounds : Option Bounds) (a b : code.Sco
 one_more name t bounds a b known seen = record { more = seen.0 ∷ []; seen = seen.1; types = (scope a).locals ++ t ∷ []; arrays = _; names = _; loop = _; outside = _; flow = _; breaks = _; continues = _; file = known; count = omega (arith, length-append (scope a).locals (t ∷ [])); size = refl }
 
 -- a scope in which a local array became visible
-pub array_more : (name : ℕ) (t : CType) (count : ℕ) (a b : code.Scope.Scope) → scope b ≡ with_array name t count (scope a) → ((v : visible_code.Visible.Visible) × (b.visible.items ≡ a.visible.items ++ v ∷ [])) → Grows a b
-array_more name t count a b known seen = record { more = seen.0 ∷ []; seen = seen.1; types = (scope a).locals ++ row_type t ∷ []; arrays = _; names = _; loop = _; outside = _; flow = _; breaks = _; continues = _; file = known; count = omega (arith, length-append (scope a).locals (row_type t ∷ [])); size = refl }
+pub array_more : (name : ℕ) (t : CType) (count : ℕ) (ended : Bool) (a b : code.Scope.Scope) → scope b ≡ with_array name t count ended (scope a) → ((v : visible_code.Visible.Visible) × (b.visible.items ≡ a.visible.items ++ v ∷ [])) → Grows a b
+array_more name t count ended a b known seen = record { more = seen.0 ∷ []; seen = seen.1; types = (scope a).locals ++ row_type ended t ∷ []; arrays = _; names = _; loop = _; outside = _; flow = _; breaks = _; continues = _; file = known; count = omega (arith, length-append (scope a).locals (row_type ended t ∷ [])); size = refl }
 
 -- a scope whose loop is another
 pub other_loop : (loop : Bool) (a b : code.Scope.Scope) → scope b ≡ record (scope a) { in_loop = loop } → b.visible.items ≡ a.visible.items → Grows a b

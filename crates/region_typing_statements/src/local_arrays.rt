@@ -8,7 +8,9 @@ ghost use Rattle.ckc_tree.specs.Expressions.{expression as expression_tree, boun
 ghost use Rattle.ckc_tree.specs.Statements.{Value, initializer as initializer_tree, declarator as declarator_tree};
 ghost use Rattle.pointer_modes.specs.Types.{ctype as ctype_of};
 ghost use Rattle.ckc_core.specs.Core.{Number};
-ghost use Rattle.region_typing_rules.specs.Statements.{length_of as length_in, first_length as first_length_in, row_type, with_array, array_bounds as array_bounds_in, without_initial as without_initial_in, made_array, array_in, array_local as array_local_of};
+ghost use Rattle.region_typing_rules.specs.Verdicts.{Passes};
+ghost use Rattle.region_typing_rules.specs.Expressions.{site_at};
+ghost use Rattle.region_typing_rules.specs.Statements.{length_of as length_in, first_length as first_length_in, is_ended_array as is_ended_in, row_type, with_array, array_element as array_element_of, array_memory as array_memory_of, array_bounds as array_bounds_in, without_initial as without_initial_in, made_array, array_in, array_local as array_local_of};
 ghost use Rattle.region_typing_scope.specs.Answering.{Answers};
 ghost use Rattle.region_typing_scope.specs.OnHeap.{expression, statement, typed as typed_on_heap};
 ghost use Rattle.region_typing_scope.specs.Views.{scope as scope_of};
@@ -22,19 +24,19 @@ use ckc_text::code::Code;
 use ckc_text::fault::NoMemory;
 use ckc_text::place::Span;
 use ckc_tree::expr::{BoundsText, Expr as WrittenExpr};
-use ckc_tree::stmt::{Declarator, Initializer};
+use ckc_tree::stmt::{ArrayKind, Declarator, Initializer};
 use ckc_tree::type_form::TypeForm;
-use pointer_modes::ctype::{CType, Kind, Mode};
-use region_typing_expressions::allocations::allocation;
+use pointer_modes::ctype::{CType, Mode};
+use region_typing_expressions::allocations::{allocation, array_kind, ended_allocation};
 use region_typing_expressions::expressions::typed;
 use region_typing_scope::context::Context;
 use region_typing_scope::conversions::converted;
 use region_typing_scope::declared::declared_bounds;
-use region_typing_scope::initial_cells::is_length;
+use region_typing_scope::initial_cells::{before_end, is_length};
 use region_typing_scope::refusals::{CheckError, needs, refusal};
 use region_typing_scope::scope::Scope;
 use region_typing_scope::typed::Typed;
-use region_typing_scope::types::{copied, without_stars};
+use region_typing_scope::types::{copied, may_lead_to, without_stars};
 
 /// How many elements a declarator asks for, where it declares an array.
 pub fn length_of(d: &Declarator) -> Option<u32>
@@ -56,13 +58,34 @@ pub fn first_length(ds: &[Declarator]) -> Option<u32>
     }
 }
 
-// A pointer to the first of some elements.
-fn row(context: &Context, t: &CType) -> Result<CType, NoMemory>
-    ensures { IfOk result (λ row. ctype_of row ≡ row_type (ctype_of t.now)) }
+/// Whether a zero ends the array that is declared.
+pub fn is_ended_array(d: &Declarator) -> bool
+    ensures { result ≡ is_ended_in (declarator_tree d.now) }
+{
+    match d.array {
+        None => false,
+        Some(array) => match array.kind {
+            ArrayKind::Checked => false,
+            ArrayKind::NullTerminated => true,
+        },
+    }
+}
+
+/// The elements of an array, which a zero ends or not: E13 at the type where a zero ends what are no numbers.
+pub fn array_element(ended: bool, t: &CType, base: &TypeForm) -> Result<(), CheckError>
+    ensures { Answers (λ x. x) (array_element_of ended (ctype_of t.now) (type_tree base.now) (Passes tt)) result }
+{
+    let kind = array_kind(ended);
+    needs(may_lead_to(kind, t), Code::E13, base.span())
+}
+
+// A pointer to the first of some elements, which a zero ends or not.
+fn row(context: &Context, ended: bool, t: &CType) -> Result<CType, NoMemory>
+    ensures { IfOk result (λ row. ctype_of row ≡ row_type ended (ctype_of t.now)) }
 {
     let element = copied(context, t)?;
     let target = context.boxed(element)?;
-    Ok(CType::Pointer(Mode::Checked, Kind::Array, target))
+    Ok(CType::Pointer(Mode::Checked, array_kind(ended), target))
 }
 
 // An array has no other bounds than those of its elements: E16 where some are written.
@@ -114,6 +137,27 @@ fn number_of(context: &Context, elements: u32) -> Result<Box<Expr>, NoMemory>
     context.boxed(Expr::Number(elements as i32))
 }
 
+// New memory for an array of so many elements, of which the last one may be the zero that ends it.
+fn array_memory(
+    context: &Context,
+    scope: &Scope,
+    ended: bool,
+    t: CType,
+    count: u32,
+    span: Span,
+) -> Result<Box<Typed>, CheckError>
+    requires { count ≤ 8192 }
+    ensures { Answers typed_on_heap (array_memory_of (scope_of scope.now) ended (ctype_of t) count (site_at (place_at context.now) span) span) result }
+{
+    if ended {
+        let number = number_of(context, before_end(true, count))?;
+        ended_allocation(context, scope, t, number, span)
+    } else {
+        let number = number_of(context, count)?;
+        allocation(context, scope, t, number, span)
+    }
+}
+
 // New memory is what the array is, which is null before.
 fn made(
     context: &Context,
@@ -132,7 +176,7 @@ fn made(
     Ok(both(context, first, made)?)
 }
 
-// What a local array is, which is visible already: so many elements of a type.
+// What a local array is, which is visible already: so many elements of a type, which a zero ends or not.
 fn array(
     context: &Context,
     scope: &mut Scope,
@@ -140,16 +184,16 @@ fn array(
     d: &Declarator,
     t: CType,
     count: u32,
+    ended: bool,
     span: Span,
 ) -> Result<Box<Stmt>, CheckError>
     requires { count ≤ 8192 }
-    ensures { Walks statement (array_in (place_at context.now) (scope_of scope.old) local (declarator_tree d.now) (ctype_of t) count span) scope.old result scope.new }
+    ensures { Walks statement (array_in (place_at context.now) (scope_of scope.old) local (declarator_tree d.now) (ctype_of t) count ended span) scope.old result scope.new }
 {
     array_bounds(context, scope, &d.bounds)?;
     without_initial(context, scope, &d.initializer, span)?;
-    let row = row(context, &t)?;
-    let number = number_of(context, count)?;
-    let memory = allocation(context, scope, t, number, span)?;
+    let row = row(context, ended, &t)?;
+    let memory = array_memory(context, scope, ended, t, count, span)?;
     made(context, scope, local, memory, &row, span)
 }
 
@@ -160,19 +204,21 @@ fn add_array(
     d: &Declarator,
     t: CType,
     count: u32,
+    ended: bool,
     span: Span,
 ) -> Result<Box<Stmt>, CheckError>
     requires room { length scope.old.locals.items < scope.old.flow.vars }
     requires few { count ≤ 8192 }
-    ensures { Walks statement (array_in (place_at context.now) (with_array (declarator_tree d.now).name.number (ctype_of t) count (scope_of scope.old)) (length (scope_of scope.old).locals) (declarator_tree d.now) (ctype_of t) count span) scope.old result scope.new }
+    ensures { Walks statement (array_in (place_at context.now) (with_array (declarator_tree d.now).name.number (ctype_of t) count ended (scope_of scope.old)) (length (scope_of scope.old).locals) (declarator_tree d.now) (ctype_of t) count ended span) scope.old result scope.new }
 {
     let local = scope.locals.len() as u32;
-    let row = row(context, &t)?;
-    scope.add_array(d.name.number, row, count)?;
-    array(context, scope, local, d, t, count, span)
+    let row = row(context, ended, &t)?;
+    scope.add_array(d.name.number, row, count, ended)?;
+    array(context, scope, local, d, t, count, ended, span)
 }
 
-/// A local array of a declaration, of so many elements: E08 at a span where it has too many, or none.
+/// A local array of a declaration, of so many elements: E08 at a span where it has too many, or none, and E13 at its type where
+/// a zero ends what are no numbers.
 pub fn array_local(
     context: &Context,
     scope: &mut Scope,
@@ -183,10 +229,12 @@ pub fn array_local(
     count: u32,
 ) -> Result<Box<Stmt>, CheckError>
     requires { length scope.old.locals.items < scope.old.flow.vars }
-    ensures { Walks statement (array_local_of (place_at context.now) (scope_of scope.old) (type_tree base.now) (ctype_of t.now) span (declarator_tree d.now) count) scope.old result scope.new }
+    ensures { Walks statement (array_local_of (place_at context.now) (scope_of scope.old) (type_tree base.now) (ctype_of t.now) span (declarator_tree d.now) count (is_ended_in (declarator_tree d.now))) scope.old result scope.new }
 {
     needs(is_length(Some(count)), Code::E08, span)?;
     let given = copied(context, t)?;
     let t = without_stars(base, d.stars, given)?;
-    add_array(context, scope, d, t, count, span)
+    let ended = is_ended_array(d);
+    array_element(ended, &t, base)?;
+    add_array(context, scope, d, t, count, ended, span)
 }

@@ -1,12 +1,15 @@
-use Rattle.std.proofs.Common.{ap}
+use Rattle.std.proofs.Common.{◌≡◌, true, ap, ◌∙◌}
+use Rattle.ckc_text.specs.declared.code.Code.TheVariants.{E13}
 use Rattle.ckc_text.specs.Places.{place_at}
 use Rattle.ckc_tree.specs.Types.{type_tree}
 use Rattle.ckc_tree.specs.Statements.{declarator}
 use Rattle.pointer_modes.specs.Types.{ctype}
+use Rattle.region_typing_rules.specs.Statements.{length_of}
 use Rattle.region_typing_scope.proofs.Going.{refused, refused_by}
 use Rattle.region_typing_statements.proofs.Testing.{tested}
+use Rattle.region_typing.specs.declared.globals.WalkedVariable.{WalkedVariable}
 use Rattle.region_typing.specs.Items.{walk}
-use Rattle.region_typing.proofs.JudgedVariables.{stars_break, bounds_break, one_more_variable, variable_unmade}
+use Rattle.region_typing.proofs.JudgedVariables.{stars_break, element_breaks, bounds_break, one_more_variable, variable_unmade}
 use Rattle.region_typing.proofs.globals.variable.Goals as goal
 
 pub returns-in_err-taken : goal.returns-in_err-taken
@@ -19,22 +22,35 @@ returns-in_err-needs c =
     (λ stop breaks. stars_break (place_at c.args.context.now) (type_tree c.args.base.now) c.args.span (declarator c.args.d.now) (ctype c.args.t.now) c.in_ok-taken.taken (walk c.args.walk.now) stop c.in_ok-taken.ensures.room.so breaks)
     broken
 
+pub returns-in_err-array_element : goal.returns-in_err-array_element
+returns-in_err-array_element c =
+    let broken = rw c.is_ended_array-ended.ensures at c.in_err-array_element.ensures in
+    refused_by c.from_residual-in_err-array_element.result c.from_residual-in_err-array_element.ensures.1
+    (λ stop breaks. element_breaks (place_at c.args.context.now) (type_tree c.args.base.now) c.args.span (declarator c.args.d.now) (ctype c.args.t.now) c.in_ok-taken.taken (walk c.args.walk.now) c.in_ok-taken.ensures.room.so (tested _ _ _ c.in_ok-needs.ensures) stop breaks)
+    broken
+
 pub returns-in_err-bounds : goal.returns-in_err-bounds
 returns-in_err-bounds c =
+    let leads = tested _ E13 _ (rw c.is_ended_array-ended.ensures at c.in_ok-array_element.ensures) in
     refused_by c.from_residual-in_err-bounds.result c.from_residual-in_err-bounds.ensures.1
-    (λ stop breaks. bounds_break (place_at c.args.context.now) (type_tree c.args.base.now) c.args.span (declarator c.args.d.now) (ctype c.args.t.now) c.in_ok-taken.taken (walk c.args.walk.now) c.in_ok-taken.ensures.room.so (tested _ _ _ c.in_ok-needs.ensures) stop breaks)
+    (λ stop breaks. bounds_break (place_at c.args.context.now) (type_tree c.args.base.now) c.args.span (declarator c.args.d.now) (ctype c.args.t.now) c.in_ok-taken.taken (walk c.args.walk.now) c.in_ok-taken.ensures.room.so (tested _ _ _ c.in_ok-needs.ensures) leads stop breaks)
     c.in_err-bounds.ensures
 
 pub returns-in_err-initial : goal.returns-in_err-initial
 returns-in_err-initial c =
-    let known = rw c.length_of-count.ensures at c.in_ok-add_variable.ensures in
+    let leads = tested _ E13 _ (rw c.is_ended_array-ended.ensures at c.in_ok-array_element.ensures) in
+    let known = rw (c.length_of-count.ensures, c.is_ended_array-ended.ensures) at c.in_ok-add_variable.ensures in
     refused_by c.from_residual-in_err-initial.result c.from_residual-in_err-initial.ensures.1
-    (λ stop breaks. variable_unmade (place_at c.args.context.now) (type_tree c.args.base.now) c.args.span (declarator c.args.d.now) (ctype c.args.t.now) c.in_ok-taken.taken (walk c.args.walk.now) c.in_ok-taken.ensures.room.so (tested _ _ _ c.in_ok-needs.ensures) c.in_ok-bounds.bounds (walk c.add_variable.new.walk) known c.in_ok-bounds.ensures.so stop breaks)
+    (λ stop breaks. variable_unmade (place_at c.args.context.now) (type_tree c.args.base.now) c.args.span (declarator c.args.d.now) (ctype c.args.t.now) c.in_ok-taken.taken (walk c.args.walk.now) c.in_ok-taken.ensures.room.so (tested _ _ _ c.in_ok-needs.ensures) c.in_ok-bounds.bounds (walk c.add_variable.new.walk) known leads c.in_ok-bounds.ensures.so stop breaks)
     c.in_err-initial.ensures
 
 pub returns : goal.returns
 returns c =
-    let known = rw c.length_of-count.ensures at c.in_ok-add_variable.ensures in
+    let leads = tested _ E13 _ (rw c.is_ended_array-ended.ensures at c.in_ok-array_element.ensures) in
+    let known = rw (c.length_of-count.ensures, c.is_ended_array-ended.ensures) at c.in_ok-add_variable.ensures in
     let b = c.in_ok-bounds.bounds in
     let j = c.in_ok-initial.initial in
-    record { so = one_more_variable (place_at c.args.context.now) (type_tree c.args.base.now) c.args.span (declarator c.args.d.now) (ctype c.args.t.now) c.in_ok-taken.taken (walk c.args.walk.now) c.in_ok-taken.ensures.room.so (tested _ _ _ c.in_ok-needs.ensures) b (walk c.add_variable.new.walk) known c.in_ok-bounds.ensures.so (record { count = c.length_of-count.result; bounds = b; initial = j }) j (ap (λ n. record { count = n; bounds = b; initial = j }) c.length_of-count.ensures) c.in_ok-initial.ensures.so }
+    let count = c.length_of-count.result in
+    let made : WalkedVariable = record { count = count; ended = c.is_ended_array-ended.result; bounds = b; initial = j } in
+    let same = ap (λ n. record { count = n; ended = c.is_ended_array-ended.result; bounds = b; initial = j }) c.length_of-count.ensures ∙ ap (λ e. record { count = length_of (declarator c.args.d.now); ended = e; bounds = b; initial = j }) c.is_ended_array-ended.ensures in
+    record { so = one_more_variable (place_at c.args.context.now) (type_tree c.args.base.now) c.args.span (declarator c.args.d.now) (ctype c.args.t.now) c.in_ok-taken.taken (walk c.args.walk.now) c.in_ok-taken.ensures.room.so (tested _ _ _ c.in_ok-needs.ensures) b (walk c.add_variable.new.walk) known leads c.in_ok-bounds.ensures.so made j same c.in_ok-initial.ensures.so }

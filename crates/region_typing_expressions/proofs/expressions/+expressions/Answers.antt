@@ -5,13 +5,21 @@ use Rattle.ckc_tree.specs.declared.identifier.Identifier.{Identifier}
 use Rattle.ckc_tree.specs.declared.expr.Expr.{Expr}
 use Rattle.ckc_tree.specs.declared.expr.Expr.TheVariants as exprs
 use Rattle.ckc_tree.specs.declared.expr.UnaryOperator.{UnaryOperator}
-use Rattle.ckc_tree.specs.Expressions.{Index, Dot, Arrow, Unary, expression}
+use Rattle.ckc_tree.specs.declared.expr.CallocWord.{CallocWord}
+use Rattle.ckc_tree.specs.declared.type_form.TypeName.{TypeName}
+use Rattle.ckc_tree.specs.Types.{type_name}
+use Rattle.ckc_tree.specs.Expressions.{Index, Dot, Arrow, Unary, Calloc, expression}
+use Rattle.pointer_modes.specs.Types.{ctype}
+use Rattle.region_typing_rules.specs.Expressions.{site_at}
 use Rattle.region_typing_scope.specs.Points.{point}
+use Rattle.region_typing_scope.specs.Views.{scope}
+use Rattle.region_typing_scope.specs.OnHeap.{typed}
 use Rattle.region_typing_expressions.specs.Calls.{argument}
 use Rattle.region_typing_expressions.specs.Slices.{expression_list}
 use Rattle.region_typing_scope.proofs.Going.{goes_on, refused, refused_by}
 use Rattle.region_typing_expressions.proofs.Arguments.{call_tree, call_parts, argument_pushed, argument_breaks, arguments_done}
 use Rattle.region_typing_expressions.proofs.Leading.{element_parts}
+use Rattle.region_typing_expressions.proofs.Written.{calloc_same}
 use Rattle.region_typing_expressions.proofs.expressions.+expressions.Goals as goal
 
 dot_tree : (x inner : Expr) (base : Box Expr Global) (member : Identifier) (span : Span) → x ≡ exprs.Dot base member span → inner ≡ base.value → expression x ≡ Dot (expression inner) member span
@@ -54,6 +62,21 @@ typed_at-returns-in_ok-index-in-Index t c =
     rw (index_tree c.args.e.now c.deref.result.now c.deref-in-Index.result.now i.base i.index i.span i.is c.deref.ensures c.deref-in-Index.ensures, element_parts at (point c.args.point.now) (expression c.deref.result.now) (expression c.deref-in-Index.result.now) i.span)
     (goes_on _ c.in_ok-base-in-Index.ensures (goes_on _ c.in_ok-index-in-Index.ensures c.element_of.ensures))
 
+calloc_tree : (x a b : Expr) (word : CallocWord) (t : TypeName) (count size : Box Expr Global) (span : Span) → x ≡ exprs.Calloc word t count size span → a ≡ count.value → b ≡ size.value
+    → expression x ≡ Calloc word (type_name t) (expression a) (expression b) span
+calloc_tree x a b word t count size span is first second =
+    ap expression is ∙ ap (λ e. Calloc word (type_name t) (expression e) (expression size.value) span) (sym first) ∙ ap (λ e. Calloc word (type_name t) (expression a) (expression e) span) (sym second)
+
+pub typed_at-returns-in_ok-_size-in-Calloc : goal.typed_at-returns-in_ok-_size-in-Calloc
+typed_at-returns-in_ok-_size-in-Calloc t c =
+    let i = c.in-Calloc in
+    let p = c.args.point.now in
+    let size = c.deref-in-Calloc-2.result.now in
+    let made = rw (c.deref-in-Calloc-3.ensures ∙ sym c.deref-in-Calloc-2.ensures) at c.calloc.ensures in
+    rw (calloc_tree c.args.e.now c.deref-in-Calloc.result.now size i.word i.type_name i.count i.size i.span i.is c.deref-in-Calloc.ensures c.deref-in-Calloc-2.ensures)
+    (goes_on _ c.in_ok-t-in-Calloc.ensures (goes_on _ c.in_ok-count-in-Calloc.ensures (goes_on _ c.in_ok-_size-in-Calloc.ensures
+    (rw (calloc_same p.flow.now (scope p.scope.now) i.word (ctype c.in_ok-t-in-Calloc.t) (typed c.in_ok-count-in-Calloc.count) (expression size) (site_at (place_at c.args.context.now) i.span) i.span) made))))
+
 pub typed_at-returns-in-Unary : goal.typed_at-returns-in-Unary
 typed_at-returns-in-Unary t c = rw (unary_tree c.args.e.now c.deref-in-Unary.result.now c.in-Unary.operator c.in-Unary.operand c.in-Unary.span c.in-Unary.is c.deref-in-Unary.ensures) c.unary_of.ensures
 
@@ -75,19 +98,19 @@ pub member_of-returns-in_err-t : goal.member_of-returns-in_err-t
 member_of-returns-in_err-t t c = refused _ c.from_residual.result c.from_residual.ensures.1 c.in_err-t.ensures
 
 pub member_of-returns : goal.member_of-returns
-member_of-returns t c = goes_on _ c.in_ok-t.ensures c.with_bounds.ensures
+member_of-returns t c = goes_on _ c.in_ok-t.ensures c.with_cell_bounds.ensures
 
 pub member_through-returns-in_err-t : goal.member_through-returns-in_err-t
 member_through-returns-in_err-t t c = refused _ c.from_residual.result c.from_residual.ensures.1 c.in_err-t.ensures
 
 pub member_through-returns : goal.member_through-returns
-member_through-returns t c = goes_on _ c.in_ok-t.ensures c.with_bounds.ensures
+member_through-returns t c = goes_on _ c.in_ok-t.ensures c.with_cell_bounds.ensures
 
 pub unary_of-returns-in_err-t : goal.unary_of-returns-in_err-t
 unary_of-returns-in_err-t t c = refused _ c.from_residual.result c.from_residual.ensures.1 c.in_err-t.ensures
 
 pub unary_of-returns : goal.unary_of-returns
-unary_of-returns t c = goes_on _ c.in_ok-t.ensures c.with_bounds.ensures
+unary_of-returns t c = goes_on _ c.in_ok-t.ensures c.with_cell_bounds.ensures
 
 pub called-returns-in_err-arguments : goal.called-returns-in_err-arguments
 called-returns-in_err-arguments t c = refused _ c.from_residual.result c.from_residual.ensures.1 c.in_err-arguments.ensures

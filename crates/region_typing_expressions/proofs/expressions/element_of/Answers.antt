@@ -9,4 +9,4 @@ returns-in_err-t c =
 pub returns : goal.returns
 returns c =
     let element = rw c.site.ensures at c.in_ok-t.ensures in
-    goes_on _ element c.with_bounds.ensures
+    goes_on _ element c.with_cell_bounds.ensures

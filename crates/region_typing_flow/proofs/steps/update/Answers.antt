@@ -5,16 +5,15 @@ use Rattle.pointer_modes.specs.Types.{ctype}
 use Rattle.ckc_core.specs.declared.program.Site.{Site}
 use Rattle.ckc_core.specs.Core.{Arithmetic, Local, expression}
 use Rattle.region_typing_flow.proofs.Assigned.{bounds_below, number_set}
-use Rattle.region_typing_flow.proofs.Below.{small_below, term_small}
+use Rattle.region_typing_flow.proofs.Below.{small_below, term_within}
 use Rattle.region_typing_flow.proofs.steps.update.Goals as goal
 
 pub assign_int-requires-clause-to_below : goal.assign_int-requires-clause-to_below
 assign_int-requires-clause-to_below c =
     let types = map ctype c.args.locals.now in
-    let few : length types ≤ c.args.flow.now.vars = rw length-map c.requires in
     let site : Site = record { place = record { line = 0; col = 0 } } in
     let value = Arithmetic c.args.operator (Local c.args.local None) (expression c.args.value.now) site in
-    rw (c.combined-to.ensures types (Local c.args.local None) (expression c.args.value.now) site c.local_term.ensures c.term.ensures) (small_below c.args.flow.now.vars _ (term_small c.args.flow.now.vars types value few))
+    rw (c.combined-to.ensures types (Local c.args.local None) (expression c.args.value.now) site c.local_term.ensures c.term.ensures) (small_below c.args.flow.now.vars _ (term_within c.args.flow.now.vars c.args.locals.now value c.requires))
 
 pub assign_pointer-requires-clause-below : goal.assign_pointer-requires-clause-below
 assign_pointer-requires-clause-below c =

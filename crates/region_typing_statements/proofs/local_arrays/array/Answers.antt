@@ -1,7 +1,5 @@
 use Rattle.pointer_modes.specs.Types.{ctype}
-use Rattle.region_typing_scope.specs.OnHeap.{expression}
-use Rattle.region_typing_scope.specs.Views.{scope}
-use Rattle.region_typing_statements.proofs.Locals.{memory_counted, made_row}
+use Rattle.region_typing_statements.proofs.Locals.{made_row}
 use Rattle.region_typing_statements.proofs.Walking.{goes_on, refused}
 use Rattle.region_typing_statements.proofs.local_arrays.array.Goals as goal
 
@@ -14,11 +12,9 @@ returns-in_err-without_initial c =
 
 pub returns-in_err-memory : goal.returns-in_err-memory
 returns-in_err-memory c =
-    let broken = memory_counted (scope c.args.scope.now) (ctype c.args.t) c.args.count (expression c.in_ok-number.number) _ c.args.span _ c.in_ok-number.ensures c.in_err-memory.ensures in
-    goes_on _ c.in_ok-array_bounds.ensures (goes_on _ c.in_ok-without_initial.ensures (refused _ c.from_residual-in_err-memory.result c.from_residual-in_err-memory.ensures.1 broken))
+    goes_on _ c.in_ok-array_bounds.ensures (goes_on _ c.in_ok-without_initial.ensures (refused _ c.from_residual-in_err-memory.result c.from_residual-in_err-memory.ensures.1 c.in_err-memory.ensures))
 
 pub returns : goal.returns
 returns c =
-    let memory = memory_counted (scope c.args.scope.now) (ctype c.args.t) c.args.count (expression c.in_ok-number.number) _ c.args.span _ c.in_ok-number.ensures c.in_ok-memory.ensures in
-    let made = made_row c.args.local c.in_ok-memory.memory (ctype c.in_ok-row.row) (ctype c.args.t) c.args.span c.args.scope.now c.made.new.scope c.made.result c.in_ok-row.ensures c.made.ensures in
-    goes_on _ c.in_ok-array_bounds.ensures (goes_on _ c.in_ok-without_initial.ensures (goes_on _ memory made))
+    let made = made_row c.args.local c.in_ok-memory.memory (ctype c.in_ok-row.row) (ctype c.args.t) c.args.ended c.args.span c.args.scope.now c.made.new.scope c.made.result c.in_ok-row.ensures c.made.ensures in
+    goes_on _ c.in_ok-array_bounds.ensures (goes_on _ c.in_ok-without_initial.ensures (goes_on _ c.in_ok-memory.ensures made))

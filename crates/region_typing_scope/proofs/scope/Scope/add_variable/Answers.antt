@@ -6,5 +6,5 @@ pub invariant_of-self-2-clause-variables_found : goal.invariant_of-self-2-clause
 invariant_of-self-2-clause-variables_found c =
     let kept = c.in_ok-reserve.ensures.items in
     let last = c.len.ensures ∙ c.reserve.new.self.ok.0 ∙ ap length kept in
-    let more = c.push_reserved.ensures.items ∙ ap (λ vs. vs ++ record { name = c.args.name; ctype = c.args.ctype; length = c.args.elements; bounds = c.args.bounds } ∷ []) kept in
-    finds_pushed (λ v. v.name) c.args.self.now.variables.items c.push_reserved.new.self.items (record { name = c.args.name; ctype = c.args.ctype; length = c.args.elements; bounds = c.args.bounds }) c.args.self.now.variable_places c.note.new.self c.args.name c.len.result c.args.self.now.variables_found last c.in_ok-note.ensures.noted more refl
+    let more = c.push_reserved.ensures.items ∙ ap (λ vs. vs ++ record { name = c.args.name; ctype = c.args.ctype; length = c.args.elements; ended = c.args.ended; bounds = c.args.bounds } ∷ []) kept in
+    finds_pushed (λ v. v.name) c.args.self.now.variables.items c.push_reserved.new.self.items (record { name = c.args.name; ctype = c.args.ctype; length = c.args.elements; ended = c.args.ended; bounds = c.args.bounds }) c.args.self.now.variable_places c.note.new.self c.args.name c.len.result c.args.self.now.variables_found last c.in_ok-note.ensures.noted more refl
