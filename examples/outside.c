@@ -1,4 +1,4 @@
 int main(void) {
-  char word _Nt_checked[4];
+  nt_array_ptr<char> word = "abc";
   return word[0];
 }
