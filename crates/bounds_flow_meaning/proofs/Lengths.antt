@@ -1,16 +1,14 @@
 -- Behind the count of the elements before its zero a null-terminated pointer is valid up to that.
-use Rattle.std.proofs.Common.{ℕ, zero, suc, ◌+◌, ◌-◌, ◌*◌, ◌≡◌, ◌≢◌, ◌<◌, ◌≤◌, ℤ, pos, negsuc, ◌+ℤ◌, ◌*ℤ◌, ◌≤ℤ◌, Bool, true, false, cond, ◌&&◌, ◌⊎◌, inl, inr, Option, None, Some, List, replicate, set, length, refl, sym, ap, ◌∙◌, subst, arith}
+use Rattle.std.proofs.Common.{ℕ, zero, suc, ◌+◌, ◌-◌, ◌*◌, ◌≡◌, ◌<◌, ◌≤◌, ℤ, pos, negsuc, ◌+ℤ◌, ◌*ℤ◌, ◌≤ℤ◌, Bool, true, false, cond, ◌&&◌, ◌⊎◌, inl, inr, Option, None, Some, List, replicate, set, length, refl, sym, ap, ◌∙◌, subst, arith}
 use Rattle.std.specs.Prelude.{◌==◌, slice_get, option_map, nat_lt, int_le, int_lt, sum}
 use Rattle.std.proofs.lemmas.Int.{ints}
 use Rattle.std.proofs.lemmas.Bool.{and_from}
 use Rattle.std.proofs.lemmas.Option.{same_Some}
 use Rattle.std.proofs.lemmas.Bool.Decides.{nat_tests}
 use Rattle.bounds_exprs.specs.declared.term.Bounds.{Bounds}
-use Rattle.bounds_exprs.specs.declared.term.Term.{Term}
 use Rattle.bounds_exprs.specs.Terms.{is_var}
 use Rattle.bounds_exprs.specs.Changes.{is_named}
-use Rattle.subsumption.specs.ClosedTables.{ClosedTable, entails_terms, without}
-use Rattle.subsumption.specs.Facts.{TermsHold}
+use Rattle.subsumption.specs.ClosedTables.{entails_terms}
 use Rattle.subsumption.specs.TableLaws.{MeetsTable}
 use Rattle.subsumption.proofs.TableSteps.{give_tables}
 use Rattle.bounds_flow.specs.declared.held.Held.{Held}

@@ -21,7 +21,7 @@ use Rattle.ckc_core.specs.Programs.{Initial}
 use Rattle.ckc_core.specs.States.{Value, Null, At, Cell, Block, Local, State, Shape, shape, shapes, strides}
 use Rattle.ckc_core.specs.Bounds.{Ends, base_byte, block_size, ends_at, ends_from, is_valid, lie_within, room_of, term_value}
 use Rattle.ckc_core.specs.Meaning.{sound_if}
-use Rattle.ckc_core.specs.Pointers.{cells_of_elements, counter_behind, element_cells, element_size, made_elements, made_if, new_block, reaches}
+use Rattle.ckc_core.specs.Pointers.{before_zero, is_terminated, cells_of_elements, counter_behind, element_cells, element_size, made_elements, made_if, new_block, reaches}
 use Rattle.bounds_flow_meaning.specs.Holding.{IsValid, at_node, is_ended, target_size}
 use Rattle.bounds_flow_meaning.specs.Rows.{AreCellsBehind, AreCellsOf, AreElements, AreEnded, HasRow, LeadsOn}
 use Rattle.bounds_flow_meaning.specs.Sums.{AuditsPass, BasesStay, BlocksGrow, EndsMoveBack, IsNew, NewBlocksCount, NullIsValid, VariablesAreBases, counted}
@@ -358,7 +358,11 @@ module _ (structs : List Structure) (terminated : Bool) (element : List Initial)
       (record { valid = made_valid n h; grows = (shape (made n) ∷ [], map-append shape s.blocks (made n ∷ [])); locals = refl })
 
 pub new_blocks_count : NewBlocksCount
-new_blocks_count structs room terminated element t (negsuc n) l v s u h sized cells alike e = given structs terminated element t l s sized cells alike Null v s u e (null_new structs terminated element t l s sized cells alike)
-new_blocks_count structs room terminated element t (pos zero) l v s u h sized cells alike e = given structs terminated element t l s sized cells alike Null v s u e (null_new structs terminated element t l s sized cells alike)
-new_blocks_count structs room terminated element t (pos (suc n)) l v s u h sized cells alike e =
-    made_new structs terminated element t l s sized cells alike (is_refused room (counter_behind first_offset s.blocks) (made_elements terminated (suc n) * element_size element)) (suc n) v u h e
+new_blocks_count structs room terminator element t (negsuc n) l v s u h sized cells alike e =
+    given structs (is_terminated terminator) element t l s sized cells alike Null v s u e (null_new structs (is_terminated terminator) element t l s sized cells alike)
+new_blocks_count structs room terminator element t (pos zero) l v s u h sized cells alike e =
+    given structs (is_terminated terminator) element t l s sized cells alike Null v s u e (null_new structs (is_terminated terminator) element t l s sized cells alike)
+new_blocks_count structs room terminator element t (pos (suc n)) l v s u h sized cells alike e =
+    let ended = is_terminated terminator in
+    let count = before_zero terminator (suc n) in
+    made_new structs ended element t l s sized cells alike (is_refused room (counter_behind first_offset s.blocks) (made_elements ended count * element_size element)) count v u (h n refl) e

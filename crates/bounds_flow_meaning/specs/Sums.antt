@@ -1,5 +1,5 @@
 -- Bounds of pointers that expressions make of pointers, and of those that wait while others are computed.
-use Rattle.std.specs.Prelude.{ℕ, Bool, ◌≡◌, ℤ, pos, neg_ℤ, ◌+ℤ◌, ◌*ℤ◌, true, List, Option, Some, None, slice_get}
+use Rattle.std.specs.Prelude.{ℕ, suc, ◌≡◌, ℤ, pos, neg_ℤ, ◌+ℤ◌, ◌*ℤ◌, true, List, Option, Some, None, slice_get}
 use Rattle.bounds_exprs.specs.declared.term.Term.{Term}
 use Rattle.bounds_exprs.specs.declared.term.Bounds.{Bounds}
 use Rattle.bounds_exprs.specs.Normal.{constant}
@@ -7,12 +7,13 @@ use Rattle.bounds_exprs.specs.Changes.{moved_by}
 use Rattle.pointer_modes.specs.Types.{Structure}
 use Rattle.ckc_core.specs.declared.program.Site.{Site}
 use Rattle.ckc_core.specs.declared.program.PointerBounds.{PointerBounds}
+use Rattle.ckc_core.specs.declared.program.Terminator.{Terminator}
 use Rattle.ckc_core.specs.Outcome.{Gives}
 use Rattle.ckc_core.specs.Meaning.{audit}
 use Rattle.ckc_core.specs.Programs.{Initial}
 use Rattle.ckc_core.specs.Bounds.{term_value}
 use Rattle.ckc_core.specs.States.{Value, Null, At, Local, State, Grows, shapes}
-use Rattle.ckc_core.specs.Pointers.{allocated, element_size, reaches}
+use Rattle.ckc_core.specs.Pointers.{is_terminated, before_zero, allocated, element_size, reaches}
 use Rattle.bounds_flow_meaning.specs.Holding.{IsValid, at_node, is_ended, target_size}
 use Rattle.bounds_flow_meaning.specs.Rows.{AreCellsBehind}
 
@@ -62,9 +63,13 @@ pub record IsNew (structs : List Structure) (b : Bounds) (l : Local) (before aft
   pub grows : Grows (shapes before.blocks) (shapes after.blocks)
   pub locals : after.locals ≡ before.locals
 
--- a new block, or null in its place, has as many elements as were asked for
+-- a term comes to as many elements as stand before the zero, where one ends as many as are counted
+abbrev pub IsBeforeZero : Terminator → Term → ℤ → State → Type 0
+IsBeforeZero terminator t z s = (n : ℕ) → z ≡ pos (suc n) → term_value t s.locals ≡ Some (pos (before_zero terminator (suc n)))
+
+-- a new block, or null in its place, has as many elements as were asked for, up to the zero that ends them
 abbrev pub NewBlocksCount : Type 0
-NewBlocksCount = (structs : List Structure) (room : ℕ) (terminated : Bool) (element : List Initial) (t : Term) (z : ℤ) (l : Local) (v : Value) (s u : State)
-    → term_value t s.locals ≡ Some z → element_size element ≡ target_size structs l.type → AreCellsBehind structs l.type element
-    → terminated ≡ is_ended l.type → allocated room terminated element z s ≡ Gives v u
+NewBlocksCount = (structs : List Structure) (room : ℕ) (terminator : Terminator) (element : List Initial) (t : Term) (z : ℤ) (l : Local) (v : Value) (s u : State)
+    → IsBeforeZero terminator t z s → element_size element ≡ target_size structs l.type → AreCellsBehind structs l.type element
+    → is_terminated terminator ≡ is_ended l.type → allocated room terminator element z s ≡ Gives v u
     → IsNew structs (counted t) (record l { value = v }) s u

@@ -7,7 +7,7 @@ use Rattle.act_words.specs.Touches.{Asked, Got, Ended, spend_tick}
 use Rattle.pointer_modes.specs.Types.{CType, Int, Char, Struct, Pointer}
 use Rattle.ckc_core.specs.declared.program.Site.{Site}
 use Rattle.ckc_text.specs.declared.code.Code.{Code}
-use Rattle.ckc_text.specs.declared.code.Code.TheVariants.{C1, C2, C5}
+use Rattle.ckc_text.specs.declared.code.Code.TheVariants.{C2, C5}
 use Rattle.ckc_core.specs.Core as core
 use Rattle.ckc_core.specs.declared.program.Direction.{Direction}
 use Rattle.ckc_core.specs.declared.program.Direction.TheVariants as directions
@@ -15,10 +15,10 @@ use Rattle.std.proofs.lemmas.Bool.{eqb-true}
 use Rattle.ckc_core.specs.declared.program.PointerBounds.{PointerBounds}
 use Rattle.ckc_core.specs.Outcome.{Gives, Ends, Stuck, Unsound, Short, and_then}
 use Rattle.ckc_core.specs.States.{Value, Number, Null, At, Cell, Local, State, in_world, cell_at, same_type, has_type}
-use Rattle.ckc_core.specs.Bounds.{Pointed, Ends as EndsOf, with_ends, ends_from, ends_at, base_byte, term_value, is_valid}
+use Rattle.ckc_core.specs.Bounds.{Ends as EndsOf, with_ends, ends_from, ends_at, base_byte, term_value, is_valid}
 use Rattle.ckc_core.specs.Pointers.{number_given, checked_if, distance, lies_in, lies_up_to, are_within, cell_behind, pointer_if, pointer_at, reaches, ordered_if, ordered, not_null, counted_if, read_as, byte_read, counted_from, counted as bytes_counted, bytes_of_block}
 use Rattle.ckc_core.specs.Steps.{is_zero, Result, Flow, Next, Broke, Continued, Returned, value_if, value_in, place_if, load_at, asked, choose, store_if, store_over, store_at, leaves_zero, on_next, behind_turn}
-use Rattle.ckc_core.specs.Meaning.{sound_if, audit, cast_if, cast_within, cast_to, element, element_within, end_kept, reached, storable_at, summed, length_of, Target}
+use Rattle.ckc_core.specs.Meaning.{sound_if, audit, cast_if, cast_within, cast_to, element, element_within, end_kept, reached, storable_at, summed, length_of}
 use Rattle.check_insertion.specs.ErasedMeaning as erased
 use Rattle.check_insertion.specs.declared.erased.Check.TheVariants as checks
 use Rattle.check_insertion.specs.Insert as insert

@@ -19,13 +19,13 @@ use Rattle.ckc_core.specs.Bounds.{Pointed, with_ends}
 use Rattle.ckc_core.specs.Steps.{Result, Flow, store_at, setting_of, given, place_at, variable_at, load_at, pointer_to, truth, same_place, test_given, arithmetic_of, compared, negated, complemented, low_byte_of, words_of, reply_as, back, passed, cross, cross_if, call_tainted, crossed, fit, parameters_of, takes, enter_if, called, result_given, set_local, kept_if, is_char, printed, put, no_result, answer, locals_for, exit, initial}
 use Rattle.ckc_core.specs.Meaning as meaning
 use Rattle.ckc_core.specs.Meaning.{audit, site_of, bounds_of, without_ends, place_from, pointed, reached, Target, cast_to, summed}
-use Rattle.ckc_core.specs.Pointers.{number_given, not_null, ordered, allocated}
+use Rattle.ckc_core.specs.Pointers.{number_given, allocated}
 use Rattle.check_insertion.specs.ErasedMeaning as erased
 use Rattle.check_insertion.specs.Erased as erased_language
 use Rattle.check_insertion.specs.Insert as insert
 use Rattle.check_insertion.specs.Insert.{access_checks, with_checks}
 use Rattle.check_insertion.specs.Keeps.{Follows, KeepsMeaning}
-use Rattle.check_insertion.proofs.Following.{FollowsBy, same, on, on_with, on_by, flat, given_on, number_kept, asked_on, chosen, next_on, turned_on, audit_on, ends_aside, reached_on, storable_on, length_on, summed_on, ordered_on, cast_on, load_on, store_on}
+use Rattle.check_insertion.proofs.Following.{FollowsBy, same, on, on_with, on_by, flat, given_on, number_kept, asked_on, chosen, next_on, turned_on, audit_on, reached_on, storable_on, length_on, summed_on, ordered_on, cast_on, load_on, store_on}
 use Rattle.ckc_core.proofs.Locals.{Keeps, CallsKeep, back_keeps, value_keeps, index_keeps, cell_keeps, reached_keeps, arithmetic_keeps, kept_keeps}
 
 -- a function of the core, with its checks
@@ -138,11 +138,11 @@ module _ (audited : Bool) (program : ProgramOf core.Statements) (settings : Sett
       value_on (core.Order comparison left right site) s =
           on (meaning.value audited g k left s) (erased.value g' k' (insert.expression left) s) _ _ (value_on left s)
           (λ a t. on (meaning.value audited g k right t) (erased.value g' k' (insert.expression right) t) _ _ (value_on right t) (λ b u. ordered_on comparison site a b u))
-      value_on (core.Allocate count element terminated bounds) s =
-          audit_on audited bounds _ (erased.value g' k' (insert.expression (core.Allocate count element terminated bounds)) s)
+      value_on (core.Allocate count element terminator bounds) s =
+          audit_on audited bounds _ (erased.value g' k' (insert.expression (core.Allocate count element terminator bounds)) s)
           (on (and_then (meaning.value audited g k count s) (number_given None)) (and_then (erased.value g' k' (insert.expression count) s) (number_given None)) _ _
           (on (meaning.value audited g k count s) (erased.value g' k' (insert.expression count) s) (number_given None) (number_given None) (value_on count s) (λ v t. same (number_given None v t)))
-          (λ z t. same (allocated settings.trusted terminated element z t)))
+          (λ z t. same (allocated settings.trusted terminator element z t)))
       value_on (core.Length pointer site) s =
           on (meaning.value audited g k pointer s) (erased.value g' k' (insert.expression pointer) s) _ _ (value_on pointer s)
           (λ v t. length_on (bounds_of pointer) settings.budget site v t)

@@ -9,7 +9,7 @@ use Rattle.ckc_core.specs.Stacks as stacks
 use Rattle.ckc_core.specs.Weights as weights
 use Rattle.check_insertion.specs.Insert.{expression, arguments_of, place, index, size_of, within_of, store_end, end_of, up_to_of, cast_checks, statement, statements, function}
 use Rattle.check_insertion.specs.Stacks.{expression_stack, arguments_stack, place_stack, index_stack, store_stack, update_stack, statement_stack, statements_stack, body_stack}
-use Rattle.check_insertion.specs.Weights.{end_weight, expression_weight, arguments_weight, place_weight, index_weight, statement_weight, statements_weight}
+use Rattle.check_insertion.specs.Weights.{end_weight, expression_weight, arguments_weight, place_weight, statement_weight, statements_weight}
 
 -- ---- words of the stack
 
@@ -33,7 +33,7 @@ mutual
   same_stack core.NextInput = refl
   same_stack (core.Sum pointer direction number site bounds) = rw (same_stack pointer, same_stack number) refl
   same_stack (core.Order comparison left right site) = rw (same_stack left, same_stack right) refl
-  same_stack (core.Allocate count element terminated bounds) = same_stack count
+  same_stack (core.Allocate count element terminator bounds) = same_stack count
   same_stack (core.Length pointer site) = rw (same_stack pointer) refl
   same_stack (core.Cast pointer bounds) = rw (same_stack pointer) refl
 
@@ -129,7 +129,7 @@ mutual
   few_nodes core.NextInput = omega arith
   few_nodes (core.Sum pointer direction number site bounds) = omega (arith, few_nodes pointer, few_nodes number, one_up_to (bounds_of pointer) site)
   few_nodes (core.Order comparison left right site) = omega (arith, few_nodes left, few_nodes right)
-  few_nodes (core.Allocate count element terminated bounds) = omega (arith, few_nodes count)
+  few_nodes (core.Allocate count element terminator bounds) = omega (arith, few_nodes count)
   few_nodes (core.Length pointer site) = omega (arith, few_nodes pointer, one_up_to (bounds_of pointer) site)
   few_nodes (core.Cast pointer bounds) = omega (arith, few_nodes pointer, one_cast (bounds_of pointer) bounds)
 

@@ -7,6 +7,7 @@ use Rattle.pointer_modes.specs.Types.{CType, ctype}
 use Rattle.ckc_core.specs.declared.program.Site.{Site}
 use Rattle.ckc_core.specs.declared.program.Callee.{Callee}
 use Rattle.ckc_core.specs.declared.program.Direction.{Direction}
+use Rattle.ckc_core.specs.declared.program.Terminator.{Terminator}
 use Rattle.ckc_core.specs.Programs.{FunctionOf, Initial, ProgramOf}
 use Rattle.ckc_core.specs.Core.{import_of, initial, object}
 use Rattle.check_insertion.specs.declared.erased as code
@@ -48,8 +49,8 @@ mutual
     Sum : (pointer : Expression) (direction : Direction) (number : Expression) (size : ℕ) (checks : List Check) → Expression
     -- the order of two pointers in one block, behind the checks of both
     Order : (comparison : Comparison) (left : Expression) (left_checks : List Check) (right : Expression) (right_checks : List Check) → Expression
-    -- a new block of so many elements, each with these cells, or null; where it is null-terminated, of one more, which is 0
-    Allocate : (count : Expression) (element : List Initial) (terminated : Bool) → Expression
+    -- a new block of so many elements, each with these cells, or null; of one more where a zero stands behind them
+    Allocate : (count : Expression) (element : List Initial) (terminator : Terminator) → Expression
     -- how many bytes stand before the first zero, from the one on that a pointer to elements of so many bytes leads to, behind its checks
     Length : (pointer : Expression) (size : ℕ) (checks : List Check) → Expression
     -- a pointer to elements of so many bytes, behind its checks
@@ -136,7 +137,7 @@ abbrev mutual
   expression (exprs.Sum' p pointer direction q number size checks) = Sum (expression pointer) direction (expression number) size checks.items
   expression (exprs.Order' comparison p left left_checks q right right_checks) =
       Order comparison (expression left) left_checks.items (expression right) right_checks.items
-  expression (exprs.Allocate' p count element terminated) = Allocate (expression count) (map initial element.items) terminated
+  expression (exprs.Allocate' p count element terminator) = Allocate (expression count) (map initial element.items) terminator
   expression (exprs.Length' p pointer size checks) = Length (expression pointer) size checks.items
   expression (exprs.Cast' p pointer size checks) = Cast (expression pointer) size checks.items
 

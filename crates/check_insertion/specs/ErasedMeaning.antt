@@ -163,7 +163,7 @@ abbrev mutual
   value g k (erased.Order comparison left left_checks right right_checks) s =
       and_then (value g k left s) (λ a t. and_then (value g k right t) (λ b u. and_then (pass (no_step 1) left_checks a u)
       (λ _ w. and_then (pass (no_step 1) right_checks b w) (λ _ x. ordered comparison None a b x))))
-  value g k (erased.Allocate count element terminated) s = and_then (and_then (value g k count s) (number_given None)) (allocated g.trusted terminated element)
+  value g k (erased.Allocate count element terminator) s = and_then (and_then (value g k count s) (number_given None)) (allocated g.trusted terminator element)
   value g k (erased.Length pointer size checks) s =
       and_then (value g k pointer s) (λ v t. and_then (pass (no_step size) checks v t) (λ _ u. length_from g.budget v u))
   value g k (erased.Cast pointer size checks) s = and_then (value g k pointer s) (λ v t. and_then (pass (no_step size) checks v t) (λ _ u. Gives v u))

@@ -80,7 +80,7 @@ abbrev mutual
   expression (core.Sum pointer direction number site bounds) =
       erased.Sum (expression pointer) direction (expression number) (size_of (bounds_of pointer)) (sum_checks (bounds_of pointer) site)
   expression (core.Order comparison left right site) = erased.Order comparison (expression left) (NotNull site ∷ []) (expression right) (NotNull site ∷ [])
-  expression (core.Allocate count element terminated bounds) = erased.Allocate (expression count) element terminated
+  expression (core.Allocate count element terminator bounds) = erased.Allocate (expression count) element terminator
   expression (core.Length pointer site) = erased.Length (expression pointer) (size_of (bounds_of pointer)) (sum_checks (bounds_of pointer) site)
   expression (core.Cast pointer bounds) = erased.Cast (expression pointer) (size_of (bounds_of pointer)) (cast_checks (bounds_of pointer) bounds)
 

@@ -28,7 +28,7 @@ abbrev mutual
   expression_stack erased.NextInput = 1
   expression_stack (erased.Sum pointer direction number size checks) = max (expression_stack pointer) (max (1 + expression_stack number) 6)
   expression_stack (erased.Order comparison left left_checks right right_checks) = max (expression_stack left) (max (1 + expression_stack right) 2)
-  expression_stack (erased.Allocate count element terminated) = expression_stack count
+  expression_stack (erased.Allocate count element terminator) = expression_stack count
   expression_stack (erased.Length pointer size checks) = max (expression_stack pointer) 6
   expression_stack (erased.Cast pointer size checks) = max (expression_stack pointer) 7
 

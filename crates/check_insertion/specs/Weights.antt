@@ -25,7 +25,7 @@ abbrev mutual
   expression_weight (erased.Sum pointer direction number size checks) = 1 + length checks + expression_weight pointer + expression_weight number
   expression_weight (erased.Order comparison left left_checks right right_checks) =
       1 + length left_checks + length right_checks + expression_weight left + expression_weight right
-  expression_weight (erased.Allocate count element terminated) = 1 + expression_weight count
+  expression_weight (erased.Allocate count element terminator) = 1 + expression_weight count
   expression_weight (erased.Length pointer size checks) = 1 + length checks + expression_weight pointer
   expression_weight (erased.Cast pointer size checks) = 1 + length checks + expression_weight pointer
 

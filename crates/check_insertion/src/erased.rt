@@ -2,7 +2,7 @@
 
 use act_words::operator::{Comparison, Operator};
 use bounds_exprs::term::Bounds;
-use ckc_core::program::{Callee, Direction, Import, Initial, Object, Site};
+use ckc_core::program::{Callee, Direction, Import, Initial, Object, Site, Terminator};
 use ckc_text::name::Name;
 use pointer_modes::ctype::CType;
 
@@ -103,11 +103,11 @@ pub enum Expr {
         right: Box<Expr>,
         right_checks: Vec<Check>,
     },
-    /// A new block of so many elements, each with these cells, or null; where it is null-terminated, of one more, which is 0.
+    /// A new block of so many elements, each with these cells, or null; of one more where a zero stands behind them.
     Allocate {
         count: Box<Expr>,
         element: Vec<Initial>,
-        terminated: bool,
+        terminator: Terminator,
     },
     /// How many bytes stand before the first zero, from the one on that a pointer to elements of so many bytes leads to, behind
     /// its checks.

@@ -13,7 +13,7 @@ use crate::copies::cells;
 use crate::erased::{Call, CellPlace, Expr, Index};
 use act_words::operator::{Comparison, Operator};
 use ckc_core::program;
-use ckc_core::program::{Callee, Direction, Initial, PointerBounds, Site};
+use ckc_core::program::{Callee, Direction, Initial, PointerBounds, Site, Terminator};
 use ckc_text::fault::NoMemory;
 use ckc_text::on_heap;
 use pointer_modes::ctype::CType;
@@ -70,9 +70,9 @@ pub fn expression(alloc: Global, expr: &program::Expr) -> Result<Expr, NoMemory>
         program::Expr::Allocate {
             count,
             element,
-            terminated,
+            terminator,
             ..
-        } => allocate(alloc, count, element, *terminated),
+        } => allocate(alloc, count, element, *terminator),
         program::Expr::Length { pointer, site } => length(alloc, pointer, *site),
         program::Expr::Cast { pointer, bounds } => cast(alloc, pointer, *bounds),
     }
@@ -229,16 +229,16 @@ fn allocate(
     alloc: Global,
     count: &program::Expr,
     element: &[Initial],
-    terminated: bool,
+    terminator: Terminator,
 ) -> Result<Expr, NoMemory>
-    ensures { IfOk result (λ e. erased.expression e ≡ erased.Allocate (insert.expression (core.expression count.now)) (map core.initial element.now) terminated) }
+    ensures { IfOk result (λ e. erased.expression e ≡ erased.Allocate (insert.expression (core.expression count.now)) (map core.initial element.now) terminator) }
 {
     let count = boxed(alloc, count)?;
     let element = cells(alloc, element)?;
     Ok(Expr::Allocate {
         count,
         element,
-        terminated,
+        terminator,
     })
 }
 

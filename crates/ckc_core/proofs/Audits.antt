@@ -161,11 +161,11 @@ module _ (program : ProgramOf core.Statements) (settings : Settings) where
           on (value true g k left s) (value false g k' left s) _ _ (value_on left s)
           (λ a t. on (value true g k right t) (value false g k' right t) _ _ (value_on right t)
           (λ b u. same (and_then (not_null site a u) (λ _ w. and_then (not_null site b w) (λ _ x. ordered comparison (Some site) a b x)))))
-      value_on (core.Allocate count element terminated bounds) s =
+      value_on (core.Allocate count element terminator bounds) s =
           on _ _ (audit true bounds) (audit false bounds)
-          (on (and_then (value true g k count s) (number_given None)) (and_then (value false g k' count s) (number_given None)) (allocated settings.trusted terminated element) (allocated settings.trusted terminated element)
+          (on (and_then (value true g k count s) (number_given None)) (and_then (value false g k' count s) (number_given None)) (allocated settings.trusted terminator element) (allocated settings.trusted terminator element)
           (on (value true g k count s) (value false g k' count s) (number_given None) (number_given None) (value_on count s) (λ v t. same (number_given None v t)))
-          (λ z t. same (allocated settings.trusted terminated element z t)))
+          (λ z t. same (allocated settings.trusted terminator element z t)))
           (λ v t. audited_on bounds v t)
       value_on (core.Length pointer site) s =
           on (value true g k pointer s) (value false g k' pointer s) _ _ (value_on pointer s)

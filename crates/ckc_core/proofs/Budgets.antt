@@ -18,14 +18,15 @@ use Rattle.ckc_core.specs.declared.program.Callee.{Callee}
 use Rattle.ckc_core.specs.declared.program.Callee.TheVariants as callees
 use Rattle.ckc_core.specs.Programs.{Import, Initial, ProgramOf, parted}
 use Rattle.ckc_core.specs.declared.program.Direction.{Direction}
+use Rattle.ckc_core.specs.declared.program.Terminator.{Terminator}
 use Rattle.ckc_core.specs.declared.program.Direction.TheVariants as directions
 use Rattle.ckc_core.specs.declared.program.PointerBounds.{PointerBounds}
 use Rattle.ckc_core.specs.Bounds.{Ends as EndsOf, ends_at, Pointed, with_ends, is_valid}
 use Rattle.ckc_core.specs.Core as core
 use Rattle.ckc_core.specs.States.{Value, Number, Null, At, Cell, Local, State, in_world, cell_at, same_type, has_type}
 use Rattle.ckc_core.specs.Steps.{variable_if, is_zero, variable_at, Result, Flow, Next, Broke, Continued, Returned, given, checked, value_if, value_in, load_at, place_if, pointer_to, truth, same_place, test_given, result_of, arithmetic_of, compared, negated, complemented, low_byte_of, asked, words_of, reply_as, passed, cross, cross_if, call_tainted, crossed, takes, enter_if, call_trusted, called, result_given, choose, store_if, store_over, store_at, set_local, kept_if, is_char, printed, put, on_next, behind_turn, no_result, answer, locals_for, back, exit, initial, place_at, set_if, set_over, leaves_zero, fit, parameters_of, fits_result, answer_if}
-use Rattle.ckc_core.specs.Meaning.{Knot, bounds_of, Setting, audit, body_if, body_of, cast_to, cast_if, cast_within, effect, effects, element, element_within, length_of, end_kept, storable_at, storable, number_of, knot, run_of, place, place_from, pointed, Target, target_of, reached, site_of, sound_if, summed, value, values}
-use Rattle.ckc_core.specs.Pointers.{number_given, checked_if, distance, lies_in, lies_up_to, are_within, cell_behind, reaches, pointer_if, pointer_at, ordered_if, ordered, not_null, counter_behind, element_size, made_if, allocated, made_elements, counted_if, read_as, byte_read, counted_from, counted, bytes_of_block}
+use Rattle.ckc_core.specs.Meaning.{Knot, bounds_of, Setting, audit, body_if, body_of, cast_to, cast_if, cast_within, effect, effects, element, element_within, length_of, end_kept, storable, number_of, knot, run_of, place, place_from, pointed, Target, target_of, reached, site_of, sound_if, summed, value, values}
+use Rattle.ckc_core.specs.Pointers.{number_given, checked_if, distance, lies_in, lies_up_to, are_within, cell_behind, reaches, pointer_if, pointer_at, ordered_if, ordered, not_null, counter_behind, element_size, made_if, elements_made, allocated, is_terminated, before_zero, made_elements, counted_if, read_as, byte_read, counted_from, counted, bytes_of_block}
 use Rattle.ckc_text.specs.declared.code.Code.{Code}
 use Rattle.ckc_text.specs.declared.code.Code.TheVariants.{C2, C3, C5}
 use Rattle.ckc_core.proofs.Ticks.{HasSpent, Answers, Crosses, tick_answers, enter_answers, touch_answers, until_crosses, next_answers}
@@ -156,11 +157,15 @@ module _ (budget : ℕ) where
     made_goes_if true terminated n element = spent
     made_goes_if false terminated n element = record { least = spent.least; most = spent.most }
 
-    allocated_goes : (size : ℕ) (terminated : Bool) (element : List Initial) (z : ℤ) → Goes budget low (allocated size terminated element z s)
-    allocated_goes size terminated element (negsuc n) = spent
-    allocated_goes size terminated element (pos zero) = spent
-    allocated_goes size terminated element (pos (suc n)) =
-        made_goes_if (is_refused size (counter_behind first_offset s.blocks) (made_elements terminated (suc n) * element_size element)) terminated (suc n) element
+    elements_made_goes : (size : ℕ) (terminated : Bool) (element : List Initial) (n : ℕ) → Goes budget low (elements_made size terminated element n s)
+    elements_made_goes size terminated element n =
+        made_goes_if (is_refused size (counter_behind first_offset s.blocks) (made_elements terminated n * element_size element)) terminated n element
+
+    allocated_goes : (size : ℕ) (terminator : Terminator) (element : List Initial) (z : ℤ) → Goes budget low (allocated size terminator element z s)
+    allocated_goes size terminator element (negsuc n) = spent
+    allocated_goes size terminator element (pos zero) = spent
+    allocated_goes size terminator element (pos (suc n)) =
+        elements_made_goes size (is_terminated terminator) element (before_zero terminator (suc n))
 
     read_goes : (type : CType) (v : Value) (site : Option Site) (n : ℕ) (more : Result Value) → Goes budget low more → Goes budget low (read_as type v site n more s)
     read_goes Int v site n more h = tt
@@ -448,11 +453,11 @@ module _ (budget : ℕ) where
             (λ b u u_spent. goes_on low (not_null site a u) _ (not_null_goes low u u_spent site a)
             (λ _ w w_spent. goes_on low (not_null site b w) _ (not_null_goes low w w_spent site b)
             (λ _ x x_spent. ordered_goes low x x_spent comparison (Some site) a b))))
-        value_goes (core.Allocate count element terminated bounds) low enough s spent =
+        value_goes (core.Allocate count element terminator bounds) low enough s spent =
             goes_on low _ (audit audited bounds)
-            (goes_on low (and_then (value audited g k count s) (number_given None)) (allocated trusted_size terminated element)
+            (goes_on low (and_then (value audited g k count s) (number_given None)) (allocated trusted_size terminator element)
             (goes_on low (value audited g k count s) (number_given None) (value_goes count low enough s spent) (λ v t t_spent. number_goes low t t_spent None v))
-            (λ z t t_spent. allocated_goes low t t_spent trusted_size terminated element z))
+            (λ z t t_spent. allocated_goes low t t_spent trusted_size terminator element z))
             (λ v t t_spent. audit_goes low t t_spent audited bounds v)
         value_goes (core.Length pointer site) low enough s spent =
             goes_on low (value audited g k pointer s) _ (value_goes pointer low enough s spent)

@@ -15,6 +15,7 @@ use Rattle.ckc_core.specs.declared.program.Callee.{Callee}
 use Rattle.ckc_core.specs.declared.program.Callee.TheVariants as callees
 use Rattle.ckc_core.specs.Programs.{Import, Initial}
 use Rattle.ckc_core.specs.declared.program.Direction.{Direction}
+use Rattle.ckc_core.specs.declared.program.Terminator.{Terminator}
 use Rattle.ckc_core.specs.declared.program.Direction.TheVariants as directions
 use Rattle.ckc_core.specs.declared.program.PointerBounds.{PointerBounds}
 use Rattle.ckc_core.specs.Bounds.{Ends as EndsOf, ends_at, Pointed, with_ends, is_valid}
@@ -22,7 +23,7 @@ use Rattle.ckc_core.specs.Core as core
 use Rattle.ckc_core.specs.States.{Value, Number, Null, At, Cell, Local, State, in_world, cell_at, same_type}
 use Rattle.ckc_core.specs.Steps.{kept_if, variable_if, is_zero, Result, given, checked, value_if, value_in, load_at, place_if, pointer_to, truth, same_place, test_given, result_of, arithmetic_of, compared, negated, complemented, low_byte_of, asked, words_of, reply_as, passed, cross, cross_if, call_tainted, takes, enter_if, called, result_given, choose, back, place_at}
 use Rattle.ckc_core.specs.Meaning.{Knot, bounds_of, Setting, audit, cast_to, cast_if, cast_within, element, element_within, length_of, number_of, place, Target, reached, site_of, sound_if, summed, value, values}
-use Rattle.ckc_core.specs.Pointers.{number_given, checked_if, distance, lies_in, lies_up_to, are_within, cell_behind, reaches, pointer_if, pointer_at, ordered_if, ordered, not_null, counter_behind, element_size, made_if, allocated, made_elements, counted_if, read_as, byte_read, counted_from, counted, bytes_of_block}
+use Rattle.ckc_core.specs.Pointers.{number_given, checked_if, distance, lies_in, lies_up_to, are_within, cell_behind, reaches, pointer_if, pointer_at, ordered_if, ordered, not_null, counter_behind, element_size, made_if, elements_made, allocated, is_terminated, before_zero, made_elements, counted_if, read_as, byte_read, counted_from, counted, bytes_of_block}
 use Rattle.ckc_text.specs.declared.code.Code.{Code}
 use Rattle.ckc_text.specs.declared.code.Code.TheVariants.{C2, C5}
 
@@ -149,11 +150,15 @@ module _ (ls : List Local) (s : State) (kept : s.locals ≡ ls) where
   made_keeps_if true terminated n element = kept
   made_keeps_if false terminated n element = kept
 
-  allocated_keeps : (size : ℕ) (terminated : Bool) (element : List Initial) (z : ℤ) → Keeps ls (allocated size terminated element z s)
-  allocated_keeps size terminated element (negsuc n) = kept
-  allocated_keeps size terminated element (pos zero) = kept
-  allocated_keeps size terminated element (pos (suc n)) =
-      made_keeps_if (is_refused size (counter_behind first_offset s.blocks) (made_elements terminated (suc n) * element_size element)) terminated (suc n) element
+  elements_made_keeps : (size : ℕ) (terminated : Bool) (element : List Initial) (n : ℕ) → Keeps ls (elements_made size terminated element n s)
+  elements_made_keeps size terminated element n =
+      made_keeps_if (is_refused size (counter_behind first_offset s.blocks) (made_elements terminated n * element_size element)) terminated n element
+
+  allocated_keeps : (size : ℕ) (terminator : Terminator) (element : List Initial) (z : ℤ) → Keeps ls (allocated size terminator element z s)
+  allocated_keeps size terminator element (negsuc n) = kept
+  allocated_keeps size terminator element (pos zero) = kept
+  allocated_keeps size terminator element (pos (suc n)) =
+      elements_made_keeps size (is_terminated terminator) element (before_zero terminator (suc n))
 
   read_keeps : (type : CType) (v : Value) (site : Option Site) (n : ℕ) (more : Result Value) → Keeps ls more → Keeps ls (read_as type v site n more s)
   read_keeps Int v site n more h = tt
@@ -358,11 +363,11 @@ module _ (audited : Bool) (g : Setting) (k : Knot) (calls : CallsKeep k) where
           (λ b u u_kept. keeps_on ls (not_null site a u) _ (not_null_keeps ls u u_kept site a)
           (λ _ w w_kept. keeps_on ls (not_null site b w) _ (not_null_keeps ls w w_kept site b)
           (λ _ x x_kept. ordered_keeps ls x x_kept comparison (Some site) a b))))
-      value_keeps (core.Allocate count element terminated bounds) s kept =
+      value_keeps (core.Allocate count element terminator bounds) s kept =
           keeps_on ls _ (audit audited bounds)
-          (keeps_on ls (and_then (value audited g k count s) (number_given None)) (allocated g.trusted terminated element)
+          (keeps_on ls (and_then (value audited g k count s) (number_given None)) (allocated g.trusted terminator element)
           (keeps_on ls (value audited g k count s) (number_given None) (value_keeps count s kept) (λ v t t_kept. number_keeps ls t t_kept None v))
-          (λ z t t_kept. allocated_keeps ls t t_kept g.trusted terminated element z))
+          (λ z t t_kept. allocated_keeps ls t t_kept g.trusted terminator element z))
           (λ v t t_kept. audit_keeps ls t t_kept audited bounds v)
       value_keeps (core.Length pointer site) s kept =
           keeps_on ls (value audited g k pointer s) _ (value_keeps pointer s kept)

@@ -15,6 +15,7 @@ use Rattle.act_words.specs.declared.operator.Operator.{Operator}
 use Rattle.act_words.specs.declared.operator.Comparison.{Comparison}
 use Rattle.ckc_core.specs.declared.program.Callee.{Callee}
 use Rattle.ckc_core.specs.declared.program.Direction.{Direction}
+use Rattle.ckc_core.specs.declared.program.Terminator.{Terminator}
 use Rattle.ckc_core.specs.declared.program.PointerBounds.{PointerBounds}
 use Rattle.ckc_core.specs.Programs.{FunctionOf, Import, Initial, Variable, Definition, Trusted, Tainted, SourceOf, ProgramOf}
 
@@ -48,8 +49,8 @@ mutual
     Sum : (pointer : Expression) (direction : Direction) (number : Expression) (site : Site) (bounds : Option PointerBounds) → Expression
     -- the order of two pointers in one block
     Order : (comparison : Comparison) (left right : Expression) (site : Site) → Expression
-    -- a new block of so many elements, each with these cells, or null; where it is null-terminated, of one more, which is 0
-    Allocate : (count : Expression) (element : List Initial) (terminated : Bool) (bounds : Option PointerBounds) → Expression
+    -- a new block of so many elements, each with these cells, or null; of one more where a zero stands behind them
+    Allocate : (count : Expression) (element : List Initial) (terminator : Terminator) (bounds : Option PointerBounds) → Expression
     -- how many bytes stand before the first zero
     Length : (pointer : Expression) (site : Site) → Expression
     -- a pointer with other bounds, which have to lie within its own where there are some
@@ -141,7 +142,7 @@ abbrev mutual
   expression exprs.NextInput = NextInput
   expression (exprs.Sum' p pointer direction q number site bounds) = Sum (expression pointer) direction (expression number) site bounds
   expression (exprs.Order' comparison p left q right site) = Order comparison (expression left) (expression right) site
-  expression (exprs.Allocate' p count element terminated bounds) = Allocate (expression count) (map initial element.items) terminated bounds
+  expression (exprs.Allocate' p count element terminator bounds) = Allocate (expression count) (map initial element.items) terminator bounds
   expression (exprs.Length' p pointer site) = Length (expression pointer) site
   expression (exprs.Cast' p pointer bounds) = Cast (expression pointer) bounds
 

@@ -16,6 +16,7 @@ use Rattle.act_words.specs.declared.operator.Operator.TheVariants as operators
 use Rattle.act_words.specs.declared.operator.Comparison.TheVariants as comparisons
 use Rattle.ckc_core.specs.declared.program.Callee.TheVariants as callees
 use Rattle.ckc_core.specs.declared.program.Direction.TheVariants as directions
+use Rattle.ckc_core.specs.declared.program.Terminator.TheVariants as terminators
 use Rattle.ckc_core.specs.Core
 use Rattle.ckc_core.specs.declared.program.PointerBounds.{PointerBounds}
 use Rattle.bounds_exprs.specs.Normal.{constant}
@@ -98,7 +99,7 @@ int_array = Pointer modes.Checked kinds.Array Int
 -- { array_ptr<int> a : count(3) = calloc<int>(count, sizeof(int)); BODY }
 abbrev pub with_array : ℕ → List Statement → Core
 with_array count statements =
-    one (int_array ∷ []) [] (Core.SetLocal 0 (Core.Allocate (number count) (int_cell 0 ∷ []) false (ints (pos 0) (pos 3))) ∷ statements)
+    one (int_array ∷ []) [] (Core.SetLocal 0 (Core.Allocate (number count) (int_cell 0 ∷ []) terminators.Absent (ints (pos 0) (pos 3))) ∷ statements)
 
 abbrev pub array : Expression
 array = Core.Local 0 (ints (pos 0) (pos 3))
@@ -137,7 +138,7 @@ array_bounds =
 abbrev pub null_arrays : Type 0
 null_arrays =
     ends_as (runs (with_array 0 (Core.Return (Core.Not array) ∷ [])) 100) (Exit (pos 1))
-    × ends_as (returns (Core.Not (Core.Allocate (Core.Number (negsuc 0)) (int_cell 0 ∷ []) false None))) (Exit (pos 1))
+    × ends_as (returns (Core.Not (Core.Allocate (Core.Number (negsuc 0)) (int_cell 0 ∷ []) terminators.Absent None))) (Exit (pos 1))
     × ends_as (runs (with_array 9 (Core.Return (Core.Not array) ∷ [])) 100) (Exit (pos 1))
     × ends_as (runs (with_array 0 (Core.Return (Core.Load Int (element (pos 0)) None) ∷ [])) 100) (Check C1 (record { line = 2; col = 1 }))
 
@@ -209,9 +210,21 @@ text_counts =
 -- nt_calloc<char>(n, sizeof(char)) has n characters and a zero behind them; of none it is null
 abbrev pub text_allocations : Type 0
 text_allocations =
-    ends_as (without_text (Core.Return (Core.Length (Core.Allocate (number 2) (char_cell 0 ∷ []) true (chars (pos 2))) (site 2 1)) ∷ [])) (Exit (pos 0))
-    × ends_as (without_text (Core.Return (Core.Not (Core.Allocate (number 0) (char_cell 0 ∷ []) true None)) ∷ [])) (Exit (pos 1))
-    × is_unsound (without_text (Core.Evaluate (Core.Allocate (number 2) (char_cell 0 ∷ []) true (chars (pos 3))) ∷ [])) (site 1 1)
+    ends_as (without_text (Core.Return (Core.Length (Core.Allocate (number 2) (char_cell 0 ∷ []) terminators.Behind (chars (pos 2))) (site 2 1)) ∷ [])) (Exit (pos 0))
+    × ends_as (without_text (Core.Return (Core.Not (Core.Allocate (number 0) (char_cell 0 ∷ []) terminators.Behind None)) ∷ [])) (Exit (pos 1))
+    × is_unsound (without_text (Core.Evaluate (Core.Allocate (number 2) (char_cell 0 ∷ []) terminators.Behind (chars (pos 3))) ∷ [])) (site 1 1)
+
+abbrev pub array_of : ℕ → ℤ → Expression
+array_of count hi = Core.Allocate (number count) (char_cell 0 ∷ []) terminators.Last (chars hi)
+
+-- char b _Nt_checked[n] has n characters, of which the last one is the zero, so that one of 1 is empty and isn't null
+abbrev pub text_arrays : Type 0
+text_arrays =
+    ends_as (without_text (Core.Return (Core.Length (array_of 3 (pos 2)) (site 2 1)) ∷ [])) (Exit (pos 0))
+    × ends_as (without_text (Core.Return (Core.Not (array_of 1 (pos 0))) ∷ [])) (Exit (pos 0))
+    × ends_as (without_text (Core.Return (Core.Length (array_of 1 (pos 0)) (site 2 1)) ∷ [])) (Exit (pos 0))
+    × is_unsound (without_text (Core.Evaluate (array_of 1 (pos 1)) ∷ [])) (site 1 1)
+    × is_unsound (without_text (Core.Evaluate (array_of 3 (pos 3)) ∷ [])) (site 1 1)
 
 -- int main(void) { int x = 2147483647; x = x + 1; return 0; }
 abbrev pub overflow_ends : Type 0

@@ -56,7 +56,7 @@ bounds_of (core.Call callee arguments bounds) = bounds
 bounds_of core.NextInput = None
 bounds_of (core.Sum pointer direction number site bounds) = bounds
 bounds_of (core.Order comparison left right site) = None
-bounds_of (core.Allocate count element terminated bounds) = bounds
+bounds_of (core.Allocate count element terminator bounds) = bounds
 bounds_of (core.Length pointer site) = None
 bounds_of (core.Cast pointer bounds) = bounds
 
@@ -192,8 +192,8 @@ abbrev mutual
   value audited g k (core.Order comparison left right site) s =
       and_then (value audited g k left s) (λ a t. and_then (value audited g k right t) (λ b u. and_then (not_null site a u)
       (λ _ w. and_then (not_null site b w) (λ _ x. ordered comparison (Some site) a b x))))
-  value audited g k (core.Allocate count element terminated bounds) s =
-      and_then (and_then (and_then (value audited g k count s) (number_given None)) (allocated g.trusted terminated element)) (audit audited bounds)
+  value audited g k (core.Allocate count element terminator bounds) s =
+      and_then (and_then (and_then (value audited g k count s) (number_given None)) (allocated g.trusted terminator element)) (audit audited bounds)
   value audited g k (core.Length pointer site) s =
       and_then (value audited g k pointer s) (λ v t. length_of g.budget site v (with_ends (bounds_of pointer) v t.locals).ends t)
   value audited g k (core.Cast pointer bounds) s =

@@ -1,5 +1,5 @@
 -- What is done with pointers, as the meanings of both languages share it: elements, sums, order, new blocks.
-use Rattle.std.specs.Prelude.{ℕ, zero, suc, ◌+◌, ◌*◌, ◌==◌, ◌&&◌, ◌||◌, Bool, true, false, List, [], ◌∷◌, ◌++◌, length, map, sum, Option, Some, None}
+use Rattle.std.specs.Prelude.{ℕ, zero, suc, ◌+◌, ◌-◌, ◌*◌, ◌==◌, ◌&&◌, ◌||◌, Bool, true, false, List, [], ◌∷◌, ◌++◌, length, map, sum, Option, Some, None}
 use Rattle.std.specs.Prelude.{slice_get, nat_le, int_lt, int_le, pos, negsuc}
 use Rattle.std.proofs.Common.{ℤ, ◌*ℤ◌, neg_ℤ}
 use Rattle.ckc_text.specs.declared.code.Code.{Code}
@@ -10,6 +10,8 @@ use Rattle.act_words.specs.Operators.{holds}
 use Rattle.flat_bytes.specs.Blocks.{first_offset, grown, is_refused}
 use Rattle.ckc_core.specs.declared.program.Direction.{Direction}
 use Rattle.ckc_core.specs.declared.program.Direction.TheVariants as directions
+use Rattle.ckc_core.specs.declared.program.Terminator.{Terminator}
+use Rattle.ckc_core.specs.declared.program.Terminator.TheVariants as terminators
 use Rattle.ckc_core.specs.declared.program.Site.{Site}
 use Rattle.ckc_core.specs.Outcome.{Gives, Ends as Over, Stuck}
 use Rattle.ckc_core.specs.Programs.{Initial}
@@ -121,7 +123,19 @@ abbrev pub cells_of_elements : ℕ → List Initial → List Cell
 cells_of_elements zero element = []
 cells_of_elements (suc n) element = element_cells element ++ cells_of_elements n element
 
--- how many elements a block of so many has: one more, which is 0, where it is null-terminated
+-- whether a zero ends a block
+abbrev pub is_terminated : Terminator → Bool
+is_terminated terminators.Absent = false
+is_terminated terminators.Last = true
+is_terminated terminators.Behind = true
+
+-- how many elements of those that are counted stand before the zero, where one ends them
+abbrev pub before_zero : Terminator → ℕ → ℕ
+before_zero terminators.Absent n = n
+before_zero terminators.Last n = n - 1
+before_zero terminators.Behind n = n
+
+-- how many elements a block of so many has: one more, which is 0, where a zero ends it
 abbrev pub made_elements : Bool → ℕ → ℕ
 made_elements false n = n
 made_elements true n = suc n
@@ -134,12 +148,16 @@ abbrev pub made_if : Bool → Bool → ℕ → List Initial → State → Result
 made_if true terminated n element s = Gives Null s
 made_if false terminated n element s = Gives (At (length s.blocks) 0) (record s { blocks = s.blocks ++ new_block terminated n element ∷ [] })
 
--- a new block of so many elements in a memory of this size: null where there are none, or where it is refused
-abbrev pub allocated : ℕ → Bool → List Initial → ℤ → State → Result Value
-allocated size terminated element (negsuc n) s = Gives Null s
-allocated size terminated element (pos zero) s = Gives Null s
-allocated size terminated element (pos (suc n)) s =
-    made_if (is_refused size (counter_behind first_offset s.blocks) (made_elements terminated (suc n) * element_size element)) terminated (suc n) element s
+-- so many elements, before the zero that ends them where one does, in a memory of this size: null where they are refused
+abbrev pub elements_made : ℕ → Bool → List Initial → ℕ → State → Result Value
+elements_made size terminated element n s =
+    made_if (is_refused size (counter_behind first_offset s.blocks) (made_elements terminated n * element_size element)) terminated n element s
+
+-- a new block of as many elements as are counted: null where there are none, or where it is refused
+abbrev pub allocated : ℕ → Terminator → List Initial → ℤ → State → Result Value
+allocated size terminator element (negsuc n) s = Gives Null s
+allocated size terminator element (pos zero) s = Gives Null s
+allocated size terminator element (pos (suc n)) s = elements_made size (is_terminated terminator) element (before_zero terminator (suc n)) s
 
 -- ---- null-terminated bytes
 

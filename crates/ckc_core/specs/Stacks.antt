@@ -1,5 +1,5 @@
 -- How many words the parts of a program have on the stack at most.
-use Rattle.std.specs.Prelude.{ℕ, zero, suc, ◌+◌, max, Bool, true, false, Option, Some, None}
+use Rattle.std.specs.Prelude.{ℕ, zero, suc, ◌+◌, max, true, false, Option, Some, None}
 use Rattle.ckc_core.specs.declared.program.PointerBounds.{PointerBounds}
 use Rattle.ckc_core.specs.Core as core
 use Rattle.ckc_core.specs.Meaning.{bounds_of}
@@ -29,7 +29,7 @@ abbrev mutual
   expression_stack core.NextInput = 1
   expression_stack (core.Sum pointer direction number site bounds) = max (expression_stack pointer) (max (1 + expression_stack number) 6)
   expression_stack (core.Order comparison left right site) = max (expression_stack left) (max (1 + expression_stack right) 2)
-  expression_stack (core.Allocate count element terminated bounds) = expression_stack count
+  expression_stack (core.Allocate count element terminator bounds) = expression_stack count
   expression_stack (core.Length pointer site) = max (expression_stack pointer) 6
   expression_stack (core.Cast pointer bounds) = max (expression_stack pointer) 7
 

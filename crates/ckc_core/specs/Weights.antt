@@ -23,7 +23,7 @@ abbrev mutual
   expression_weight core.NextInput = 1
   expression_weight (core.Sum pointer direction number site bounds) = 1 + expression_weight pointer + expression_weight number
   expression_weight (core.Order comparison left right site) = 1 + expression_weight left + expression_weight right
-  expression_weight (core.Allocate count element terminated bounds) = 1 + expression_weight count
+  expression_weight (core.Allocate count element terminator bounds) = 1 + expression_weight count
   expression_weight (core.Length pointer site) = 2 + expression_weight pointer
   expression_weight (core.Cast pointer bounds) = 1 + expression_weight pointer
 

@@ -28,6 +28,7 @@ pub fn examples()
     ensures text_stores { examples.text_stores }
     ensures text_counts { examples.text_counts }
     ensures text_allocations { examples.text_allocations }
+    ensures text_arrays { examples.text_arrays }
 {}
 
 /// What a program means is told: it has as many ticks as its budget, and is never short of them.

@@ -36,6 +36,15 @@ pub enum Direction {
     Backward,
 }
 
+/// Where the zero stands that ends a new block: there is none, it is the last one of the elements that are counted, or it
+/// stands behind them.
+#[derive(Clone, Copy)]
+pub enum Terminator {
+    Absent,
+    Last,
+    Behind,
+}
+
 /// Which element an access takes, from the one that its pointer leads to.
 #[cycle(core)]
 #[derive(Drop)]
@@ -123,11 +132,11 @@ pub enum Expr {
         right: Box<Expr>,
         site: Site,
     },
-    /// A new block of so many elements, each with these cells, or null; where it is null-terminated, of one more, which is 0.
+    /// A new block of so many elements, each with these cells, or null; of one more where a zero stands behind them.
     Allocate {
         count: Box<Expr>,
         element: Vec<Initial>,
-        terminated: bool,
+        terminator: Terminator,
         bounds: Option<PointerBounds>,
     },
     /// How many bytes stand before the first zero, from the one on that a null-terminated pointer leads to.

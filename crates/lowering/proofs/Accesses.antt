@@ -19,7 +19,7 @@ use Rattle.ckc_core.specs.Bounds.{block_size}
 use Rattle.ckc_core.specs.Pointers.{distance, cell_behind, reaches, pointer_if, pointer_at, ordered_if, ordered}
 use Rattle.check_insertion.specs.declared.erased.Check.{Check}
 use Rattle.check_insertion.specs.Erased as erased
-use Rattle.check_insertion.specs.ErasedMeaning.{Step, step_to, no_step, pass, reached, far, far_element, moved}
+use Rattle.check_insertion.specs.ErasedMeaning.{Step, step_to, no_step, pass, reached, far_element, moved}
 use Rattle.check_insertion.specs.Stacks.{offset_stack}
 use Rattle.code_words.specs.Table.{act, push}
 use Rattle.code_words.specs.Table as table

@@ -10,17 +10,18 @@ use Rattle.flat_bytes.specs.Blocks.{first_offset, grown, rounded_up, is_refused}
 use Rattle.flat_bytes.specs.Blocks as flat
 use Rattle.act_words.specs.World.{World}
 use Rattle.pointer_modes.specs.Types.{CType, Int, Char, Struct, Pointer}
+use Rattle.ckc_core.specs.declared.program.Terminator.{Terminator}
+use Rattle.ckc_core.specs.declared.program.Terminator.TheVariants as terminators
 use Rattle.ckc_core.specs.Outcome.{Gives}
 use Rattle.ckc_core.specs.Programs.{Initial}
 use Rattle.ckc_core.specs.States.{Null, At, Cell, Block, Shape, Grows, strides, shape, shapes, zero_of}
 use Rattle.ckc_core.specs.States as meaning
 use Rattle.ckc_core.specs.Steps.{is_char}
 use Rattle.ckc_core.specs.Bounds.{block_size}
-use Rattle.ckc_core.specs.Pointers.{counter_behind, element_size, element_cells, cells_of_elements, made_elements, made_if, allocated}
+use Rattle.ckc_core.specs.Pointers.{counter_behind, element_size, element_cells, cells_of_elements, is_terminated, before_zero, made_elements, made_if, allocated}
 use Rattle.code_words.specs.Table.{Goes, Runs, act, push, allocate_if, is_positive}
 use Rattle.code_words.specs.Table as table
 use Rattle.code_words.specs.Runs.{spread}
-use Rattle.code_words.specs.declared.op.Op.TheVariants as ops
 use Rattle.lowering.specs.Code.{allocation_code}
 use Rattle.lowering.specs.Images.{width_if, word_bytes_if, padded}
 use Rattle.lowering.specs.Sized.{IsFresh, IsElement}
@@ -297,14 +298,17 @@ above_none : (k : ℕ) → is_positive (pos (suc k)) ≡ true
 above_none k = grind (arith, nat_tests)
 
 -- how many elements more than asked for the instruction makes
-abbrev more_elements : Bool → ℕ
-more_elements true = 1
-more_elements false = 0
+abbrev more_elements : Terminator → ℕ
+more_elements terminators.Absent = 0
+more_elements terminators.Last = 0
+more_elements terminators.Behind = 1
 
 -- the bytes that the instruction asks for
-bytes_are : (terminated : Bool) (k : ℕ) (element : List Initial) → IsNumber (pos k) → (word (pos k) + more_elements terminated) * element_size element ≡ made_elements terminated k * element_size element
-bytes_are false k element number = ap (λ n. n * element_size element) (omega (arith, word_pos k number))
-bytes_are true k element number = ap (λ n. n * element_size element) (omega (arith, word_pos k number))
+bytes_are : (terminator : Terminator) (k : ℕ) (element : List Initial) → IsNumber (pos (suc k))
+    → (word (pos (suc k)) + more_elements terminator) * element_size element ≡ made_elements (is_terminated terminator) (before_zero terminator (suc k)) * element_size element
+bytes_are terminators.Absent k element number = ap (λ n. n * element_size element) (omega (arith, word_pos (suc k) number))
+bytes_are terminators.Last k element number = ap (λ n. n * element_size element) (omega (arith, word_pos (suc k) number))
+bytes_are terminators.Behind k element number = ap (λ n. n * element_size element) (omega (arith, word_pos (suc k) number))
 
 -- ---- the instruction
 
@@ -313,19 +317,20 @@ module _ (g : Execution) (l : Layout g) where
   frame_is : (next : ℕ) (c : Scratch) (stack : List ℕ) (s : meaning.State) (after : List Shape) → Grows (shapes s.blocks) after → Kept g l s → frame_by g l after next c stack s.locals ≡ frame g l next c stack s
   frame_is next c stack s after grows kept = ap (λ slots. record { function = l.number; next = next; slots = slots ++ words c; stack = stack }) (slots_grow g (shapes s.blocks) after s.locals grows kept.locals)
 
-  act_is : (terminated : Bool) (size next : ℕ) (c : Scratch) (w : ℕ) (stack : List ℕ) (s : meaning.State) → act (image g) g.settings (code g l) (allocation_code terminated size) (frame g l next c (w ∷ stack) s) (standing g l next c (w ∷ stack) s) ≡ allocate_if (is_positive (signed w)) (code g l) ((w + more_elements terminated) * size) stack (frame g l next c (w ∷ stack) s) (standing g l next c (w ∷ stack) s)
-  act_is true size next c w stack s = refl
-  act_is false size next c w stack s = refl
+  act_is : (terminator : Terminator) (size next : ℕ) (c : Scratch) (w : ℕ) (stack : List ℕ) (s : meaning.State) → act (image g) g.settings (code g l) (allocation_code terminator size) (frame g l next c (w ∷ stack) s) (standing g l next c (w ∷ stack) s) ≡ allocate_if (is_positive (signed w)) (code g l) ((w + more_elements terminator) * size) stack (frame g l next c (w ∷ stack) s) (standing g l next c (w ∷ stack) s)
+  act_is terminators.Absent size next c w stack s = refl
+  act_is terminators.Last size next c w stack s = refl
+  act_is terminators.Behind size next c w stack s = refl
 
   -- a block is made, and its address is pushed
-  block_runs : (next : ℕ) (stack : List ℕ) (s : meaning.State) (terminated : Bool) (k : ℕ) (element : List Initial) (is : IsElement element) (w : ℕ) → is_positive (signed w) ≡ true → (w + more_elements terminated) * element_size element ≡ made_elements terminated k * element_size element → is_refused g.settings.trusted (end_from first_offset (shapes s.blocks)) (made_elements terminated k * element_size element) ≡ false → Here g l next (w ∷ stack) s → slice_get (code g l).ops next ≡ Some (allocation_code terminated (element_size element)) → length stack < (code g l).stack → Evaluates g l (next + 1) stack (made_if false terminated k element s)
-  block_runs next stack s terminated k element is w positive bytes given here at room =
-      let size = made_elements terminated k * element_size element in
+  block_runs : (next : ℕ) (stack : List ℕ) (s : meaning.State) (terminator : Terminator) (k : ℕ) (element : List Initial) (is : IsElement element) (w : ℕ) → is_positive (signed w) ≡ true → (w + more_elements terminator) * element_size element ≡ made_elements (is_terminated terminator) k * element_size element → is_refused g.settings.trusted (end_from first_offset (shapes s.blocks)) (made_elements (is_terminated terminator) k * element_size element) ≡ false → Here g l next (w ∷ stack) s → slice_get (code g l).ops next ≡ Some (allocation_code terminator (element_size element)) → length stack < (code g l).stack → Evaluates g l (next + 1) stack (made_if false (is_terminated terminator) k element s)
+  block_runs next stack s terminator k element is w positive bytes given here at room =
+      let size = made_elements (is_terminated terminator) k * element_size element in
       let counter = end_from first_offset (shapes s.blocks) in
       let enough : grown counter size ≤ g.settings.trusted = grind (arith, nat_tests) in
-      let blocks = after g s.blocks here.kept.blocks terminated (made_elements terminated k) element is enough in
+      let blocks = after g s.blocks here.kept.blocks (is_terminated terminator) (made_elements (is_terminated terminator) k) element is enough in
       let t : meaning.State = record s { blocks = blocks } in
-      let grows = made_grows g s.blocks here.kept.blocks terminated (made_elements terminated k) element is enough in
+      let grows = made_grows g s.blocks here.kept.blocks (is_terminated terminator) (made_elements (is_terminated terminator) k) element is enough in
       let address = g.settings.base + counter in
       let c = here.scratch in
       let fr = frame g l next c (w ∷ stack) s in
@@ -338,31 +343,31 @@ module _ (g : Execution) (l : Layout g) where
         count = here.kept.count;
         depth = here.kept.depth;
         locals = locals_grow (shapes s.blocks) (shapes blocks) s.locals grows here.kept.locals;
-        blocks = made_kept g s.blocks here.kept.blocks terminated (made_elements terminated k) element is enough;
+        blocks = made_kept g s.blocks here.kept.blocks (is_terminated terminator) (made_elements (is_terminated terminator) k) element is enough;
         grows = grows_on l.since (shapes s.blocks) (shapes blocks) here.kept.grows grows;
         world = here.kept.world;
       } in (
-        subst (λ z. Here g l (next + 1) (z ∷ stack) t) (sym (made_address g s.blocks here.kept.blocks terminated (made_elements terminated k) element is enough))
+        subst (λ z. Here g l (next + 1) (z ∷ stack) t) (sym (made_address g s.blocks here.kept.blocks (is_terminated terminator) (made_elements (is_terminated terminator) k) element is enough))
             (record {
               scratch = c;
               holds = here.holds;
               kept = kept;
               reached = one_move g u _ here.reached
-                  (fetched g l next c (w ∷ stack) s (allocation_code terminated (element_size element)) at
-                  ∙ act_is terminated (element_size element) next c w stack s
-                  ∙ ap (λ yes. allocate_if yes (code g l) ((w + more_elements terminated) * element_size element) stack fr u) positive
+                  (fetched g l next c (w ∷ stack) s (allocation_code terminator (element_size element)) at
+                  ∙ act_is terminator (element_size element) next c w stack s
+                  ∙ ap (λ yes. allocate_if yes (code g l) ((w + more_elements terminator) * element_size element) stack fr u) positive
                   ∙ ap (λ b. allocate_if true (code g l) b stack fr u) bytes
                   ∙ made_by
                   ∙ ap (λ yes. table.push_if yes address stack fr (record u { memory = record m { counter = grown counter size }; blocks = listed_from first_offset (shapes s.blocks) ++ (record { offset = counter; bytes = size }) ∷ [] })) test
                   ∙ ap (λ f. Goes (record (state_by g (shapes s.blocks) (Runs f) l.callers s.blocks s.world) { memory = record m { counter = grown counter size }; blocks = listed_from first_offset (shapes s.blocks) ++ (record { offset = counter; bytes = size }) ∷ [] })) (sym (frame_is (next + 1) c (address ∷ stack) s (shapes blocks) grows here.kept))
-                  ∙ ap Goes (sym (made_state g s.blocks here.kept.blocks terminated (made_elements terminated k) element is enough (Runs (frame_by g l (shapes blocks) (next + 1) c (address ∷ stack) s.locals)) l.callers s.world)));
+                  ∙ ap Goes (sym (made_state g s.blocks here.kept.blocks (is_terminated terminator) (made_elements (is_terminated terminator) k) element is enough (Runs (frame_by g l (shapes blocks) (next + 1) c (address ∷ stack) s.locals)) l.callers s.world)));
             }),
-        made_there g s.blocks here.kept.blocks terminated (made_elements terminated k) element is enough,
+        made_there g s.blocks here.kept.blocks (is_terminated terminator) (made_elements (is_terminated terminator) k) element is enough,
       )
 
   -- nothing is made, and null is pushed
-  refused_runs : (next : ℕ) (stack : List ℕ) (s : meaning.State) (terminated : Bool) (size bytes w : ℕ) → (w + more_elements terminated) * size ≡ bytes → is_refused g.settings.trusted (end_from first_offset (shapes s.blocks)) bytes ≡ true → Here g l next (w ∷ stack) s → slice_get (code g l).ops next ≡ Some (allocation_code terminated size) → length stack < (code g l).stack → Evaluates g l (next + 1) stack (Gives Null s)
-  refused_runs next stack s terminated size bytes w same refused here at room = (pushes g l next (w ∷ stack) s (allocation_code terminated size) 0 stack here at room (λ c. act_is terminated size next c w stack s ∙ by c (is_positive (signed w)) refl), tt)
+  refused_runs : (next : ℕ) (stack : List ℕ) (s : meaning.State) (terminator : Terminator) (size bytes w : ℕ) → (w + more_elements terminator) * size ≡ bytes → is_refused g.settings.trusted (end_from first_offset (shapes s.blocks)) bytes ≡ true → Here g l next (w ∷ stack) s → slice_get (code g l).ops next ≡ Some (allocation_code terminator size) → length stack < (code g l).stack → Evaluates g l (next + 1) stack (Gives Null s)
+  refused_runs next stack s terminator size bytes w same refused here at room = (pushes g l next (w ∷ stack) s (allocation_code terminator size) 0 stack here at room (λ c. act_is terminator size next c w stack s ∙ by c (is_positive (signed w)) refl), tt)
     where
       given : is_refused (length (memory g s.blocks).bytes) (end_from first_offset (shapes s.blocks)) bytes ≡ true
       given = ap (λ n. is_refused n (end_from first_offset (shapes s.blocks)) bytes) (memory_long g s.blocks here.kept.blocks) ∙ refused
@@ -370,30 +375,48 @@ module _ (g : Execution) (l : Layout g) where
       none : (c : Scratch) → allocate_if true (code g l) bytes stack (frame g l next c (w ∷ stack) s) (standing g l next c (w ∷ stack) s) ≡ push (code g l) 0 stack (frame g l next c (w ∷ stack) s) (standing g l next c (w ∷ stack) s)
       none c = rw given refl
 
-      by : (c : Scratch) (positive : Bool) → is_positive (signed w) ≡ positive → allocate_if (is_positive (signed w)) (code g l) ((w + more_elements terminated) * size) stack (frame g l next c (w ∷ stack) s) (standing g l next c (w ∷ stack) s) ≡ push (code g l) 0 stack (frame g l next c (w ∷ stack) s) (standing g l next c (w ∷ stack) s)
+      by : (c : Scratch) (positive : Bool) → is_positive (signed w) ≡ positive → allocate_if (is_positive (signed w)) (code g l) ((w + more_elements terminator) * size) stack (frame g l next c (w ∷ stack) s) (standing g l next c (w ∷ stack) s) ≡ push (code g l) 0 stack (frame g l next c (w ∷ stack) s) (standing g l next c (w ∷ stack) s)
       by c true e =
-          ap (λ yes. allocate_if yes (code g l) ((w + more_elements terminated) * size) stack (frame g l next c (w ∷ stack) s) (standing g l next c (w ∷ stack) s)) e
+          ap (λ yes. allocate_if yes (code g l) ((w + more_elements terminator) * size) stack (frame g l next c (w ∷ stack) s) (standing g l next c (w ∷ stack) s)) e
           ∙ ap (λ b. allocate_if true (code g l) b stack (frame g l next c (w ∷ stack) s) (standing g l next c (w ∷ stack) s)) same
           ∙ none c
-      by c false e = ap (λ yes. allocate_if yes (code g l) ((w + more_elements terminated) * size) stack (frame g l next c (w ∷ stack) s) (standing g l next c (w ∷ stack) s)) e
+      by c false e = ap (λ yes. allocate_if yes (code g l) ((w + more_elements terminator) * size) stack (frame g l next c (w ∷ stack) s) (standing g l next c (w ∷ stack) s)) e
 
   -- no element is asked for
-  none_runs : (next : ℕ) (stack : List ℕ) (s : meaning.State) (terminated : Bool) (size : ℕ) (z : ℤ) → IsNumber z → is_positive z ≡ false → Here g l next (word z ∷ stack) s → slice_get (code g l).ops next ≡ Some (allocation_code terminated size) → length stack < (code g l).stack → Evaluates g l (next + 1) stack (Gives Null s)
-  none_runs next stack s terminated size z number none here at room =
+  none_runs : (next : ℕ) (stack : List ℕ) (s : meaning.State) (terminator : Terminator) (size : ℕ) (z : ℤ) → IsNumber z → is_positive z ≡ false → Here g l next (word z ∷ stack) s → slice_get (code g l).ops next ≡ Some (allocation_code terminator size) → length stack < (code g l).stack → Evaluates g l (next + 1) stack (Gives Null s)
+  none_runs next stack s terminator size z number none here at room =
       let w = word z in
       let no : is_positive (signed w) ≡ false = ap is_positive (signed-word z number) ∙ none in
-      (pushes g l next (w ∷ stack) s (allocation_code terminated size) 0 stack here at room (λ c. act_is terminated size next c w stack s ∙ ap (λ yes. allocate_if yes (code g l) ((w + more_elements terminated) * size) stack (frame g l next c (w ∷ stack) s) (standing g l next c (w ∷ stack) s)) no), tt)
+      (pushes g l next (w ∷ stack) s (allocation_code terminator size) 0 stack here at room (λ c. act_is terminator size next c w stack s ∙ ap (λ yes. allocate_if yes (code g l) ((w + more_elements terminator) * size) stack (frame g l next c (w ∷ stack) s) (standing g l next c (w ∷ stack) s)) no), tt)
 
-  count_runs : (next : ℕ) (stack : List ℕ) (s : meaning.State) (terminated : Bool) (k : ℕ) (element : List Initial) (refused : Bool) → IsElement element → IsNumber (pos (suc k)) → is_refused g.settings.trusted (counter_behind first_offset s.blocks) (made_elements terminated (suc k) * element_size element) ≡ refused → Here g l next (word (pos (suc k)) ∷ stack) s → slice_get (code g l).ops next ≡ Some (allocation_code terminated (element_size element)) → length stack < (code g l).stack → Evaluates g l (next + 1) stack (made_if refused terminated (suc k) element s)
-  count_runs next stack s terminated k element true is number refused here at room =
-      refused_runs next stack s terminated (element_size element) (made_elements terminated (suc k) * element_size element) (word (pos (suc k))) (bytes_are terminated (suc k) element number) (ap (λ c. is_refused g.settings.trusted c (made_elements terminated (suc k) * element_size element)) (sym (counter_is first_offset s.blocks)) ∙ refused) here at room
-  count_runs next stack s terminated k element false is number refused here at room =
-      let some : is_positive (signed (word (pos (suc k)))) ≡ true = ap is_positive (signed-word (pos (suc k)) number) ∙ above_none k in
-      block_runs next stack s terminated (suc k) element is (word (pos (suc k))) some (bytes_are terminated (suc k) element number) (ap (λ c. is_refused g.settings.trusted c (made_elements terminated (suc k) * element_size element)) (sym (counter_is first_offset s.blocks)) ∙ refused) here at room
+  count_runs : (next : ℕ) (stack : List ℕ) (s : meaning.State) (terminator : Terminator) (k : ℕ) (element : List Initial) (refused : Bool) → IsElement element → IsNumber (pos (suc k))
+      → is_refused g.settings.trusted (counter_behind first_offset s.blocks) (made_elements (is_terminated terminator) (before_zero terminator (suc k)) * element_size element) ≡ refused
+      → Here g l next (word (pos (suc k)) ∷ stack) s → slice_get (code g l).ops next ≡ Some (allocation_code terminator (element_size element)) → length stack < (code g l).stack
+      → Evaluates g l (next + 1) stack (made_if refused (is_terminated terminator) (before_zero terminator (suc k)) element s)
+  count_runs next stack s terminator k element refused is number test here at room = by refused test
+    where
+      w : ℕ
+      w = word (pos (suc k))
+
+      count : ℕ
+      count = before_zero terminator (suc k)
+
+      size : ℕ
+      size = made_elements (is_terminated terminator) count * element_size element
+
+      known : (refused : Bool) → is_refused g.settings.trusted (counter_behind first_offset s.blocks) size ≡ refused → is_refused g.settings.trusted (end_from first_offset (shapes s.blocks)) size ≡ refused
+      known refused test = ap (λ c. is_refused g.settings.trusted c size) (sym (counter_is first_offset s.blocks)) ∙ test
+
+      some : is_positive (signed w) ≡ true
+      some = ap is_positive (signed-word (pos (suc k)) number) ∙ above_none k
+
+      by : (refused : Bool) → is_refused g.settings.trusted (counter_behind first_offset s.blocks) size ≡ refused → Evaluates g l (next + 1) stack (made_if refused (is_terminated terminator) count element s)
+      by true test = refused_runs next stack s terminator (element_size element) size w (bytes_are terminator k element number) (known true test) here at room
+      by false test = block_runs next stack s terminator count element is w some (bytes_are terminator k element number) (known false test) here at room
 
   -- a new block of so many elements, whose number lies on the stack
-  pub allocation_runs : (next : ℕ) (stack : List ℕ) (s : meaning.State) (terminated : Bool) (n : ℤ) (element : List Initial) → IsElement element → IsNumber n → Here g l next (word n ∷ stack) s → slice_get (code g l).ops next ≡ Some (allocation_code terminated (element_size element)) → length stack < (code g l).stack → Evaluates g l (next + 1) stack (allocated g.settings.trusted terminated element n s)
-  allocation_runs next stack s terminated (pos zero) element is number here at room = none_runs next stack s terminated (element_size element) (pos 0) number refl here at room
-  allocation_runs next stack s terminated (pos (suc k)) element is number here at room =
-      count_runs next stack s terminated k element (is_refused g.settings.trusted (counter_behind first_offset s.blocks) (made_elements terminated (suc k) * element_size element)) is number refl here at room
-  allocation_runs next stack s terminated (negsuc k) element is number here at room = none_runs next stack s terminated (element_size element) (negsuc k) number refl here at room
+  pub allocation_runs : (next : ℕ) (stack : List ℕ) (s : meaning.State) (terminator : Terminator) (n : ℤ) (element : List Initial) → IsElement element → IsNumber n → Here g l next (word n ∷ stack) s → slice_get (code g l).ops next ≡ Some (allocation_code terminator (element_size element)) → length stack < (code g l).stack → Evaluates g l (next + 1) stack (allocated g.settings.trusted terminator element n s)
+  allocation_runs next stack s terminator (pos zero) element is number here at room = none_runs next stack s terminator (element_size element) (pos 0) number refl here at room
+  allocation_runs next stack s terminator (pos (suc k)) element is number here at room =
+      count_runs next stack s terminator k element (is_refused g.settings.trusted (counter_behind first_offset s.blocks) (made_elements (is_terminated terminator) (before_zero terminator (suc k)) * element_size element)) is number refl here at room
+  allocation_runs next stack s terminator (negsuc k) element is number here at room = none_runs next stack s terminator (element_size element) (negsuc k) number refl here at room

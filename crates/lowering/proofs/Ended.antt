@@ -1,9 +1,8 @@
 -- Stores to elements of null-terminated pointers: nothing but 0 goes to the upper end.
-use Rattle.std.proofs.Common.{◌≡◌, ℕ, zero, suc, ◌+◌, ◌^◌, ◌<◌, ◌≤◌, Bool, true, false, ℤ, pos, negsuc, ◌+ℤ◌, ◌*ℤ◌, List, [], ◌∷◌, ◌++◌, length, Option, Some, None, refl, sym, ap, ◌∙◌, subst, arith}
-use Rattle.std.specs.Prelude.{All, slice_get, not, ◌==◌, ◌||◌, int_le, ◌&&◌}
+use Rattle.std.proofs.Common.{◌≡◌, ℕ, ◌+◌, ◌^◌, ◌<◌, ◌≤◌, Bool, true, false, ℤ, pos, negsuc, ◌+ℤ◌, ◌*ℤ◌, List, [], ◌∷◌, ◌++◌, length, Option, Some, None, refl, sym, ap, ◌∙◌, subst, arith}
+use Rattle.std.specs.Prelude.{All, not, ◌==◌, ◌||◌, int_le, ◌&&◌}
 use Rattle.std.specs.Ordering.{int_eq}
 use Rattle.std.proofs.lemmas.Int.{ints}
-use Rattle.std.proofs.lemmas.Bool.Decides.{nat_tests}
 use Rattle.std.proofs.lemmas.List.Elements.{recursion_from_All}
 use Rattle.ckc_text.specs.declared.code.Code.TheVariants.{C3}
 use Rattle.act_words.specs.Numbers.{word}
@@ -17,11 +16,11 @@ use Rattle.ckc_core.specs.States.{Value, Number, Null, At, Cell, Grows, shapes, 
 use Rattle.ckc_core.specs.States as meaning
 use Rattle.ckc_core.specs.Steps.{Result, is_zero, truth, store_at}
 use Rattle.ckc_core.specs.Bounds.{base_byte, term_value, ends_from}
-use Rattle.ckc_core.specs.Pointers.{checked_if, distance, cell_behind}
+use Rattle.ckc_core.specs.Pointers.{checked_if, cell_behind}
 use Rattle.check_insertion.specs.declared.erased.Check.{Check}
 use Rattle.check_insertion.specs.declared.erased.Reading.{Reading}
 use Rattle.check_insertion.specs.Erased as erased
-use Rattle.check_insertion.specs.ErasedMeaning.{step_to, pass, reached, far_element, far, kept_at, storable}
+use Rattle.check_insertion.specs.ErasedMeaning.{pass, far_element, kept_at, storable}
 use Rattle.check_insertion.specs.Stacks.{offset_stack}
 use Rattle.code_words.specs.Table.{place_at, end_of, same_number}
 use Rattle.code_words.specs.Table as table
@@ -31,13 +30,13 @@ use Rattle.lowering.specs.Code.{Places, Onward, pointer_slot, number_slot, check
 use Rattle.lowering.specs.Sized.{IsSmall}
 use Rattle.lowering.specs.Correct.{offset_from}
 use Rattle.ckc_core.proofs.Numbers.{IsNumber}
-use Rattle.lowering.proofs.Shapes.{InBlock, kept_grows, word_grows}
+use Rattle.lowering.proofs.Shapes.{InBlock}
 use Rattle.lowering.proofs.Executions.{Execution, word_of, IsKept}
 use Rattle.lowering.proofs.Steps.{HasAt, has_front, has_back, Leads, leads_on, Finishes, Layout, Scratch, Holds, code, frame, standing, Here}
 use Rattle.lowering.proofs.Sizes.{length_checks, length_offset}
 use Rattle.lowering.proofs.Places.{Placed, cell_found, in_block, kept_small, offset_runs, behind_runs, truth_word}
 use Rattle.lowering.proofs.Aside.{Stands, stands_here, here_stands, stand_slot, pointer_set, number_set, pointer_there, number_there, value_there}
-use Rattle.lowering.proofs.Reaches.{common, end_is, place_is, le_moved, step_of}
+use Rattle.lowering.proofs.Reaches.{end_is, place_is, le_moved, step_of}
 use Rattle.lowering.proofs.Checks.{Passes, tested, base_stands, variable_stands, checks_run}
 use Rattle.lowering.proofs.Accesses.{holds_still, moved_stands}
 use Rattle.lowering.proofs.Calls.{FlowsTo, Affects, ArePlaces}

@@ -15,6 +15,8 @@ use Rattle.ckc_core.specs.declared.program.Callee.{Callee}
 use Rattle.ckc_core.specs.declared.program.Callee.TheVariants as callees
 use Rattle.ckc_core.specs.declared.program.Direction.{Direction}
 use Rattle.ckc_core.specs.declared.program.Direction.TheVariants as directions
+use Rattle.ckc_core.specs.declared.program.Terminator.{Terminator}
+use Rattle.ckc_core.specs.declared.program.Terminator.TheVariants as terminators
 use Rattle.check_insertion.specs.declared.erased.Check.{Check}
 use Rattle.check_insertion.specs.declared.erased.Check.TheVariants as checks
 use Rattle.check_insertion.specs.declared.erased.Reading.{Reading}
@@ -61,9 +63,10 @@ calm_order comparisons.LessEqual = record { no_jump = refl; no_call = refl }
 calm_order comparisons.Greater = record { no_jump = refl; no_call = refl }
 calm_order comparisons.GreaterEqual = record { no_jump = refl; no_call = refl }
 
-allocation_free : (terminated : Bool) (size : ℕ) → is_call (allocation_code terminated size) ≡ false
-allocation_free true size = refl
-allocation_free false size = refl
+allocation_free : (terminator : Terminator) (size : ℕ) → is_call (allocation_code terminator size) ≡ false
+allocation_free terminators.Absent size = refl
+allocation_free terminators.Last size = refl
+allocation_free terminators.Behind size = refl
 
 calm_load : (char : Bool) → IsCalm (load_if char)
 calm_load true = record { no_jump = refl; no_call = refl }
@@ -244,9 +247,10 @@ module _ (all : List Op) where
   through_keeps : (slot at : ℕ) (index : erased.Index) (offset : ℕ) (cs : List Check) → SizedIndex slot index cs → AllKeep at (through_code slot index offset cs)
   through_keeps slot at index offset cs sized = steady_keeps at (through_code slot index offset cs) (through_steady slot index offset cs sized)
 
-  allocation_keeps : (at : ℕ) (terminated : Bool) (size : ℕ) → 1 ≤ size → keeps at (allocation_code terminated size) ≡ true
-  allocation_keeps at true size some = grind (arith, nat_tests, some)
-  allocation_keeps at false size some = grind (arith, nat_tests, some)
+  allocation_keeps : (at : ℕ) (terminator : Terminator) (size : ℕ) → 1 ≤ size → keeps at (allocation_code terminator size) ≡ true
+  allocation_keeps at terminators.Absent size some = grind (arith, nat_tests, some)
+  allocation_keeps at terminators.Last size some = grind (arith, nat_tests, some)
+  allocation_keeps at terminators.Behind size some = grind (arith, nat_tests, some)
 
   -- the value goes to a cell
   stored_steady : (slot : ℕ) (type : CType) → AreSteady (ops.Local slot ∷ store_code type ∷ [])
@@ -329,7 +333,7 @@ module _ (all : List Op) where
         starts_expression slot at pointer (has_front all at (expression_code slot at pointer) (expression_code slot (at + expression_size pointer) number ++ sum_code slot direction size cs) has)
     starts_expression slot at (erased.Order comparison left left_checks right right_checks) has =
         starts_expression slot at left (has_front all at (expression_code slot at left) (expression_code slot (at + expression_size left) right ++ order_code slot comparison left_checks right_checks) has)
-    starts_expression slot at (erased.Allocate count element terminated) has = starts_expression slot at count (has_front all at (expression_code slot at count) (allocation_code terminated (element_bytes element) ∷ []) has)
+    starts_expression slot at (erased.Allocate count element terminator) has = starts_expression slot at count (has_front all at (expression_code slot at count) (allocation_code terminator (element_bytes element) ∷ []) has)
     starts_expression slot at (erased.Length pointer size cs) has = starts_expression slot at pointer (has_front all at (expression_code slot at pointer) (checks_code slot (Still size) cs ++ ops.TextLength ∷ []) has)
     starts_expression slot at (erased.Cast pointer size cs) has = starts_expression slot at pointer (has_front all at (expression_code slot at pointer) (checks_code slot (Still size) cs) has)
 
@@ -523,13 +527,13 @@ module _ (all : List Op) where
         let back = has_back all at (expression_code slot at left) (expression_code slot m right ++ last) (expression_size left) (length_expression slot at left) has in
         let behind = has_back all m (expression_code slot m right) last (expression_size right) (length_expression slot m right) back in
         steady_with slot at left right last (order_steady slot comparison left_checks right_checks) sized.0 sized.1 has (target_there (m + expression_size right) (ops.Set (number_slot slot)) refl behind.0) (paced_expression slot at left) (paced_expression slot m right)
-    paced_expression slot at (erased.Allocate count element terminated) sized has end =
+    paced_expression slot at (erased.Allocate count element terminator) sized has end =
         let m = at + expression_size count in
-        let op = allocation_code terminated (element_bytes element) in
+        let op = allocation_code terminator (element_bytes element) in
         let back = has_back all at (expression_code slot at count) (op ∷ []) (expression_size count) (length_expression slot at count) has in
         joined at (expression_size count) (expression_code slot at count) (op ∷ []) (length_expression slot at count)
-        (paced_expression slot at count sized.0 (has_front all at (expression_code slot at count) (op ∷ []) has) (target_there m op (allocation_free terminated (element_bytes element)) back.0))
-        (allocation_keeps m terminated (element_bytes element) sized.1.some, tt)
+        (paced_expression slot at count sized.0 (has_front all at (expression_code slot at count) (op ∷ []) has) (target_there m op (allocation_free terminator (element_bytes element)) back.0))
+        (allocation_keeps m terminator (element_bytes element) sized.1.some, tt)
     paced_expression slot at (erased.Length pointer size cs) sized has end =
         let m = at + expression_size pointer in
         let n = m + checks_size (Still size) cs in

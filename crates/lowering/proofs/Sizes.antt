@@ -123,7 +123,7 @@ mutual
   length_expression slot at (erased.Order comparison left left_checks right right_checks) =
       length_then (expression_code slot at left) (expression_code slot (at + expression_size left) right ++ order_code slot comparison left_checks right_checks) (expression_size left) (expression_size right + order_size left_checks right_checks) (length_expression slot at left)
       (length_then (expression_code slot (at + expression_size left) right) (order_code slot comparison left_checks right_checks) (expression_size right) (order_size left_checks right_checks) (length_expression slot (at + expression_size left) right) (length_order slot comparison left_checks right_checks))
-  length_expression slot at (erased.Allocate count element terminated) = length_then (expression_code slot at count) (allocation_code terminated (element_size element) ∷ []) (expression_size count) 1 (length_expression slot at count) refl
+  length_expression slot at (erased.Allocate count element terminator) = length_then (expression_code slot at count) (allocation_code terminator (element_size element) ∷ []) (expression_size count) 1 (length_expression slot at count) refl
   length_expression slot at (erased.Length pointer size checks) =
       length_then (expression_code slot at pointer) (checks_code slot (Still size) checks ++ ops.TextLength ∷ []) (expression_size pointer) (checks_size (Still size) checks + 1) (length_expression slot at pointer)
       (length_then (checks_code slot (Still size) checks) (ops.TextLength ∷ []) (checks_size (Still size) checks) 1 (length_checks slot (Still size) checks) refl)
@@ -258,7 +258,7 @@ mutual
   stack_above erased.NextInput = omega arith
   stack_above (erased.Sum pointer direction number size checks) = omega (arith, stack_above pointer)
   stack_above (erased.Order comparison left left_checks right right_checks) = omega (arith, stack_above left)
-  stack_above (erased.Allocate count element terminated) = stack_above count
+  stack_above (erased.Allocate count element terminator) = stack_above count
   stack_above (erased.Length pointer size checks) = omega (arith, stack_above pointer)
   stack_above (erased.Cast pointer size checks) = omega (arith, stack_above pointer)
 

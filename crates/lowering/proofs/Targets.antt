@@ -1,10 +1,10 @@
 -- A place is that of its target: the pointer and the number of an element are computed, and then the place is found from them.
-use Rattle.std.proofs.Common.{◌≡◌, ℕ, Bool, true, false, pos, Option, Some, None, refl, sym, ap, ◌∙◌}
+use Rattle.std.proofs.Common.{◌≡◌, ℕ, Bool, true, false, pos, Option, Some, None, refl, sym, ◌∙◌}
 use Rattle.std.specs.Prelude.{nat_lt, length}
 use Rattle.ckc_core.specs.Outcome.{Gives, Ends, Stuck, Unsound, Short, and_then}
 use Rattle.ckc_core.specs.States.{Value, At, Cell, cell_at}
 use Rattle.ckc_core.specs.States as meaning
-use Rattle.ckc_core.specs.Steps.{Result, place_at, variable_if, variable_at}
+use Rattle.ckc_core.specs.Steps.{Result, place_at, variable_if}
 use Rattle.check_insertion.specs.Erased as erased
 use Rattle.check_insertion.specs.ErasedMeaning.{Knot, Setting, Target, step_to, pass, reached, value, place, number_of, target_of, place_from}
 

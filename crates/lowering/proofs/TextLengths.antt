@@ -1,6 +1,6 @@
 -- How many bytes stand before the first zero: the machine counts them as the meaning does, and spends a tick for each byte.
 use Rattle.std.proofs.Common.{◌≡◌, ℕ, zero, suc, ◌+◌, ◌-◌, ◌^◌, ◌<◌, ◌≤◌, Bool, true, false, ℤ, pos, List, [], ◌∷◌, ◌++◌, length, Option, Some, None, refl, sym, ap, ◌∙◌, subst, arith}
-use Rattle.std.specs.Prelude.{All, slice_get, nat_lt, nat_le, ◌==◌, ◌&&◌}
+use Rattle.std.specs.Prelude.{All, slice_get, nat_lt, nat_le, ◌==◌}
 use Rattle.std.proofs.lemmas.Bool.Decides.{nat_tests}
 use Rattle.std.proofs.lemmas.Bool.{and_parts}
 use Rattle.std.proofs.lemmas.List.Elements.{recursion_from_All}
@@ -32,7 +32,7 @@ use Rattle.lowering.proofs.Bytes.{word_behind, word_read}
 use Rattle.lowering.proofs.Memory.{value_bytes}
 use Rattle.lowering.proofs.Shapes.{block_within}
 use Rattle.lowering.proofs.Worlds.{KeptWorld}
-use Rattle.lowering.proofs.Executions.{Execution, image, word_of, memory, IsKept, same_end}
+use Rattle.lowering.proofs.Executions.{Execution, word_of, memory, IsKept, same_end}
 use Rattle.lowering.proofs.Steps.{HasAt, has_front, has_back, Leads, leads_on, Finishes, Layout, Scratch, code, frame, standing, Kept, kept_in, fetched, one_move, last_move, Here, Arrives, Evaluates}
 use Rattle.lowering.proofs.Sizes.{length_checks}
 use Rattle.lowering.proofs.Places.{Found, cell_found, cell_kept, in_block, seam, seam_inside, typed_small}

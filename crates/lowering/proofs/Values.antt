@@ -1,5 +1,5 @@
 -- The code of an expression leaves the word of its value.
-use Rattle.std.proofs.Common.{◌≡◌, ℕ, Bool, ◌+◌, ◌<◌, ◌≤◌, ℤ, pos, List, [], ◌∷◌, ◌++◌, length, Option, Some, None, refl, sym, subst, arith}
+use Rattle.std.proofs.Common.{◌≡◌, ℕ, ◌+◌, ◌<◌, ◌≤◌, ℤ, pos, List, [], ◌∷◌, ◌++◌, length, Option, Some, None, refl, sym, subst, arith}
 use Rattle.std.specs.Prelude.{max, slice_get, not}
 use Rattle.std.specs.List.{AllByRecursion}
 use Rattle.ckc_core.specs.Outcome.{Gives, Ends, Stuck, Unsound, Short, and_then}
@@ -7,6 +7,7 @@ use Rattle.act_words.specs.Checks.{is_word_number}
 use Rattle.act_words.specs.declared.operator.Comparison.TheVariants as comparisons
 use Rattle.ckc_core.specs.declared.program.Callee.{Callee}
 use Rattle.ckc_core.specs.declared.program.Callee.TheVariants as callees
+use Rattle.ckc_core.specs.declared.program.Terminator.{Terminator}
 use Rattle.ckc_core.specs.Programs.{Initial}
 use Rattle.ckc_core.specs.Pointers.{number_given, element_size, allocated}
 use Rattle.check_insertion.specs.declared.erased.Check.{Check}
@@ -150,10 +151,10 @@ module _ (g : Execution) where
         (λ w u y. numbered l number size n stack v w t u x.0.kept.grows x.1 y)
 
     -- a count, and the block that is made
-    allocated_runs : (l : Layout g) (m : ℕ) (stack : List ℕ) (v : Value) (t : meaning.State) (terminated : Bool) (element : List Initial) → IsElement element → IsKept t v → Here g l m (word_of g t v ∷ stack) t → slice_get (code g l).ops m ≡ Some (allocation_code terminated (element_size element)) → length stack < (code g l).stack → Evaluates g l (m + 1) stack (and_then (number_given None v t) (allocated g.settings.trusted terminated element))
-    allocated_runs l m stack (Number z) t terminated element is kept here at room = allocation_runs g l m stack t terminated z element is kept here at room
-    allocated_runs l m stack Null t terminated element is kept here at room = tt
-    allocated_runs l m stack (At block byte) t terminated element is kept here at room = tt
+    allocated_runs : (l : Layout g) (m : ℕ) (stack : List ℕ) (v : Value) (t : meaning.State) (terminator : Terminator) (element : List Initial) → IsElement element → IsKept t v → Here g l m (word_of g t v ∷ stack) t → slice_get (code g l).ops m ≡ Some (allocation_code terminator (element_size element)) → length stack < (code g l).stack → Evaluates g l (m + 1) stack (and_then (number_given None v t) (allocated g.settings.trusted terminator element))
+    allocated_runs l m stack (Number z) t terminator element is kept here at room = allocation_runs g l m stack t terminator z element is kept here at room
+    allocated_runs l m stack Null t terminator element is kept here at room = tt
+    allocated_runs l m stack (At block byte) t terminator element is kept here at room = tt
 
     mutual
       -- the value of an expression
@@ -261,16 +262,16 @@ module _ (g : Execution) where
           (leads_on (Arrives g l m stack) (Arrives g l (m + step) stack) (Finishes g) (value (setting g) k pointer s) _
           (value_runs pointer l slot is sized.0 next stack s here (has_front (code g l).ops next first last at) (omega arith) (omega arith))
           (λ v t x. length_runs g l slot is size m stack t checks v sized.2 x.1 x.0 (has_back (code g l).ops next first last (expression_size pointer) (length_expression slot next pointer) at) (omega arith)))
-      value_runs (erased.Allocate count element terminated) l slot is sized next stack s here at room low =
+      value_runs (erased.Allocate count element terminator) l slot is sized next stack s here at room low =
           let m = next + expression_size count in
           let first = expression_code slot next count in
-          let last = allocation_code terminated (element_size element) ∷ [] in
+          let last = allocation_code terminator (element_size element) ∷ [] in
           let end : m + 1 ≡ next + (expression_size count + 1) = omega arith in
-          evaluates_at g l (m + 1) (next + (expression_size count + 1)) stack (value (setting g) k (erased.Allocate count element terminated) s) end
-          (subst (Evaluates g l (m + 1) stack) (sym (and_then_twice (value (setting g) k count s) (number_given None) (allocated g.settings.trusted terminated element)))
+          evaluates_at g l (m + 1) (next + (expression_size count + 1)) stack (value (setting g) k (erased.Allocate count element terminator) s) end
+          (subst (Evaluates g l (m + 1) stack) (sym (and_then_twice (value (setting g) k count s) (number_given None) (allocated g.settings.trusted terminator element)))
           (leads_on (Arrives g l m stack) (Arrives g l (m + 1) stack) (Finishes g) (value (setting g) k count s) _
           (value_runs count l slot is sized.0 next stack s here (has_front (code g l).ops next first last at) room (omega arith))
-          (λ v t x. allocated_runs l m stack v t terminated element sized.1 x.1 x.0 (has_back (code g l).ops next first last (expression_size count) (length_expression slot next count) at).0 (omega (arith, stack_above count)))))
+          (λ v t x. allocated_runs l m stack v t terminator element sized.1 x.1 x.0 (has_back (code g l).ops next first last (expression_size count) (length_expression slot next count) at).0 (omega (arith, stack_above count)))))
       value_runs (erased.Cast pointer size checks) l slot is sized next stack s here at room low =
           let m = next + expression_size pointer in
           let first = expression_code slot next pointer in

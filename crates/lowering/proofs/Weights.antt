@@ -64,7 +64,7 @@ mutual
   expression_short erased.NextInput = omega arith
   expression_short (erased.Sum pointer direction number size cs) = omega (arith, expression_short pointer, expression_short number, checks_short (reach_to direction size) cs, moved_short direction)
   expression_short (erased.Order comparison left left_checks right right_checks) = omega (arith, expression_short left, expression_short right, checks_short (Still 1) left_checks, checks_short (Still 1) right_checks)
-  expression_short (erased.Allocate count element terminated) = omega (arith, expression_short count)
+  expression_short (erased.Allocate count element terminator) = omega (arith, expression_short count)
   expression_short (erased.Length pointer size cs) = omega (arith, expression_short pointer, checks_short (Still size) cs)
   expression_short (erased.Cast pointer size cs) = omega (arith, expression_short pointer, checks_short (Still size) cs)
 

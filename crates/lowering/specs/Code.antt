@@ -13,6 +13,8 @@ use Rattle.bounds_exprs.specs.declared.term.Bounds.{Bounds}
 use Rattle.ckc_core.specs.declared.program.Callee.{Callee}
 use Rattle.ckc_core.specs.declared.program.Callee.TheVariants as callees
 use Rattle.ckc_core.specs.declared.program.Direction.{Direction}
+use Rattle.ckc_core.specs.declared.program.Terminator.{Terminator}
+use Rattle.ckc_core.specs.declared.program.Terminator.TheVariants as terminators
 use Rattle.ckc_core.specs.declared.program.Direction.TheVariants as directions
 use Rattle.ckc_core.specs.declared.program.Site.{Site}
 use Rattle.check_insertion.specs.declared.erased.Check.{Check}
@@ -197,10 +199,11 @@ order_code slot comparison left_checks right_checks =
     ops.Set (number_slot slot)
     ∷ (checks_code slot (Still 1) left_checks ++ ops.Local (number_slot slot) ∷ (checks_code slot (Still 1) right_checks ++ order_op comparison ∷ []))
 
--- a new block, whose last element is 0 where it is null-terminated
-abbrev pub allocation_code : Bool → ℕ → Op
-allocation_code true size = ops.AllocTerminated size
-allocation_code false size = ops.Alloc size
+-- a new block of as many elements as are counted, and of one more where a zero stands behind them: all that is new is 0
+abbrev pub allocation_code : Terminator → ℕ → Op
+allocation_code terminators.Absent size = ops.Alloc size
+allocation_code terminators.Last size = ops.Alloc size
+allocation_code terminators.Behind size = ops.AllocTerminated size
 
 -- keeps a number modulo 256, where it has to be
 abbrev pub byte_code : Bool → List Op
@@ -271,7 +274,7 @@ abbrev mutual
       expression_size pointer + (expression_size number + sum_size direction size checks)
   expression_size (erased.Order comparison left left_checks right right_checks) =
       expression_size left + (expression_size right + order_size left_checks right_checks)
-  expression_size (erased.Allocate count element terminated) = expression_size count + 1
+  expression_size (erased.Allocate count element terminator) = expression_size count + 1
   expression_size (erased.Length pointer size checks) = expression_size pointer + (checks_size (Still size) checks + 1)
   expression_size (erased.Cast pointer size checks) = expression_size pointer + checks_size (Still size) checks
 
@@ -373,7 +376,7 @@ abbrev mutual
       expression_code slot at pointer ++ (expression_code slot (at + expression_size pointer) number ++ sum_code slot direction size checks)
   expression_code slot at (erased.Order comparison left left_checks right right_checks) =
       expression_code slot at left ++ (expression_code slot (at + expression_size left) right ++ order_code slot comparison left_checks right_checks)
-  expression_code slot at (erased.Allocate count element terminated) = expression_code slot at count ++ allocation_code terminated (element_size element) ∷ []
+  expression_code slot at (erased.Allocate count element terminator) = expression_code slot at count ++ allocation_code terminator (element_size element) ∷ []
   expression_code slot at (erased.Length pointer size checks) = expression_code slot at pointer ++ (checks_code slot (Still size) checks ++ ops.TextLength ∷ [])
   expression_code slot at (erased.Cast pointer size checks) = expression_code slot at pointer ++ checks_code slot (Still size) checks
 

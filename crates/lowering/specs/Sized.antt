@@ -85,7 +85,7 @@ abbrev mutual
       SizedExpression locals pointer × SizedExpression locals number × (1 ≤ size) × All (IsSmall locals 6) checks
   SizedExpression locals (erased.Order comparison left left_checks right right_checks) =
       SizedExpression locals left × SizedExpression locals right × All (IsSmall locals 1) left_checks × All (IsSmall locals 1) right_checks
-  SizedExpression locals (erased.Allocate count element terminated) = SizedExpression locals count × IsElement element
+  SizedExpression locals (erased.Allocate count element terminator) = SizedExpression locals count × IsElement element
   SizedExpression locals (erased.Length pointer size checks) = SizedExpression locals pointer × (1 ≤ size) × All (IsSmall locals 6) checks
   SizedExpression locals (erased.Cast pointer size checks) = SizedExpression locals pointer × (1 ≤ size) × All (IsSmall locals 7) checks
 

@@ -88,10 +88,10 @@ pub fn emit_expression(ops: &mut Vec<Op>, slot: u32, expr: &Expr) -> Result<(), 
         Expr::Allocate {
             count,
             element,
-            terminated,
+            terminator,
         } => {
             let size = element_bytes(element.as_slice());
-            emit_with(ops, slot, count, alloc_op(*terminated, size))
+            emit_with(ops, slot, count, alloc_op(*terminator, size))
         }
         Expr::Length {
             pointer,

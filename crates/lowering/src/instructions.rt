@@ -11,7 +11,7 @@ use crate::reach::Reach;
 use act_words::operator::{Comparison, Operator};
 use bounds_exprs::term::Term;
 use ckc_core::char_cells::has_one_byte;
-use ckc_core::program::{Callee, Site};
+use ckc_core::program::{Callee, Site, Terminator};
 use ckc_text::fault::NoMemory;
 use code_words::op::Op;
 use pointer_modes::ctype::CType;
@@ -87,14 +87,14 @@ pub fn order_op(comparison: Comparison) -> Op
     }
 }
 
-/// What makes a new block of elements of so many bytes, whose last one is 0 where it is null-terminated.
-pub fn alloc_op(terminated: bool, size: u32) -> Op
-    ensures { result ≡ code.allocation_code terminated size }
+/// What makes a new block of elements of so many bytes: of one more than are counted where a zero stands behind them. All
+/// that is new is zero.
+pub fn alloc_op(terminator: Terminator, size: u32) -> Op
+    ensures { result ≡ code.allocation_code terminator size }
 {
-    if terminated {
-        Op::AllocTerminated { size }
-    } else {
-        Op::Alloc { size }
+    match terminator {
+        Terminator::Absent | Terminator::Last => Op::Alloc { size },
+        Terminator::Behind => Op::AllocTerminated { size },
     }
 }
 
