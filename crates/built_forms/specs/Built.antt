@@ -43,11 +43,10 @@ is_built_malloc malloc_words.Malloc = true
 is_built_malloc malloc_words.TMalloc = false
 
 abbrev mutual
-  -- strings aren't built
   pub built_expression : Expression → Bool
   built_expression (e.Number value span) = true
   built_expression (e.Character value span) = true
-  built_expression (e.Text bytes span) = false
+  built_expression (e.Text bytes span) = true
   built_expression (e.Name name) = true
   built_expression (e.Call callee arguments span) = built_expressions arguments
   built_expression (e.SizeOf type span) = built_type type.base

@@ -53,8 +53,8 @@ pub fn built_expression(written: &Expr) -> bool
     ensures { result ≡ built.built_expression (expression written.now) }
 {
     match written {
-        Expr::Number { .. } | Expr::Character { .. } | Expr::Name { .. } => true,
-        Expr::Text { .. } => false,
+        Expr::Number { .. } | Expr::Character { .. } | Expr::Text { .. } | Expr::Name { .. } =>
+            true,
         Expr::Call { arguments, .. } => built_arguments(arguments.as_slice()),
         Expr::SizeOf { type_name, .. } => built_type(&type_name.base),
         Expr::Cast {

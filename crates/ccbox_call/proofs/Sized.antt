@@ -11,12 +11,12 @@ use Rattle.bounds_exprs.specs.declared.term.Term.{Term}
 use Rattle.bounds_exprs.specs.Changes.{between, moved_by}
 use Rattle.bounds_exprs.specs.Terms.{is_within, term_limit, within_limit}
 use Rattle.pointer_modes.specs.declared.ctype.Mode.TheVariants as modes
-use Rattle.pointer_modes.specs.declared.ctype.Kind.{Kind}
 use Rattle.pointer_modes.specs.declared.ctype.Kind.TheVariants as kinds
 use Rattle.pointer_modes.specs.Layout as layout
 use Rattle.act_words.specs.Checks.{is_word_number}
 use Rattle.subsumption.specs.Graphs.{IsWithin}
 use Rattle.bounds_flow_meaning.specs.Holding.{AreInts, IsInt}
+use Rattle.bounds_flow_meaning.specs.Sums.{counted}
 use Rattle.bounds_flow_meaning.proofs.Validity.{int_to}
 use Rattle.pointer_modes.specs.Layout.{scalar_size}
 use Rattle.ckc_core.specs.Pointers.{element_size}
@@ -32,6 +32,7 @@ use Rattle.pointer_modes.specs.Types.{CType, Int, Char, Struct, Pointer, Structu
 use Rattle.ckc_core.specs.declared.program.Direction.{Direction}
 use Rattle.ckc_core.specs.declared.program.PointerBounds.{PointerBounds}
 use Rattle.ckc_core.specs.declared.program.Site.{Site}
+use Rattle.ckc_core.specs.declared.program.Terminator.{Terminator}
 use Rattle.ckc_core.specs.Core as core
 use Rattle.ckc_core.specs.Meaning.{bounds_of}
 use Rattle.check_insertion.specs.declared.erased.Check.{Check}
@@ -39,11 +40,11 @@ use Rattle.check_insertion.specs.declared.erased.Check.TheVariants.{NotNull, Bel
 use Rattle.check_insertion.specs.Insert.{access_checks, sum_checks, cast_checks, end_of, store_end, size_of, expression, arguments_of, place, statement, statements}
 use Rattle.lowering.specs.Sized.{AreWithin, AreLocal, HasEnd, IsElement, IsFresh, IsLocal, IsSmall, SizedExpression, SizedArguments, SizedPlace, SizedStatement, SizedStatements}
 use Rattle.region_typing_rules.specs.Expressions.{bounds_at}
-use Rattle.region_typing_rules.specs.Readings.{against, from_base, based_bounds}
+use Rattle.region_typing_rules.specs.Readings.{against, from_base, based_bounds, term}
 use Rattle.region_typing_rules.specs.Verdicts.{picked}
 use Rattle.region_typing_rules.specs.Scopes.{Scope}
 use Rattle.region_typing_rules.specs.Typed as typed
-use Rattle.region_typing_rules.specs.Typed.{Frame, AreConstant, AreNamed, AreNewBounds, IsBaseOf, IsNewElement, IsNewNumber, HasAccess, HasBounds, HasCallBounds, HasCellBounds, HasElements, AreSumBounds, HasType, HaveTypes, HasPlace, terms_of, IsSimple, IsStatement, AreStatements}
+use Rattle.region_typing_rules.specs.Typed.{Frame, AreConstant, AreNamed, AreNewBounds, IsBaseOf, IsBeforeZero, IsNewElement, IsNewNumber, HasAccess, HasBounds, HasCallBounds, HasCellBounds, HasElements, AreSumBounds, HasType, HaveTypes, HasPlace, terms_of, IsSimple, IsStatement, AreStatements}
 
 -- ---- the bounds at nodes
 
@@ -79,7 +80,7 @@ noted_read : (types : List CType) (structs : List Structure) (t : CType) (b : Op
 noted_read types structs t b h = subst (AreRead types) (sym h.1) (read_at_type types structs t h.0)
 
 -- a number of elements of an array
-few_within : (n : ℕ) → n ≤ 8192 → is_within term_limit (pos n) ≡ true
+few_within : (n : ℕ) → n < 2 ^ 31 → is_within term_limit (pos n) ≡ true
 few_within n le = let high : le_z (pos n) (pos term_limit) ≡ true = le-leb n term_limit (omega (arith, le)) in rw high refl
 
 -- a term that the limit allows
@@ -114,12 +115,23 @@ moved_readable types c b q named h =
 term_within : (z : ℤ) → IsWithin term_limit z → is_within term_limit z ≡ true
 term_within z h = and_from (le_z (neg_ℤ (pos term_limit)) z) (le_z z (pos term_limit)) (int_to (neg_ℤ (pos term_limit)) z h.low) (int_to z (pos term_limit) h.high)
 
--- the bounds of new memory
-new_read : (structs : List Structure) (types : List CType) (count : core.Expression) (kind : Kind) (t : CType) (b : Option PointerBounds) → AreNewBounds structs types count kind t b → AreRead types b
-new_read structs types count kind t b typed.uncounted = tt
-new_read structs types count kind t b (typed.by_term {n = n} is) =
+-- so many elements from a pointer on, as the term of a number tells them
+counted_readable : (types : List CType) (count : core.Expression) (n : Term) → term types count ≡ Some n → AreReadable types (counted n)
+counted_readable types count n is =
     let formed = term_formed types count n is in
     record { within = record { low = refl; high = term_within n.plus formed.small }; named = record { ints = record { lo = tt; hi = formed.int }; base = λ q from. absurd (cc) } }
+
+-- the elements before the zero of new memory
+before_readable : (types : List CType) (terminator : Terminator) (count : core.Expression) (n : Term) → IsBeforeZero types terminator count n → AreReadable types (counted n)
+before_readable types _ count n (typed.all_of is) = counted_readable types count n is
+before_readable types _ count n (typed.all_before is) = counted_readable types count n is
+before_readable types _ _ _ (typed.all_but_last {n = n} few) = constant_readable types (pos 0) (pos n) refl (few_within n few)
+
+-- the bounds of new memory
+new_read : (structs : List Structure) (types : List CType) (terminator : Terminator) (count : core.Expression) (t : CType) (b : Option PointerBounds)
+    → AreNewBounds structs types terminator count t b → AreRead types b
+new_read structs types terminator count t b typed.uncounted = tt
+new_read structs types terminator count t b (typed.by_term {n = n} is) = before_readable types terminator count n is
 
 -- the bounds of a local, counted from it
 own_readable : (types : List CType) (k : ℕ) (b : Bounds) → (t : CType) × (slice_get types k ≡ Some t) → AreReadable types b → AreReadable types (from_base k b)
@@ -176,7 +188,7 @@ beside_readable _ d (typed.low_byte e) based = absurd (cc)
 beside_readable _ d (typed.call callee arguments asked told) based = absurd (cc)
 beside_readable _ d typed.next_input based = absurd (cc)
 beside_readable _ d (typed.allocate count fresh bounds) based = absurd (cc)
-beside_readable _ d (typed.allocate_ended count fresh bounds) based = absurd (cc)
+beside_readable _ d (typed.allocate_ended count ends fresh bounds) based = absurd (cc)
 beside_readable _ d (typed.byte_count e elements) based = absurd (cc)
 beside_readable {here = here} _ d (typed.cast {q = q} e elements counts within size limited ints bases) based =
     subst (AreReadable here.locals) (cast_based q.bounds d based) (cast_readable here.locals q limited ints bases)
@@ -227,7 +239,7 @@ bounds_read {g = g} {here = here} {t = t} (core.Load type p b) (typed.load scala
 bounds_read {here = here} _ (typed.bounded_object is size) = object_readable here.locals is.limited is.constant
 bounds_read {g = g} {here = here} (core.AddressOf p b) (typed.address_of {mode = m} {t = t} place told) = noted_read here.locals g.structs (Pointer m kinds.One t) b told
 bounds_read {here = here} _ (typed.array {n = n} {p = p} found some few rows bounds size) =
-    subst (AreReadable here.locals) (sym bounds) (constant_readable here.locals (pos 0) (pos n) refl (few_within n few))
+    subst (AreReadable here.locals) (sym bounds) (constant_readable here.locals (pos 0) (pos n) refl (few_within n (omega (arith, few))))
 bounds_read {here = here} _ (typed.ended_array {n = n} {p = p} found few row bounds size) =
     subst (AreReadable here.locals) (sym bounds) (constant_readable here.locals (pos 0) (pos n) refl (few_within n (omega (arith, few))))
 bounds_read {here = here} (core.Sum e direction i site b) (typed.sum {p = p} counts pointer elements number bounds) =
@@ -244,8 +256,8 @@ bounds_read _ (typed.either a b) = tt
 bounds_read _ (typed.low_byte e) = tt
 bounds_read {g = g} {here = here} {t = t} (core.Call callee arguments b) (typed.call {ts = ts} {r = r} there listed asked told) = call_read g.structs here.locals (terms_of here.locals arguments ts) t r b told
 bounds_read _ typed.next_input = tt
-bounds_read {g = g} {here = here} (core.Allocate count element false b) (typed.allocate {t = t} number fresh bounds) = new_read g.structs here.locals count kinds.Array t b bounds
-bounds_read {g = g} {here = here} (core.Allocate count element true b) (typed.allocate_ended {t = t} number fresh bounds) = new_read g.structs here.locals count kinds.Nt t b bounds
+bounds_read {g = g} {here = here} (core.Allocate count element terminator b) (typed.allocate {t = t} number fresh bounds) = new_read g.structs here.locals terminator count t b bounds
+bounds_read {g = g} {here = here} (core.Allocate count element terminator b) (typed.allocate_ended {t = t} number ends fresh bounds) = new_read g.structs here.locals terminator count t b bounds
 bounds_read _ (typed.byte_count e elements) = tt
 bounds_read {here = here} _ (typed.cast {q = q} e elements counts within size limited ints bases) = cast_readable here.locals q limited ints bases
 bounds_read {g = g} {here = here} (core.Cast e b) (typed.cast_single {t = t} pointer elements within told) = noted_read here.locals g.structs (Pointer modes.Checked kinds.One t) b told
@@ -404,8 +416,8 @@ mutual
   sized_expression n held _ (typed.low_byte e) = sized_expression n held _ e
   sized_expression n held _ (typed.call callee arguments asked told) = sized_arguments n held _ arguments
   sized_expression n held _ typed.next_input = tt
-  sized_expression n {g = g} held (core.Allocate count element false b) (typed.allocate {t = t} number fresh bounds) = (sized_expression n held count number, new_element g.structs t element fresh)
-  sized_expression n {g = g} held (core.Allocate count element true b) (typed.allocate_ended {t = t} number fresh bounds) = (sized_expression n held count number, new_number g.structs t element fresh)
+  sized_expression n {g = g} held (core.Allocate count element terminator b) (typed.allocate {t = t} number fresh bounds) = (sized_expression n held count number, new_element g.structs t element fresh)
+  sized_expression n {g = g} held (core.Allocate count element terminator b) (typed.allocate_ended {t = t} number ends fresh bounds) = (sized_expression n held count number, new_number g.structs t element fresh)
   sized_expression n held {here = here} (core.Length e site) (typed.byte_count {p = p} pointer elements) =
       (sized_expression n held e pointer, some_bytes here.locals n e _ p elements (bounds_read e pointer), counts here.locals n e _ p elements (bounds_read e pointer) site)
   sized_expression n {locals = locals} held {here = here} (core.Cast e (Some q)) (typed.cast {t = t} {p = p} pointer elements counts within size limited ints bases) =

@@ -23,7 +23,7 @@ use Rattle.region_typing_rules.specs.Expressions.{Places, is_tainted}
 use Rattle.region_typing_rules.specs.Statements.{statements, is_unchecked, with_local}
 use Rattle.bounds_flow.specs.Flows.{Knowledge, at_entry}
 use Rattle.region_typing_rules.specs.Knowing.{all_declared, knowing}
-use Rattle.region_typing_rules.specs.Items.{Parameter, Walk, with_parameters, with_bounds, variables_in, inside, core_function, function_body, listed, parameter_types, result_type, signature_of, agrees, all_scalar, scalar_result, with_function, is_defined, function_rules, function, bounds_of_result, first_changed_in, without_change}
+use Rattle.region_typing_rules.specs.Items.{Parameter, Walk, with_parameters, with_bounds, variables_in, inside, core_function, body_scope, function_body, listed, parameter_types, result_type, signature_of, agrees, all_scalar, scalar_result, with_function, is_defined, function_rules, function, bounds_of_result, first_changed_in, without_change}
 use Rattle.region_typing_scope.specs.declared.scope as code
 use Rattle.region_typing_scope.specs.declared.signature.Signature as code_signature
 use Rattle.region_typing_scope.specs.Views.{scope, signature}
@@ -95,9 +95,15 @@ pub body_built : (at : Places) (f : Signature) (ps : List Parameter) (body : Sta
 body_built at f ps body xs b old entered walked new inside_is same passes b_is =
     ap (λ g. passing (statements at g body) (λ x. Passes (core_function f ps x.0 x.1, scope old))) (sym inside_is) ∙ rw (passes, same, b_is) refl
 
--- a body behind which its function is left
-pub function_body_parts : (at : Places) (w : Walk) (f : Signature) (ps : List Parameter) (b : i.Body) → function_body at w f ps (Some b) ≡ passing (body_core at w.scope f ps b.statements) (λ x. needs (not (is_unchecked b.mark || w.scope.is_off)) E15 b.span (Passes (record w { bodies = w.bodies ++ record { name = f.name; function = x.0 } ∷ [] })))
-function_body_parts at w f ps b = sym (in_parts (statements at (inside f ps b.statements w.scope) b.statements) (λ x. Passes (core_function f ps x.0 x.1, w.scope)) (λ x. needs (not (is_unchecked b.mark || w.scope.is_off)) E15 b.span (Passes (record w { bodies = w.bodies ++ record { name = f.name; function = x.0 } ∷ [] }))))
+-- a body whose strings are known, behind which its function is left
+pub function_body_parts : (at : Places) (w : Walk) (f : Signature) (ps : List Parameter) (b : i.Body) (v : Walk) → v ≡ record w { scope = body_scope w b }
+    → function_body at w f ps (Some b) ≡ passing (body_core at v.scope f ps b.statements) (λ x. needs (not (is_unchecked b.mark || w.scope.is_off)) E15 b.span (Passes (record v { bodies = v.bodies ++ record { name = f.name; function = x.0 } ∷ [] })))
+function_body_parts at w f ps b v known =
+    sym (in_parts (statements at (inside f ps b.statements (body_scope w b)) b.statements) (λ x. Passes (core_function f ps x.0 x.1, body_scope w b)) (behind (record w { scope = body_scope w b })))
+    ∙ ap (λ (u : Walk). passing (body_core at u.scope f ps b.statements) (behind u)) (sym known)
+  where
+    behind : Walk → core.Function × Scope → Verdict Walk
+    behind u x = needs (not (is_unchecked b.mark || w.scope.is_off)) E15 b.span (Passes (record u { bodies = u.bodies ++ record { name = f.name; function = x.0 } ∷ [] }))
 
 -- ---- a declaration, its body, and its rules
 

@@ -1,5 +1,5 @@
 -- The check of a whole program.
-use Rattle.std.proofs.Common.{◌≡◌, true, refl, sym, ap, ◌∙◌}
+use Rattle.std.proofs.Common.{◌≡◌, ℕ, true, refl, sym, ap, ◌∙◌}
 use Rattle.built_forms.specs.Built.{is_built}
 use Rattle.built_forms.proofs.Numbered.{same_forms}
 use Rattle.ckc_names_rules.specs.declared.given.Given.{Given}
@@ -20,5 +20,5 @@ never_unnamed at n built named stops =
     all_named at t (sym same ∙ built) named.fine (ap (checked at) (sym named.named) ∙ stops)
 
 -- no function is walked at the start
-pub outside_at_start : (w : Walk) (given : Given) → w ≡ start given → Outside w.scope
-outside_at_start w given is = rw is refl
+pub outside_at_start : (w : Walk) (given : Given) (variables : ℕ) → w ≡ start given variables → Outside w.scope
+outside_at_start w given variables is = rw is refl

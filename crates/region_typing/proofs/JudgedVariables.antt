@@ -1,5 +1,5 @@
 -- File-level variables, by what is judged of their initialisers.
-use Rattle.std.proofs.Common.{◌≡◌, ℕ, ◌==◌, Bool, true, false, nat_lt, List, [], ◌∷◌, ◌++◌, length, map, Option, refl, ap, sym, ◌∙◌}
+use Rattle.std.proofs.Common.{◌≡◌, ℕ, ◌==◌, Bool, true, false, nat_lt, List, [], ◌∷◌, ◌++◌, length, map, refl, ap, sym, ◌∙◌}
 use Rattle.std.proofs.lemmas.List.{map-append}
 use Rattle.ckc_text.specs.declared.place.Span.{Span}
 use Rattle.ckc_text.specs.declared.code.Code.TheVariants.{E10, E13, E15}
@@ -15,7 +15,7 @@ use Rattle.region_typing_rules.specs.Expressions.{Places}
 use Rattle.ckc_names_rules.specs.declared.given.Given.{Given}
 use Rattle.region_typing_rules.specs.Statements.{length_of, is_ended_array, array_kind, array_element}
 use Rattle.region_typing_rules.specs.Items as rules
-use Rattle.region_typing_rules.specs.Items.{Walk, WalkedVariable, object_bounds, variable_of, with_variable, room_for, room_for_first, initializer, variables, with_objects, global, in_checked_region}
+use Rattle.region_typing_rules.specs.Items.{Walk, WalkedVariable, object_bounds, variable_of, variable_scope, room_for, room_for_first, initializer, variables, with_objects, global, in_checked_region}
 use Rattle.region_typing.specs.declared.globals.WalkedVariable as code
 use Rattle.region_typing.specs.declared.initials.Judged as code_judged
 use Rattle.region_typing.specs.Initials.{Judged, judged, judged_as, judged_cells}
@@ -77,29 +77,29 @@ variables_judged at w base t span (d ∷ ds) done next next' same =
     let room = room_for w base span d in
     let starless = without_stars base d.stars t in
     let e = is_ended_array d in
-    let given = λ (u : CType) (b : WrittenBounds). judged_initializer at (with_variable d.name.number u (length_of d) e b w.scope) d.initializer in
+    let given = λ (taken : ℕ) (u : CType) (b : WrittenBounds). judged_initializer at (variable_scope taken d u b w.scope) d.initializer in
     let begun = λ (taken : ℕ) (u : CType) (b : WrittenBounds) (x : rules.Walked).
-    variables at (with_one d.name.number u (length_of d) e b taken w) base t span ds (done ++ record { type = u; length = length_of d; ended = e; bounds = b; initial = x } ∷ []) in
-    let bounded = λ (taken : ℕ) (u : CType) (b : WrittenBounds). passing (initializer at (with_variable d.name.number u (length_of d) e b w.scope) d.initializer) (begun taken u b) in
+    variables at (with_one taken d u b w) base t span ds (done ++ record { type = u; length = length_of d; ended = e; bounds = b; initial = x } ∷ []) in
+    let bounded = λ (taken : ℕ) (u : CType) (b : WrittenBounds). passing (initializer at (variable_scope taken d u b w.scope) d.initializer) (begun taken u b) in
     let of_type = λ (taken : ℕ) (u : CType). array_element e u base (passing (object_bounds w.scope d u) (bounded taken u)) in
     let behind = λ (y : Walk × JudgedVariable). passing (judged_variables at base t span ds (y.0, map (as_judged w.scope.given) done ++ y.1 ∷ [])) next' in
-    let judged : ℕ → CType → WrittenBounds → Judged → Walk × JudgedVariable = λ taken u b j. (with_one d.name.number u (length_of d) e b taken w, record { type = u; length = length_of d; ended = e; bounds = b; initial = j }) in
-    let then = λ (taken : ℕ) (u : CType). array_element e u base (passing (object_bounds w.scope d u) (λ b. passing (given u b) (λ j. behind (judged taken u b j)))) in
+    let judged : ℕ → CType → WrittenBounds → Judged → Walk × JudgedVariable = λ taken u b j. (with_one taken d u b w, record { type = u; length = length_of d; ended = e; bounds = b; initial = j }) in
+    let then = λ (taken : ℕ) (u : CType). array_element e u base (passing (object_bounds w.scope d u) (λ b. passing (given taken u b) (λ j. behind (judged taken u b j)))) in
     in_parts room (λ taken. passing starless (of_type taken)) next
     ∙ same_behind room _ (λ taken. passing starless (then taken))
     (λ taken. in_parts starless (of_type taken) next
     ∙ same_behind starless _ (then taken)
     (λ u. behind_element e u base (passing (object_bounds w.scope d u) (bounded taken u)) next
     ∙ ap (λ v. array_element e u base v) (in_parts (object_bounds w.scope d u) (bounded taken u) next
-    ∙ same_behind (object_bounds w.scope d u) _ (λ b. passing (given u b) (λ j. behind (judged taken u b j)))
-    (λ b. in_parts (initializer at (with_variable d.name.number u (length_of d) e b w.scope) d.initializer) (begun taken u b) next
-    ∙ judged_next w.scope.given (initializer at (with_variable d.name.number u (length_of d) e b w.scope) d.initializer) _ (λ j. behind (judged taken u b j))
-    (λ x. variables_judged at (with_one d.name.number u (length_of d) e b taken w) base t span ds (done ++ record { type = u; length = length_of d; ended = e; bounds = b; initial = x } ∷ []) next next' same
-    ∙ ap (λ vs. passing (judged_variables at base t span ds (with_one d.name.number u (length_of d) e b taken w, vs)) next') (map-append (as_judged w.scope.given) done (record { type = u; length = length_of d; ended = e; bounds = b; initial = x } ∷ [])))))))
-    ∙ sym (same_behind room _ _ (λ taken. in_parts starless (λ u. array_element e u base (passing (object_bounds w.scope d u) (λ b. passing (given u b) (λ j. Passes (judged taken u b j))))) behind
-    ∙ same_behind starless _ _ (λ u. behind_element e u base (passing (object_bounds w.scope d u) (λ b. passing (given u b) (λ j. Passes (judged taken u b j)))) behind
-    ∙ ap (λ v. array_element e u base v) (in_turn (object_bounds w.scope d u) (given u) (judged taken u) behind))))
-    ∙ sym (in_parts room (λ taken. passing starless (λ u. array_element e u base (passing (object_bounds w.scope d u) (λ b. passing (given u b) (λ j. Passes (judged taken u b j)))))) behind)
+    ∙ same_behind (object_bounds w.scope d u) _ (λ b. passing (given taken u b) (λ j. behind (judged taken u b j)))
+    (λ b. in_parts (initializer at (variable_scope taken d u b w.scope) d.initializer) (begun taken u b) next
+    ∙ judged_next w.scope.given (initializer at (variable_scope taken d u b w.scope) d.initializer) _ (λ j. behind (judged taken u b j))
+    (λ x. variables_judged at (with_one taken d u b w) base t span ds (done ++ record { type = u; length = length_of d; ended = e; bounds = b; initial = x } ∷ []) next next' same
+    ∙ ap (λ vs. passing (judged_variables at base t span ds (with_one taken d u b w, vs)) next') (map-append (as_judged w.scope.given) done (record { type = u; length = length_of d; ended = e; bounds = b; initial = x } ∷ [])))))))
+    ∙ sym (same_behind room _ _ (λ taken. in_parts starless (λ u. array_element e u base (passing (object_bounds w.scope d u) (λ b. passing (given taken u b) (λ j. Passes (judged taken u b j))))) behind
+    ∙ same_behind starless _ _ (λ u. behind_element e u base (passing (object_bounds w.scope d u) (λ b. passing (given taken u b) (λ j. Passes (judged taken u b j)))) behind
+    ∙ ap (λ v. array_element e u base v) (in_turn (object_bounds w.scope d u) (given taken u) (judged taken u) behind))))
+    ∙ sym (in_parts room (λ taken. passing starless (λ u. array_element e u base (passing (object_bounds w.scope d u) (λ b. passing (given taken u b) (λ j. Passes (judged taken u b j)))))) behind)
     ∙ sym (in_parts (one_variable at w base t span d) (λ y. judged_variables at base t span ds (y.0, map (as_judged w.scope.given) done ++ y.1 ∷ [])) next')
 
 -- a declaration of variables, by what is judged
@@ -140,7 +140,7 @@ module _ (at : Places) (base : TypeTree) (span : Span) (d : Declarator) (t : CTy
   pub bounds_break : leads ≡ true → (stop : Stop) → object_bounds old.scope d t ≡ Stops stop → one_variable at old base t span d ≡ Stops stop
   bounds_break fits stop breaks = rw (room, starless, fits, breaks) refl
 
-  module _ (b : WrittenBounds) (new : Walk) (is : new ≡ with_one d.name.number t (length_of d) (is_ended_array d) b taken old) (fits : leads ≡ true) (bounded : object_bounds old.scope d t ≡ Passes b) where
+  module _ (b : WrittenBounds) (new : Walk) (is : new ≡ with_one taken d t b old) (fits : leads ≡ true) (bounded : object_bounds old.scope d t ≡ Passes b) where
     variable_walked : one_variable at old base t span d
         ≡ passing (judged_initializer at new.scope d.initializer) (λ j. Passes (new, record { type = t; length = length_of d; ended = is_ended_array d; bounds = b; initial = j }))
     variable_walked =

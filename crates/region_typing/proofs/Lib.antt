@@ -10,3 +10,5 @@ pub mod CoreLists
 pub mod Checks
 pub mod DefinedNames
 pub mod ParameterBounds
+pub mod DeclaredVariables
+pub mod TextCells

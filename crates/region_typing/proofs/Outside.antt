@@ -6,6 +6,7 @@ use Rattle.ckc_tree.specs.Types.{TypeTree, type_span}
 use Rattle.ckc_tree.specs.Items as i
 use Rattle.ckc_tree.specs.Items.{Item}
 use Rattle.ckc_tree.specs.Statements.{Declarator}
+use Rattle.ckc_tree_texts.specs.Texts.{body_texts}
 use Rattle.pointer_modes.specs.Types as types
 use Rattle.pointer_modes.specs.Types.{CType}
 use Rattle.ckc_core.specs.Programs.{Initial}
@@ -14,7 +15,7 @@ use Rattle.region_typing_rules.specs.Scopes.{Scope, Signature, WrittenBounds, fu
 use Rattle.region_typing_rules.specs.Types.{base_type, may_lead_to, without_stars}
 use Rattle.region_typing_rules.specs.Expressions.{Places, is_tainted}
 use Rattle.region_typing_rules.specs.Statements.{length_of, is_ended_array, array_kind, is_unchecked, statements}
-use Rattle.region_typing_rules.specs.Items.{Parameter, Walk, WalkedVariable, is_struct, member_types, scalar_members, with_struct, member_names, structure, object_bounds, variable_of, with_variable, room_for, room_for_first, initializer, variables, object_cells, with_objects, global, listed, parameter_types, result_type, agrees, all_scalar, scalar_result, with_function, inside, function_body, is_defined, function_rules, signature_of, function, is_off, item, bounds_of_result, first_changed_in, without_change}
+use Rattle.region_typing_rules.specs.Items.{Parameter, Walk, WalkedVariable, is_struct, member_types, scalar_members, with_struct, member_names, structure, object_bounds, variable_of, variable_scope, room_for, room_for_first, initializer, variables, object_cells, with_objects, global, listed, parameter_types, result_type, agrees, all_scalar, scalar_result, with_function, inside, with_texts, body_scope, function_body, is_defined, function_rules, signature_of, function, is_off, item, bounds_of_result, first_changed_in, without_change}
 use Rattle.region_typing_rules.proofs.Verdicts.{Promises, passing_promises, needs_promises, anything_promised}
 use Rattle.region_typing.specs.Items.{Outside}
 
@@ -42,7 +43,7 @@ variables_outside at w base t span (d ∷ ds) done o =
     (λ u _. needs_promises OutsideBoth (may_lead_to (array_kind (is_ended_array d)) u) E13 (type_span base) _
     (λ _. passing_promises (λ (b : WrittenBounds). Unit {0}) OutsideBoth (object_bounds w.scope d u) _ (anything_promised (object_bounds w.scope d u))
     (λ b _.
-    let g = with_variable d.name.number u (length_of d) (is_ended_array d) b in
+    let g = variable_scope taken d u b in
     passing_promises (λ _. Unit {0}) OutsideBoth (initializer at (g w.scope) d.initializer) _ (anything_promised (initializer at (g w.scope) d.initializer))
     (λ initial _. variables_outside at (record w { scope = g w.scope; taken = taken }) base t span ds (done ++ record { type = u; length = length_of d; ended = is_ended_array d; bounds = b; initial = initial } ∷ []) (ap g o))))))
 
@@ -68,11 +69,16 @@ known_outside (Some before) f g o = o
 pub declared_outside : (known : Option Signature) (f : Signature) (g h : Scope) → h ≡ with_function known f g → Outside g → Outside h
 declared_outside known f g h is o = rw is (known_outside known f g o)
 
+-- nor where the strings of a body are known
+pub texts_outside : (w : Walk) (body : i.Body) → Outside w.scope → Outside (body_scope w body)
+texts_outside w body o = ap (with_texts w.taken (body_texts body)) o
+
 body_outside : (at : Places) (w : Walk) (f : Signature) (ps : List Parameter) (body : Option i.Body) → Outside w.scope → Promises OutsideBehind (function_body at w f ps body)
 body_outside at w f ps None o = o
 body_outside at w f ps (Some body) o =
-    passing_promises (λ _. Unit {0}) OutsideBehind (statements at (inside f ps body.statements w.scope) body.statements) _ (anything_promised (statements at (inside f ps body.statements w.scope) body.statements))
-    (λ x _. needs_promises OutsideBehind (not (is_unchecked body.mark || w.scope.is_off)) E15 body.span _ (λ _. o))
+    let walked = statements at (inside f ps body.statements (body_scope w body)) body.statements in
+    passing_promises (λ _. Unit {0}) OutsideBehind walked _ (anything_promised walked)
+    (λ x _. needs_promises OutsideBehind (not (is_unchecked body.mark || w.scope.is_off)) E15 body.span _ (λ _. texts_outside w body o))
 
 change_outside : (changed : Option Span) (next : Verdict Walk) → Promises OutsideBehind next → Promises OutsideBehind (without_change changed next)
 change_outside None next h = h

@@ -17,7 +17,7 @@ use Rattle.region_typing_rules.specs.Types.{type_named, without_stars}
 use Rattle.region_typing_rules.specs.Expressions.{Places, is_tainted}
 use Rattle.region_typing_rules.specs.DeclaredBounds.{declared_bounds}
 use Rattle.region_typing_rules.specs.Statements.{length_of, is_ended_array, array_element, statements, is_unchecked}
-use Rattle.region_typing_rules.specs.Items.{Parameter, Defined, Walk, among_parameters, declared_as, object_bounds, variable_of, with_variable}
+use Rattle.region_typing_rules.specs.Items.{Parameter, Defined, Walk, among_parameters, declared_as, object_bounds, variable_of, variable_scope}
 use Rattle.region_typing_rules.specs.Items.{room_for, initializer, inside, core_function, function_body}
 use Rattle.region_typing_rules.specs.Items.{parameter_types, type_of_result, bounds_of_result, names, first_changed_in, without_change}
 use Rattle.region_typing_rules.specs.KeptParameters.{all_changed}
@@ -94,9 +94,9 @@ pub record JudgedVariable : Type 0 where
 abbrev pub judged_variable : CType → code_variable.WalkedVariable → JudgedVariable
 judged_variable t v = record { type = t; length = v.count; ended = v.ended; bounds = v.bounds; initial = judged v.initial }
 
--- a variable more, with the bytes that are taken then
-abbrev pub with_one : ℕ → CType → Option ℕ → (ended : Bool) → WrittenBounds → ℕ → Walk → Walk
-with_one name t count ended bounds taken w = record w { scope = with_variable name t count ended bounds w.scope; taken = taken }
+-- a variable more, with the bytes that are taken then, and the strings of what it is initialised with
+abbrev pub with_one : (taken : ℕ) → Declarator → CType → WrittenBounds → Walk → Walk
+with_one taken d t bounds w = record w { scope = variable_scope taken d t bounds w.scope; taken = taken }
 
 -- what a variable is initialised with, where it is known
 abbrev pub judged_initializer : Places → Scope → Option Initializer → Verdict Judged
@@ -108,8 +108,8 @@ one_variable at w base type span d =
     passing (room_for w base span d) (λ taken. passing (without_stars base d.stars type) (λ t.
     array_element (is_ended_array d) t base
     (passing (object_bounds w.scope d t) (λ bounds.
-    passing (judged_initializer at (with_variable d.name.number t (length_of d) (is_ended_array d) bounds w.scope) d.initializer) (λ initial.
-    Passes (with_one d.name.number t (length_of d) (is_ended_array d) bounds taken w, record { type = t; length = length_of d; ended = is_ended_array d; bounds = bounds; initial = initial }))))))
+    passing (judged_initializer at (variable_scope taken d t bounds w.scope) d.initializer) (λ initial.
+    Passes (with_one taken d t bounds w, record { type = t; length = length_of d; ended = is_ended_array d; bounds = bounds; initial = initial }))))))
 
 -- the variables of a declaration
 abbrev pub judged_variables : Places → TypeTree → CType → Span → List Declarator → Walk × List JudgedVariable → Verdict (Walk × List JudgedVariable)

@@ -6,9 +6,9 @@ ghost use Rattle.ckc_tree.specs.Items.{item as item_tree, tree};
 ghost use Rattle.built_forms.specs.Built.{is_built};
 ghost use Rattle.ckc_names.specs.Named.{named_tree};
 ghost use Rattle.ckc_core.specs.Core.{core as core_view};
-ghost use Rattle.region_typing_rules.specs.Verdicts.{Passes, passing};
+ghost use Rattle.region_typing_rules.specs.Verdicts.{passing};
 ghost use Rattle.region_typing_rules.specs.Items.{items as items_of};
-ghost use Rattle.region_typing_rules.specs.Cores.{core_of as core_of_walk, CheckAnswers};
+ghost use Rattle.region_typing_rules.specs.Cores.{small_core, CheckAnswers};
 ghost use Rattle.region_typing_scope.specs.Answering.{Answers};
 ghost use Rattle.region_typing_scope.specs.Views.{scope as scope_of};
 ghost use Rattle.region_typing.specs.Items.{walk as walk_of, Outside};
@@ -19,23 +19,25 @@ use crate::walk::Walk;
 use ckc_core::program::Core;
 use ckc_names::named::Named;
 use ckc_text::fault::Refused;
+use ckc_text::place::Span;
 use ckc_tree::item::Item;
 use region_typing_scope::context::Context;
 use region_typing_scope::refusals::CheckError;
 use std::alloc::Global;
 
-// The core of items, all of which are still to be walked.
+// The core of items, all of which are still to be walked, in a program with this span.
 fn core_of_items(
     context: &Context,
     walk: &mut Walk,
     written: &[Item],
     entry: usize,
+    span: Span,
 ) -> Result<Core, CheckError>
     requires { Outside (scope_of walk.old.scope) }
-    ensures { Answers core_view (passing (items_of (place_at context.now) (map item_tree written.now) (walk_of walk.old) (map item_tree written.now)) (λ w. Passes (core_of_walk entry w))) result }
+    ensures { Answers core_view (passing (items_of (place_at context.now) (map item_tree written.now) (walk_of walk.old) (map item_tree written.now)) (small_core entry span)) result }
 {
     items(context, walk, written)?;
-    core_of(context, walk, entry)
+    core_of(context, walk, entry, span)
 }
 
 /// The core of a program that has only forms that are built.
@@ -50,9 +52,10 @@ pub fn check(alloc: Global, src: &[u8], source: &Named) -> Result<Core, Refused>
 {
     let context = Context::new(alloc, src)?;
     let given = source.given();
-    let mut walk = Walk::new(&context, given)?;
     let program = source.program();
-    match core_of_items(&context, &mut walk, program.items.as_slice(), given.main) {
+    let written = program.items.as_slice();
+    let mut walk = Walk::new(&context, given, written)?;
+    match core_of_items(&context, &mut walk, written, given.main, program.span) {
         Ok(core) => Ok(core),
         Err(CheckError::Source(fault)) => Err(Refused::Source(fault)),
         Err(CheckError::NoMemory) => Err(Refused::NoMemory),

@@ -3,8 +3,7 @@
 ghost use Rattle.std.specs.Prelude.{◌≡◌, ◌<◌, ◌∷◌, ◌++◌, [], slice_set, map, length, IfOk};
 ghost use Rattle.ckc_core.specs.declared.program.Definition.TheVariants.{Trusted};
 ghost use Rattle.ckc_core.specs.Core.{function as function_of, import_of, definition as definition_view, core as core_view};
-ghost use Rattle.region_typing_rules.specs.Cores.{without_body as without_body_of, import_of as import_as, definition_of, definitions_of, core_of as core_of_walk};
-ghost use Rattle.region_typing_rules.specs.Verdicts.{Passes};
+ghost use Rattle.region_typing_rules.specs.Cores.{without_body as without_body_of, import_of as import_as, definition_of, definitions_of, small_core};
 ghost use Rattle.region_typing_scope.specs.Answering.{Answers};
 ghost use Rattle.region_typing_scope.specs.Views.{signature};
 ghost use Rattle.region_typing.specs.Items.{walk as walk_of, defined};
@@ -12,11 +11,14 @@ ghost use Rattle.region_typing.specs.CoreParts.{trusted_place as trusted_place_o
 
 use crate::functions::copied_result;
 use crate::signatures::copied_signature;
+use crate::texts::push_texts;
 use crate::walk::{Defined, Walk};
 use ckc_core::program::{Core, Definition, Function, Import};
+use ckc_text::code::Code;
 use ckc_text::fault::NoMemory;
+use ckc_text::place::Span;
 use region_typing_scope::context::Context;
-use region_typing_scope::refusals::CheckError;
+use region_typing_scope::refusals::{CheckError, needs};
 use region_typing_scope::scope::Scope;
 use region_typing_scope::sides::is_import;
 use region_typing_scope::signature::Signature;
@@ -129,12 +131,21 @@ fn definitions(
     Ok(built)
 }
 
-/// The core of what was walked, where this is the name of `main`. The cells and the bodies are moved into it.
-pub fn core_of(context: &Context, walk: &mut Walk, entry: usize) -> Result<Core, CheckError>
-    ensures { Answers core_view (Passes (core_of_walk entry (walk_of walk.old))) result }
+/// The core of what was walked, where this is the name of `main`: E08 at the program's span where its variables and strings
+/// take too many bytes. The cells and the bodies are moved into it.
+pub fn core_of(
+    context: &Context,
+    walk: &mut Walk,
+    entry: usize,
+    span: Span,
+) -> Result<Core, CheckError>
+    ensures { Answers core_view (small_core entry span (walk_of walk.old)) result }
 {
-    let definitions = definitions(context, &walk.scope, &mut walk.bodies)?;
-    let main = walk.scope.side_number(false, entry);
+    needs(walk.scope.strings.fit_behind(walk.taken), Code::E08, span)?;
+    let scope = &walk.scope;
+    push_texts(context, scope.strings.texts.as_slice(), &mut walk.objects)?;
+    let definitions = definitions(context, scope, &mut walk.bodies)?;
+    let main = scope.side_number(false, entry);
     Ok(Core {
         objects: mem::replace(&mut walk.objects, Vec::new(context.alloc())),
         definitions,

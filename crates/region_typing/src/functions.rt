@@ -7,7 +7,7 @@ ghost use Rattle.ckc_tree.specs.Items.{result_form as result_tree, body as body_
 ghost use Rattle.pointer_modes.specs.Types.{ctype as ctype_of};
 ghost use Rattle.ckc_core.specs.Core.{function as function_of, statements_of};
 ghost use Rattle.region_typing_rules.specs.Knowing.{knowing};
-ghost use Rattle.region_typing_rules.specs.Items.{result_type as result_type_of, with_parameters, with_bounds, inside, first_changed_in, function_body as function_body_of};
+ghost use Rattle.region_typing_rules.specs.Items.{result_type as result_type_of, with_parameters, with_bounds, inside, first_changed_in, body_scope, function_body as function_body_of};
 ghost use Rattle.region_typing_scope.specs.Answering.{Answers};
 ghost use Rattle.region_typing_scope.specs.Views.{scope as scope_of, signature};
 ghost use Rattle.region_typing.specs.Parameters.{parameter as parameter_of, AreOver};
@@ -22,6 +22,7 @@ use ckc_text::fault::NoMemory;
 use ckc_text::place::Span;
 use ckc_tree::item::{Block, ResultForm};
 use ckc_tree::stmt;
+use ckc_tree_texts::statements::push_body_texts;
 use pointer_modes::ctype::CType;
 use region_typing_flow::counts::variables_in;
 use region_typing_scope::context::Context;
@@ -162,6 +163,15 @@ fn body_of(
     Ok(Built { function, changed })
 }
 
+// The strings of a body, which are known before it is walked.
+fn add_texts(context: &Context, walk: &mut Walk, body: &Block) -> Result<(), NoMemory>
+    ensures { OnOk result (walk_of walk.new ≡ record (walk_of walk.old) { scope = body_scope (walk_of walk.old) (body_tree body.now) }) }
+{
+    walk.scope.strings.taken = walk.taken;
+    push_body_texts(context.alloc(), body, &mut walk.scope.strings.texts)?;
+    Ok(())
+}
+
 // The body of a function, and where it first assigns a parameter that the bounds of the result name.
 fn with_body(
     context: &Context,
@@ -177,6 +187,7 @@ fn with_body(
     ensures changed { IfOk result (λ changed. changed ≡ first_changed_in (scope_of walk.old.scope) (signature f.now) (map parameter_of parameters.now) (Some (body_tree body.now))) }
 {
     let checked = is_checked(&walk.scope, body.mark);
+    add_texts(context, walk, body)?;
     let written = body.statements.as_slice();
     let built = body_of(context, &mut walk.scope, f, parameters, written)?;
     walk.bodies.push(Defined {

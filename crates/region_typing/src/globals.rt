@@ -1,6 +1,6 @@
 // Declarations of file-level variables.
 
-ghost use Rattle.std.specs.Prelude.{◌≡◌, ◌<◌, ◌≤◌, ◌+◌, true, Some, [], length, map, IfOk, OnOk};
+ghost use Rattle.std.specs.Prelude.{◌≡◌, ◌<◌, ◌≤◌, true, Some, [], length, map, IfOk, OnOk};
 ghost use Rattle.std.specs.Option.{option_map};
 ghost use Rattle.ckc_text.specs.Places.{place_at};
 ghost use Rattle.ckc_tree.specs.Types.{type_tree};
@@ -8,7 +8,6 @@ ghost use Rattle.ckc_tree.specs.Expressions.{bounds as bounds_tree};
 ghost use Rattle.ckc_tree.specs.Statements.{initializer as initializer_tree, declarator as declarator_tree};
 ghost use Rattle.ckc_tree.specs.Items.{global as global_tree};
 ghost use Rattle.pointer_modes.specs.Types.{ctype as ctype_of};
-ghost use Rattle.flat_bytes.specs.Blocks.{rounded_up};
 ghost use Rattle.region_typing_rules.specs.Cells.{is_length as is_length_of};
 ghost use Rattle.region_typing_rules.specs.DeclaredBounds.{declared_bounds};
 ghost use Rattle.region_typing_rules.specs.Statements.{length_of as length_in};
@@ -29,6 +28,7 @@ use ckc_tree::expr::BoundsText;
 use ckc_tree::item::Global as Declaration;
 use ckc_tree::stmt::{Declarator, Initializer};
 use ckc_tree::type_form::TypeForm;
+use ckc_tree_texts::expressions::push_initializer_texts;
 use pointer_modes::ctype::CType;
 use region_typing_expressions::expressions::typed;
 use region_typing_scope::context::Context;
@@ -38,6 +38,7 @@ use region_typing_scope::place::Place;
 use region_typing_scope::refusals::{CheckError, meant, needs};
 use region_typing_scope::scope::Scope;
 use region_typing_scope::signature::bounds_in;
+use region_typing_scope::text_blocks::block_bytes;
 use region_typing_scope::types::{base_type, copied};
 use region_typing_scope::visible::Visible;
 use region_typing_statements::local_arrays::{array_element, is_ended_array, length_of};
@@ -45,9 +46,6 @@ use std::slice;
 
 /// How many file-level variables a program may have.
 const MOST_VARIABLES: usize = 4096;
-
-/// How many bytes they may take, with the gaps between them.
-const MOST_BYTES: u32 = 32768;
 
 /// The bytes of a pointer.
 const POINTER_BYTES: u32 = 4;
@@ -83,15 +81,6 @@ fn count_of(count: Option<u32>) -> u32
     }
 }
 
-// What a block takes with its gap.
-fn block_bytes(size: u32) -> u32
-    requires { size ≤ 2097152 }
-    ensures bytes { result ≡ rounded_up size + 16 }
-    ensures few { result ≤ 2097168 }
-{
-    (size + 15) / 16 * 16 + 16
-}
-
 // The bytes that are taken with a variable more, where there is room for it.
 fn room_for(walk: &Walk, base: &TypeForm, span: Span, d: &Declarator) -> Result<u32, CheckError>
     ensures room { Answers (λ n. n) (room_in (walk_of walk.now) (type_tree base.now) span (declarator_tree d.now)) result }
@@ -103,7 +92,7 @@ fn room_for(walk: &Walk, base: &TypeForm, span: Span, d: &Declarator) -> Result<
     let count = length_of(d);
     needs(is_length(count), Code::E08, span)?;
     let taken = walk.taken + block_bytes(count_of(count) * size);
-    needs(taken <= MOST_BYTES, Code::E08, span)?;
+    needs(walk.scope.strings.fit_behind(taken), Code::E08, span)?;
     Ok(taken)
 }
 
@@ -191,24 +180,31 @@ fn object_bounds(
     Ok(written_as(&d.bounds, bounds))
 }
 
-// A variable more.
+// A variable more, which is known with the strings of what it is initialised with before this is judged.
 fn add_variable(
     context: &Context,
     walk: &mut Walk,
-    name: usize,
+    d: &Declarator,
     t: &CType,
-    count: Option<u32>,
-    ended: bool,
     bounds: Option<Option<Bounds>>,
     taken: u32,
 ) -> Result<(), NoMemory>
     requires few { length walk.old.scope.variables.items < 4096 }
     requires room { taken ≤ 32768 }
-    ensures { OnOk result (walk_of walk.new ≡ with_one name (ctype_of t.now) count ended bounds taken (walk_of walk.old)) }
+    ensures { OnOk result (walk_of walk.new ≡ with_one taken (declarator_tree d.now) (ctype_of t.now) bounds (walk_of walk.old)) }
 {
     let t = copied(context, t)?;
-    walk.scope.add_variable(name, t, count, ended, bounds)?;
+    let count = length_of(d);
+    let ended = is_ended_array(d);
+    walk.scope
+        .add_variable(d.name.number, t, count, ended, bounds)?;
+    walk.scope.strings.taken = taken;
     walk.taken = taken;
+    push_initializer_texts(
+        context.alloc(),
+        &d.initializer,
+        &mut walk.scope.strings.texts,
+    )?;
     Ok(())
 }
 
@@ -238,11 +234,10 @@ fn variable(
     let ended = is_ended_array(d);
     array_element(ended, t, base)?;
     let bounds = object_bounds(context, &walk.scope, t, d)?;
-    let count = length_of(d);
-    add_variable(context, walk, d.name.number, t, count, ended, bounds, taken)?;
+    add_variable(context, walk, d, t, bounds, taken)?;
     let initial = initializer(context, &walk.scope, &d.initializer)?;
     Ok(WalkedVariable {
-        count,
+        count: length_of(d),
         ended,
         bounds,
         initial,

@@ -3,6 +3,7 @@
 
 pub mod checker;
 mod cores;
+mod counts;
 mod definitions;
 mod function_rules;
 mod functions;
@@ -14,4 +15,5 @@ mod prototype;
 mod signatures;
 mod start;
 mod structures;
+mod texts;
 mod walk;

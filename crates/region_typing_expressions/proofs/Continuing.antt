@@ -4,6 +4,8 @@ use Rattle.bounds_exprs.specs.declared.term.Term.{Term}
 use Rattle.std.specs.Prelude.{is_none, is_some}
 use Rattle.ckc_text.specs.declared.place.Span.{Span}
 use Rattle.ckc_text.specs.declared.code.Code.TheVariants.{E13, E17, E18, E19}
+use Rattle.pointer_modes.specs.declared.ctype.Mode.TheVariants as modes
+use Rattle.pointer_modes.specs.declared.ctype.Kind.TheVariants as kinds
 use Rattle.pointer_modes.specs.Types.{CType, Int, Char, Struct, Pointer}
 use Rattle.ckc_core.specs.declared.program.Site.{Site}
 use Rattle.ckc_core.specs.Meaning.{bounds_of}
@@ -12,8 +14,8 @@ use Rattle.bounds_flow.specs.Flows.{Knowledge}
 use Rattle.ckc_core.specs.declared.program.Direction.{Direction}
 use Rattle.region_typing_rules.specs.Verdicts.{Verdict, Passes, Stops, passing, needs, picked}
 use Rattle.region_typing_rules.specs.Scopes.{Scope, Signature, WrittenBounds, bounds_in}
-use Rattle.region_typing_rules.specs.Types.{is_number, is_single, is_row}
-use Rattle.region_typing_rules.specs.Expressions.{Places, Typed, Value, AStruct, ForNothing, ForArray, For, Gives, GivesNothing, number_of, converted, site_at, first_of, writes, is_text, length_typed}
+use Rattle.region_typing_rules.specs.Types.{converts, is_number, is_single, is_row}
+use Rattle.region_typing_rules.specs.Expressions.{Places, Typed, Value, AStruct, ForNothing, ForArray, For, Gives, GivesNothing, number_of, converted, site_at, first_of, writes, is_text, text_pointer, length_typed}
 use Rattle.region_typing_rules.specs.Expressions.{is_single_value, lacks_bounds, argument_meets, arguments_as, arguments_met, call_of, declared_callee, pointers_for, terms_for}
 use Rattle.region_typing_rules.specs.Statements.{declared_for, updated, set_to, store}
 use Rattle.region_typing_expressions.specs.ArgumentBounds.{first_unmet, first_unmet_of, result_bounds_of, unless_unmet}
@@ -58,11 +60,36 @@ writes_parts of [] span = refl
 writes_parts of (a ∷ []) span = rw (converted_then a.0 Int a.1) (one_value (converted a.0 Int a.1 Passes) (λ values. Passes (GivesNothing (first_of of values))))
 writes_parts of (a ∷ b ∷ others) span = grind arith
 
+-- what converts to a text
+text_converts : (type : CType) (null : Bool) → converts type null text_pointer ≡ (null || is_text type)
+text_converts Int null = refl
+text_converts Char null = refl
+text_converts (Struct number) null = refl
+text_converts (Pointer modes.Checked kinds.One target) true = refl
+text_converts (Pointer modes.Checked kinds.One Int) false = refl
+text_converts (Pointer modes.Checked kinds.One Char) false = refl
+text_converts (Pointer modes.Checked kinds.One (Struct number)) false = refl
+text_converts (Pointer modes.Checked kinds.One (Pointer mode kind target)) false = refl
+text_converts (Pointer modes.Checked kinds.Array target) true = refl
+text_converts (Pointer modes.Checked kinds.Array Int) false = refl
+text_converts (Pointer modes.Checked kinds.Array Char) false = refl
+text_converts (Pointer modes.Checked kinds.Array (Struct number)) false = refl
+text_converts (Pointer modes.Checked kinds.Array (Pointer mode kind target)) false = refl
+text_converts (Pointer modes.Checked kinds.Nt target) true = refl
+text_converts (Pointer modes.Checked kinds.Nt Int) false = refl
+text_converts (Pointer modes.Checked kinds.Nt Char) false = refl
+text_converts (Pointer modes.Checked kinds.Nt (Struct number)) false = refl
+text_converts (Pointer modes.Checked kinds.Nt (Pointer mode kind target)) false = refl
+text_converts (Pointer modes.Tainted kind target) null = refl
+text_converts (Pointer modes.Raw kind target) null = refl
+
 -- the length of a text, by what it is as a value
-pub length_parts : (t : Typed) (site : Site) (span : Span) → length_typed t site span
-    ≡ passing (operand_of t span) (λ o. passing (needs (is_text o.type && is_some (bounds_of o.value)) E13 span (Passes tt)) (λ (u : Unit {0}). Passes (Gives Int (core.Length o.value site))))
-length_parts (Value type null value place) site span = needs_then (is_text type && is_some (bounds_of value)) E13 span tt (λ (u : Unit {0}). Passes (Gives Int (core.Length value site)))
-length_parts (AStruct struct place) site span = refl
+pub length_parts : (t : Typed) (at : Span) (site : Site) (span : Span) → converted t text_pointer at (λ v. length_typed t site span)
+    ≡ passing (operand_of t at) (λ o. passing (needs (o.zero || is_text o.type) E13 at (Passes tt)) (λ (u : Unit {0}).
+    passing (needs (is_text o.type && is_some (bounds_of o.value)) E13 span (Passes tt)) (λ (u : Unit {0}). Passes (Gives Int (core.Length o.value site)))))
+length_parts (Value type null value place) at site span = rw (text_converts type null, needs_then (is_text type && is_some (bounds_of value)) E13 span tt (λ (u : Unit {0}). Passes (Gives Int (core.Length value site))))
+    (needs_then (null || is_text type) E13 at tt (λ (u : Unit {0}). passing (needs (is_text type && is_some (bounds_of value)) E13 span (Passes tt)) (λ (u : Unit {0}). Passes (Gives Int (core.Length value site)))))
+length_parts (AStruct struct place) at site span = refl
 
 -- a store as one of its target
 pub set_parts : (f : Knowledge) (left right : Typed) (span : Span) → set_to f left right span ≡ passing (target_of left span) (λ t. passing (fitted f (declared_for t.place t.type) right t.type span) (λ value. Passes (store t.place t.type value)))

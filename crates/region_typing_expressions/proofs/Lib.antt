@@ -10,3 +10,4 @@ pub mod Continuing
 pub mod Conversions
 pub mod CoreRows
 pub mod MemberCells
+pub mod Blocks

@@ -1,17 +1,17 @@
 -- Inside: which part of a size is the number of its elements, and new memory.
-use Rattle.std.specs.Prelude.{pos, Bool, false, Option, Some, None}
+use Rattle.std.specs.Prelude.{pos, false, Option, Some, None}
 use Rattle.ckc_tree.specs.Expressions.{Expression}
 use Rattle.pointer_modes.specs.declared.ctype.Mode.TheVariants as modes
+use Rattle.pointer_modes.specs.declared.ctype.Kind.{Kind}
 use Rattle.pointer_modes.specs.Types.{CType, Pointer}
-use Rattle.ckc_core.specs.declared.program.Site.{Site}
+use Rattle.ckc_core.specs.declared.program.PointerBounds.{PointerBounds}
+use Rattle.ckc_core.specs.declared.program.Terminator.{Terminator}
 use Rattle.ckc_core.specs.Core as core
 use Rattle.ckc_core.specs.Steps.{is_char}
 use Rattle.region_typing_rules.specs.Verdicts.{picked}
 use Rattle.region_typing_rules.specs.Scopes.{Scope}
-use Rattle.region_typing_rules.specs.Readings.{term}
 use Rattle.region_typing_rules.specs.Cells.{cells_with}
-use Rattle.region_typing_rules.specs.Expressions.{Typed, Value, ForNothing, is_size, first_factor, second_factor, row_counted}
-use Rattle.region_typing_rules.specs.Statements.{array_kind}
+use Rattle.region_typing_rules.specs.Expressions.{Typed, Value, ForNothing, is_size, first_factor, second_factor}
 use Rattle.region_typing_expressions.specs.declared.allocations.Factor.{Factor}
 use Rattle.region_typing_expressions.specs.declared.allocations.Factor.TheVariants as factors
 
@@ -27,8 +27,7 @@ factor_in (Some which) value = factor_of which value
 abbrev pub alone_in : Scope → CType → Expression → core.Expression → Option core.Expression
 alone_in s t size value = picked (is_size s t size) (Some (core.Number (pos 1))) (picked (is_char t) (Some value) None)
 
--- new memory of so many elements, and a zero behind them or not
-abbrev pub memory_of : Scope → CType → (ended : Bool) → core.Expression → Site → Typed
-memory_of s t ended count site =
-    Value (Pointer modes.Checked (array_kind ended) t) false
-    (core.Allocate count (cells_with s.structs t (pos 0)) ended (row_counted s.structs t ended (term s.locals count) site)) ForNothing
+-- new memory of so many elements, with these bounds, and a pointer of this kind to it
+abbrev pub memory_of : Scope → CType → Kind → core.Expression → Terminator → Option PointerBounds → Typed
+memory_of s t kind count terminator bounds =
+    Value (Pointer modes.Checked kind t) false (core.Allocate count (cells_with s.structs t (pos 0)) terminator bounds) ForNothing

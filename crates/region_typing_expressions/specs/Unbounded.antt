@@ -1,12 +1,17 @@
 -- Inside: forms whose values may be pointers, before the bounds at their nodes are noted.
-use Rattle.std.specs.Prelude.{ℕ}
+use Rattle.std.specs.Prelude.{ℕ, List}
 use Rattle.ckc_text.specs.declared.place.Span.{Span}
 use Rattle.ckc_tree.specs.declared.expr.UnaryOperator.{UnaryOperator}
+use Rattle.pointer_modes.specs.Types.{Structure}
 use Rattle.ckc_core.specs.declared.program.Site.{Site}
 use Rattle.ckc_tree.specs.Expressions.{Expression}
 use Rattle.region_typing_rules.specs.Verdicts.{Verdict, Passes, passing}
 use Rattle.region_typing_rules.specs.Scopes.{Scope, named}
-use Rattle.region_typing_rules.specs.Expressions.{Places, Typed, site_at, name_typed, in_cell, indexed, dotted, arrowed, unary_typed, typed}
+use Rattle.region_typing_rules.specs.Expressions.{Places, Typed, site_at, text_value, name_typed, in_cell, indexed, dotted, arrowed, unary_typed, typed}
+
+-- a string whose block has this number and so many characters
+abbrev pub block_value : List Structure → Site → ℕ × ℕ → Typed
+block_value structs site b = text_value structs (record { object = b.0; length = b.1; taken = 0 }) site
 
 -- what a name stands for
 abbrev pub name_verdict : Scope → ℕ → Site → Verdict Typed

@@ -17,7 +17,7 @@ ghost use Rattle.region_typing_expressions.specs.Allocations.{factor_of, factor_
 use act_words::operator::{ArithmeticOperator, Operator};
 use bounds_exprs::expression::constant as constant_term;
 use bounds_exprs::term::{Bounds, Term};
-use ckc_core::program::{Expr, PointerBounds, Site};
+use ckc_core::program::{Expr, PointerBounds, Site, Terminator};
 use ckc_text::code::Code;
 use ckc_text::fault::NoMemory;
 use ckc_text::place::Span;
@@ -217,27 +217,25 @@ pub fn array_kind(terminated: bool) -> Kind
     if terminated { Kind::Nt } else { Kind::Array }
 }
 
-// New memory of so many elements, and a zero behind them or not.
+// New memory of so many elements, with these bounds, and a pointer of this kind to it.
 fn new_memory(
     context: &Context,
     scope: &Scope,
     t: CType,
-    terminated: bool,
+    kind: Kind,
     count: Box<Expr>,
-    span: Span,
+    terminator: Terminator,
+    bounds: Option<PointerBounds>,
 ) -> Result<Box<Typed>, NoMemory>
-    ensures { IfOk result (λ memory. typed memory ≡ memory_of (scope_of scope.now) (ctype_of t) terminated (boxed_expression count) (site_at (place_at context.now) span)) }
+    ensures { IfOk result (λ memory. typed memory ≡ memory_of (scope_of scope.now) (ctype_of t) kind (boxed_expression count) terminator bounds) }
 {
-    let counted = term(scope.locals.as_slice(), &count);
-    let site = context.site(span);
-    let bounds = row_counted(&scope.structs, &t, terminated, counted, site);
     let element = cells_with(context, &scope.structs, &t, 0)?;
     let target = context.boxed(t)?;
-    let ctype = CType::Pointer(Mode::Checked, array_kind(terminated), target);
+    let ctype = CType::Pointer(Mode::Checked, kind, target);
     let value = Expr::Allocate {
         count,
         element,
-        terminated,
+        terminator,
         bounds,
     };
     plain(context, ctype, value)
@@ -254,21 +252,36 @@ pub fn allocation(
     ensures { Answers typed (allocation_of (scope_of scope.now) (ctype_of t) (boxed_expression count) (site_at (place_at context.now) span) span) result }
 {
     needs(0 < scope.structs.size_of(&t), Code::E13, span)?;
-    Ok(new_memory(context, scope, t, false, count, span)?)
+    let counted = term(scope.locals.as_slice(), &count);
+    let site = context.site(span);
+    let bounds = row_counted(&scope.structs, &t, false, counted, site);
+    Ok(new_memory(
+        context,
+        scope,
+        t,
+        Kind::Array,
+        count,
+        Terminator::Absent,
+        bounds,
+    )?)
 }
 
-/// New memory of so many numbers, and a zero behind them.
+/// New memory of so many numbers that a zero ends, and how many stand before it.
 pub fn ended_allocation(
     context: &Context,
     scope: &Scope,
     t: CType,
     count: Box<Expr>,
+    terminator: Terminator,
+    before: Option<Term>,
     span: Span,
 ) -> Result<Box<Typed>, CheckError>
-    ensures { Answers typed (ended_allocation_of (scope_of scope.now) (ctype_of t) (boxed_expression count) (site_at (place_at context.now) span) span) result }
+    ensures { Answers typed (ended_allocation_of (scope_of scope.now) (ctype_of t) (boxed_expression count) terminator before (site_at (place_at context.now) span) span) result }
 {
     needs(is_number(&t), Code::E13, span)?;
-    Ok(new_memory(context, scope, t, true, count, span)?)
+    let site = context.site(span);
+    let bounds = row_counted(&scope.structs, &t, true, before, site);
+    Ok(new_memory(context, scope, t, Kind::Nt, count, terminator, bounds)?)
 }
 
 // New memory of a size.
@@ -305,7 +318,7 @@ fn allocated_of(
     allocation(context, scope, t, count, span)
 }
 
-// New memory of a number of elements, with the size of one, which a zero ends.
+// New memory of a number of elements, with the size of one, and a zero behind them.
 fn ended_of(
     context: &Context,
     scope: &Scope,
@@ -318,7 +331,8 @@ fn ended_of(
 {
     let count = number(context, count, span)?;
     needs(is_size(context, scope, &t, size)?, Code::E13, span)?;
-    ended_allocation(context, scope, t, count, span)
+    let before = term(scope.locals.as_slice(), &count);
+    ended_allocation(context, scope, t, count, Terminator::Behind, before, span)
 }
 
 /// New memory of a size, which is written so and has this value.

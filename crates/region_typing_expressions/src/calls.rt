@@ -1,11 +1,11 @@
 // Calls.
 
-ghost use Rattle.std.specs.Prelude.{◌≡◌, ◌&&◌, length, map, is_some, IfOk};
+ghost use Rattle.std.specs.Prelude.{◌||◌, ◌≡◌, ◌&&◌, length, map, is_some, IfOk};
 ghost use Rattle.std.specs.Option.{option_map};
 ghost use Rattle.pointer_modes.specs.Types.{ctype as ctype_of};
 ghost use Rattle.ckc_core.specs.Core.{expression, arguments_of, Print, PutByte};
 ghost use Rattle.ckc_core.specs.Meaning.{bounds_of as bounds_at_node};
-ghost use Rattle.region_typing_rules.specs.Expressions.{with_result as with_result_of, arguments_as as arguments_in, is_text as text_type, length_typed, measures as measures_in, predefined_call as predefined_in, writes, callee_of as callee_in, declared_callee as declared_callee_in, call_bounds as call_bounds_in, call_of as call_in, is_checked_argument as checked_argument, without_checked as without_checked_in, crossing as crossing_in, declared_call as declared_in, called as called_in};
+ghost use Rattle.region_typing_rules.specs.Expressions.{with_result as with_result_of, arguments_as as arguments_in, converted as converted_to, is_text as text_type, text_pointer, length_typed, measures as measures_in, predefined_call as predefined_in, writes, callee_of as callee_in, declared_callee as declared_callee_in, call_bounds as call_bounds_in, call_of as call_in, is_checked_argument as checked_argument, without_checked as without_checked_in, crossing as crossing_in, declared_call as declared_in, called as called_in};
 ghost use Rattle.region_typing_rules.specs.Scopes.{function_named};
 ghost use Rattle.region_typing_scope.specs.Points.{point as point_of};
 ghost use Rattle.region_typing_scope.specs.Views.{scope as scope_of, signature};
@@ -123,6 +123,13 @@ fn is_text(t: &CType) -> bool
     }
 }
 
+// Whether a value of a type, which is the constant 0 or not, converts to that type.
+fn becomes_text(ctype: &CType, zero: bool) -> bool
+    ensures { result ≡ (zero || text_type (ctype_of ctype.now)) }
+{
+    zero || is_text(ctype)
+}
+
 // Whether a value of a type is such a pointer with bounds.
 fn is_measured(ctype: &CType, value: &Expr) -> bool
     ensures { result ≡ (text_type (ctype_of ctype.now) && is_some (bounds_at_node (expression value.now))) }
@@ -133,17 +140,18 @@ fn is_measured(ctype: &CType, value: &Expr) -> bool
 // The number of characters before the zero that ends a text.
 fn text_length(
     context: &Context,
-    text: Box<Typed>,
+    text: Argument,
     site: Site,
     span: Span,
 ) -> Result<Called, CheckError>
-    ensures { Answers called_as (length_typed (typed text) site span) result }
+    ensures { Answers called_as (converted_to (typed text.typed) text_pointer text.span (λ v. length_typed (typed text.typed) site span)) result }
 {
     let Operand {
         ctype,
-        zero: _,
+        zero,
         value: pointer,
-    } = value_of(context, text, span)?;
+    } = value_of(context, text.typed, text.span)?;
+    needs(becomes_text(&ctype, zero), Code::E13, text.span)?;
     needs(is_measured(&ctype, &pointer), Code::E13, span)?;
     let value = context.boxed(Expr::Length { pointer, site })?;
     Ok(Called::Gives {
@@ -164,7 +172,7 @@ fn measures(
     match arguments.pop_front() {
         Some(argument) => {
             needs(arguments.is_empty(), Code::E14, span)?;
-            text_length(context, argument.typed, site, span)
+            text_length(context, argument, site, span)
         }
         None => Err(refusal(Code::E14, span)),
     }

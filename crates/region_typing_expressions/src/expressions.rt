@@ -7,14 +7,16 @@ ghost use Rattle.ckc_tree.specs.Expressions.{expression as expression_of, bounds
 ghost use Rattle.pointer_modes.specs.Types.{Int};
 ghost use Rattle.ckc_core.specs.Core.{Number};
 ghost use Rattle.region_typing_rules.specs.Verdicts.{Passes};
-ghost use Rattle.region_typing_rules.specs.Expressions.{beside, constant_typed, Value, ForNothing, site_at, typed as typed_of, name_typed, all_typed as all_typed_of, call_typed as call_typed_of};
+ghost use Rattle.region_typing_rules.specs.Expressions.{beside, constant_typed, Value, ForNothing, site_at, typed as typed_of, name_typed, text_typed, all_typed as all_typed_of, call_typed as call_typed_of};
+ghost use Rattle.region_typing_rules.specs.Strings.{text_at};
 ghost use Rattle.region_typing_scope.specs.Answering.{Answers};
+ghost use Rattle.region_typing_scope.specs.Strings.{block as block_of};
 ghost use Rattle.region_typing_scope.specs.Points.{point as point_of};
 ghost use Rattle.region_typing_scope.specs.Views.{scope as scope_of, known_object};
 ghost use Rattle.region_typing_scope.specs.OnHeap.{typed as typed_view};
 ghost use Rattle.region_typing_scope.specs.Typed.{number_typed, size_typed, typed as inline_typed};
 ghost use Rattle.region_typing_expressions.specs.Calls.{argument, called as called_as, called_with};
-ghost use Rattle.region_typing_expressions.specs.Unbounded.{name_verdict, element_verdict, dotted_verdict, arrowed_verdict, unary_verdict};
+ghost use Rattle.region_typing_expressions.specs.Unbounded.{block_value, name_verdict, element_verdict, dotted_verdict, arrowed_verdict, unary_verdict};
 ghost use Rattle.region_typing_expressions.specs.Slices.{expression_list};
 
 use crate::allocations::{calloc, malloc};
@@ -24,22 +26,24 @@ use crate::members::{arrowed, dotted};
 use crate::operators::{binary, unary};
 use crate::places::indexed;
 use ckc_core::program;
-use ckc_core::program::Site;
+use ckc_core::program::{CellPlace, Site};
 use ckc_text::code::Code;
 use ckc_text::fault::NoMemory;
 use ckc_text::place::Span;
 use ckc_tree::expr::{BinaryOperator, BoundsText, CastWord, Expr, MallocWord, UnaryOperator};
 use ckc_tree::identifier::Identifier;
 use ckc_tree::type_form::TypeName;
-use pointer_modes::ctype::CType;
-use region_typing_scope::bounds::{array, with_bounds, with_cell_bounds};
+use pointer_modes::ctype::{CType, Kind, Mode};
+use pointer_modes::structs::Structs;
+use region_typing_scope::bounds::{array, in_force, row_of, with_bounds, with_cell_bounds};
 use region_typing_scope::context::Context;
 use region_typing_scope::lookups::KnownObject;
 use region_typing_scope::point::Point;
 use region_typing_scope::refusals::{CheckError, refusal};
 use region_typing_scope::right_operands::{left_truth, told_by};
 use region_typing_scope::scope::Scope;
-use region_typing_scope::typed::{Typed, at_local, at_object};
+use region_typing_scope::text_blocks::TextBlock;
+use region_typing_scope::typed::{Typed, at_local, at_object, plain};
 use region_typing_scope::types::{copied, type_named};
 
 // A constant, which is 0 or not.
@@ -69,6 +73,46 @@ fn character(context: &Context, value: u8) -> Result<Box<Typed>, NoMemory>
     ensures { IfOk result (λ t. (span : Span) → constant_typed value false span ≡ Passes (typed_view t)) }
 {
     constant(context, false, value as i32)
+}
+
+// The first character of a string, as a pointer to all of them but the zero that ends it.
+fn text_value(
+    context: &Context,
+    structs: &Structs,
+    block: TextBlock,
+    site: Site,
+) -> Result<Box<Typed>, NoMemory>
+    ensures { IfOk result (λ t. typed_view t ≡ block_value structs.now site (block_of block)) }
+{
+    let bounds = in_force(
+        structs,
+        Kind::Nt,
+        &CType::Char,
+        Some(row_of(block.length)),
+        site,
+    );
+    let pointed = context.boxed(CType::Char)?;
+    let first = CellPlace::Direct {
+        object: block.object,
+        offset: 0,
+    };
+    let ctype = CType::Pointer(Mode::Checked, Kind::Nt, pointed);
+    plain(
+        context,
+        ctype,
+        program::Expr::AddressOf {
+            cell: first,
+            bounds,
+        },
+    )
+}
+
+// A string at a span.
+fn text(context: &Context, scope: &Scope, span: Span) -> Result<Box<Typed>, CheckError>
+    ensures { Answers typed_view (text_typed (scope_of scope.now).structs (text_at (scope_of scope.now).strings span.from) (site_at (place_at context.now) span) span) result }
+{
+    let block = scope.strings.block_at(span)?;
+    Ok(text_value(context, &scope.structs, block, context.site(span))?)
 }
 
 // The bytes of a type.
@@ -174,7 +218,7 @@ fn typed_at(context: &Context, point: &Point<'_>, e: &Expr) -> Result<Box<Typed>
     match e {
         Expr::Number { value, span } => number(context, *value, *span),
         Expr::Character { value, .. } => Ok(character(context, *value)?),
-        Expr::Text { span, .. } => Err(refusal(Code::E13, *span)),
+        Expr::Text { span, .. } => text(context, point.scope, *span),
         Expr::Name { name } => name_value(context, point, name),
         Expr::Call {
             callee,

@@ -86,7 +86,7 @@ term_small vars types (core.Call callee arguments bounds) less = tt
 term_small vars types core.NextInput less = tt
 term_small vars types (core.Sum pointer direction number site bounds) less = tt
 term_small vars types (core.Order comparison left right site) less = tt
-term_small vars types (core.Allocate count element terminated bounds) less = tt
+term_small vars types (core.Allocate count element terminator bounds) less = tt
 term_small vars types (core.Length pointer site) less = tt
 term_small vars types (core.Cast pointer bounds) less = tt
 

@@ -25,13 +25,15 @@ use Rattle.pointer_modes.specs.declared.ctype.Kind.TheVariants as kinds
 use Rattle.pointer_modes.specs.Types.{CType, Int, Char, Struct, Pointer}
 use Rattle.ckc_core.specs.States.{Value, Number, Null, At, Cell, cell_at, Shape, Grows, State, shape, shapes, same_type, has_type, object_block, Block}
 use Rattle.ckc_core.specs.declared.program.PointerBounds.{PointerBounds}
+use Rattle.ckc_core.specs.declared.program.Terminator.{Terminator}
+use Rattle.ckc_core.specs.declared.program.Terminator.TheVariants as terminators
 use Rattle.ckc_core.specs.Programs.{Initial, Variable}
 use Rattle.ckc_core.specs.declared.program.Direction.{Direction}
 use Rattle.ckc_core.specs.declared.program.Direction.TheVariants as directions
 use Rattle.bounds_exprs.specs.declared.term.Bounds.{Bounds}
-use Rattle.ckc_core.specs.Bounds.{Ends as EndsOf, Pointed, ends_at, term_value, with_ends}
+use Rattle.ckc_core.specs.Bounds.{Ends as EndsOf, Pointed, ends_at, with_ends}
 use Rattle.flat_bytes.specs.Blocks.{first_offset, is_refused}
-use Rattle.ckc_core.specs.Pointers.{allocated, new_block, counter_behind, element_size, made_if, checked_if, distance, lies_below, lies_up_to, cell_behind, pointer_at, pointer_if, byte_read, counted as bytes_counted, counted_from, counted_if, read_as, bytes_of_block, made_elements}
+use Rattle.ckc_core.specs.Pointers.{allocated, before_zero, elements_made, is_terminated, new_block, counter_behind, element_size, made_if, checked_if, distance, lies_below, lies_up_to, cell_behind, pointer_at, pointer_if, byte_read, counted as bytes_counted, counted_from, counted_if, read_as, bytes_of_block, made_elements}
 use Rattle.ckc_core.specs.Steps.{Result, given, checked, value_if, value_in, place_if, place_at, variable_if, load_at, number_of_test, same_place, test_given, result_of, arithmetic_of, compared, negated, complemented, low_byte_of, words_of, reply_as, result_given, no_result, is_zero}
 use Rattle.ckc_core.specs.Meaning.{audit, element, element_within, summed, place, sound_if, length_of}
 use Rattle.region_typing_rules.specs.Types.{is_number, Counts}
@@ -41,7 +43,7 @@ use Rattle.region_typing_rules.specs.KnownIsSo.{WhereGiven}
 use Rattle.bounds_exprs.specs.declared.term.Term.{Term}
 use Rattle.bounds_flow_meaning.specs.Holding.{IsValid}
 use Rattle.bounds_flow_meaning.specs.Rows.{HasRow, IsPlace, slots, IsEndedPlace}
-use Rattle.bounds_flow_meaning.specs.Sums.{counted}
+use Rattle.bounds_flow_meaning.specs.Sums.{counted, IsBeforeZero}
 use Rattle.bounds_flow_meaning.proofs.Sums.{new_blocks_count}
 use Rattle.bounds_flow_meaning.proofs.Rows.{place_grown, still_there}
 use Rattle.bounds_flow_meaning.proofs.Validity.{grown_valid}
@@ -59,6 +61,12 @@ use Rattle.region_typing_rules.proofs.EndedRows.{counts_on, finds_below, ended_c
 use Rattle.region_typing_rules.proofs.LastZeros.{zeros_made, AreShort, short_made, IsNewRow}
 use Rattle.bounds_flow_meaning.proofs.Widening.{not_last, row_size}
 use Rattle.region_typing_rules.proofs.Goes.{Goes, HasResult, IsAccessed, IsAnswer, IsBounded, IsKept, IsNext, IsPlaced, OfType, asked_goes, goes_further, goes_on, lowered, shaped}
+
+-- no more stand before the zero than are counted
+before_most : (terminator : Terminator) (n : ℕ) → before_zero terminator n ≤ n
+before_most terminators.Absent n = omega arith
+before_most terminators.Last n = omega arith
+before_most terminators.Behind n = omega arith
 
 module _ (g : Frame) (budget ticks : ℕ) where
   -- ---- values
@@ -496,23 +504,28 @@ module _ (g : Frame) (budget ticks : ℕ) where
           short = subst AreShort (sym (map-append shape s.blocks (made count ∷ []))) (short_made (shaped s) (shape (made count)) kept.short (new.short count few));
         }
 
-    made_goes : (s : State) (count : ℕ) (test : Bool) → suc count < 2 ^ 31 → IsKept g budget ticks low types s → Goes g budget ticks low types s (OfType g (Pointer modes.Checked kind t)) (made_if test ends (suc count) element s)
+    made_goes : (s : State) (count : ℕ) (test : Bool) → count < 2 ^ 31 → IsKept g budget ticks low types s → Goes g budget ticks low types s (OfType g (Pointer modes.Checked kind t)) (made_if test ends count element s)
     made_goes s count true few kept = (tt, after_here s, kept)
-    made_goes s count false few kept = (new.typed s.blocks count, (grows_by s.blocks (made (suc count)), refl), made_kept s (suc count) few kept)
+    made_goes s count false few kept = (new.typed s.blocks count, (grows_by s.blocks (made count), refl), made_kept s count few kept)
 
     -- an allocation gives null, or a pointer to a block more
-    pub allocated_goes : (s : State) (room : ℕ) (z : ℤ) → has_type Int (Number z) ≡ true → IsKept g budget ticks low types s → Goes g budget ticks low types s (OfType g (Pointer modes.Checked kind t)) (allocated room ends element z s)
-    allocated_goes s room (negsuc count) fits kept = (tt, after_here s, kept)
-    allocated_goes s room (pos zero) fits kept = (tt, after_here s, kept)
-    allocated_goes s room (pos (suc count)) fits kept =
-        made_goes s count (is_refused room (counter_behind first_offset s.blocks) (made_elements ends (suc count) * element_size element)) (ltb-true (suc count) (2 ^ 31) fits) kept
+    pub allocated_goes : (s : State) (room : ℕ) (terminator : Terminator) → is_terminated terminator ≡ ends → (z : ℤ) → has_type Int (Number z) ≡ true → IsKept g budget ticks low types s → Goes g budget ticks low types s (OfType g (Pointer modes.Checked kind t)) (allocated room terminator element z s)
+    allocated_goes s room terminator alike (negsuc count) fits kept = (tt, after_here s, kept)
+    allocated_goes s room terminator alike (pos zero) fits kept = (tt, after_here s, kept)
+    allocated_goes s room terminator alike (pos (suc count)) fits kept =
+        let few = ltb-true (suc count) (2 ^ 31) fits in
+        let less = before_most terminator (suc count) in
+        let before = before_zero terminator (suc count) in
+        subst (λ ended. Goes g budget ticks low types s (OfType g (Pointer modes.Checked kind t)) (elements_made room ended element before s)) (sym alike)
+        (made_goes s before (is_refused room (counter_behind first_offset s.blocks) (made_elements ends before * element_size element)) (omega (arith, few, less)) kept)
 
-    -- valid with the bounds of as many elements as were asked for
-    pub new_valid : (s : State) (room : ℕ) (z : ℤ) (n : Term) → term_value n s.locals ≡ Some z → WhereGiven (λ v u. IsValid g.structs (Some (counted n)) (pointing (Pointer modes.Checked kind t) v) u) (allocated room ends element z s)
-    new_valid s room z n is = by (allocated room ends element z s) refl
+    -- valid with the bounds of as many elements as stand before the zero, where one ends them
+    pub new_valid : (s : State) (room : ℕ) (terminator : Terminator) → is_terminated terminator ≡ ends → (z : ℤ) (n : Term) → IsBeforeZero terminator n z s
+        → WhereGiven (λ v u. IsValid g.structs (Some (counted n)) (pointing (Pointer modes.Checked kind t) v) u) (allocated room terminator element z s)
+    new_valid s room terminator alike z n is = by (allocated room terminator element z s) refl
       where
-        by : (o : Result Value) → allocated room ends element z s ≡ o → WhereGiven (λ v u. IsValid g.structs (Some (counted n)) (pointing (Pointer modes.Checked kind t) v) u) o
-        by (Gives v u) e = (new_blocks_count g.structs room ends element n z (pointing (Pointer modes.Checked kind t) Null) v s u is new.sized new.cells refl e).valid
+        by : (o : Result Value) → allocated room terminator element z s ≡ o → WhereGiven (λ v u. IsValid g.structs (Some (counted n)) (pointing (Pointer modes.Checked kind t) v) u) o
+        by (Gives v u) e = (new_blocks_count g.structs room terminator element n z (pointing (Pointer modes.Checked kind t) Null) v s u is new.sized new.cells alike e).valid
         by (Ends ending u) e = tt
         by (Stuck site u) e = tt
         by (Unsound site u) e = tt

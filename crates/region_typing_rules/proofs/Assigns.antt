@@ -110,7 +110,7 @@ is_address (core.Call callee arguments bounds) = false
 is_address core.NextInput = false
 is_address (core.Sum pointer direction number site bounds) = false
 is_address (core.Order comparison left right site) = false
-is_address (core.Allocate count element terminated bounds) = false
+is_address (core.Allocate count element terminator bounds) = false
 is_address (core.Length pointer site) = false
 is_address (core.Cast pointer bounds) = false
 
@@ -227,7 +227,7 @@ not_null_read types f (core.Call callee arguments bounds) v address known h = kn
 not_null_read types f core.NextInput v address known h = known_value types f core.NextInput (pointer_local types core.NextInput) v h known
 not_null_read types f (core.Sum pointer direction number site bounds) v address known h = known_value types f (core.Sum pointer direction number site bounds) (pointer_local types (core.Sum pointer direction number site bounds)) v h known
 not_null_read types f (core.Order comparison left right site) v address known h = known_value types f (core.Order comparison left right site) (pointer_local types (core.Order comparison left right site)) v h known
-not_null_read types f (core.Allocate count element terminated bounds) v address known h = known_value types f (core.Allocate count element terminated bounds) (pointer_local types (core.Allocate count element terminated bounds)) v h known
+not_null_read types f (core.Allocate count element terminator bounds) v address known h = known_value types f (core.Allocate count element terminator bounds) (pointer_local types (core.Allocate count element terminator bounds)) v h known
 not_null_read types f (core.Length pointer site) v address known h = known_value types f (core.Length pointer site) (pointer_local types (core.Length pointer site)) v h known
 not_null_read types f (core.Cast pointer bounds) v address known h = known_value types f (core.Cast pointer bounds) (pointer_local types (core.Cast pointer bounds)) v h known
 
@@ -464,7 +464,7 @@ module _ (audited : Bool) (g : Setting) (k : Knot) (moves : KnotMoves audited g 
   address_read core.NextInput s = so_always (λ (v : Value) (t : State). is_address core.NextInput ≡ true → v ≢ Null) (value audited g k core.NextInput s) (λ v t h. absurd (cc))
   address_read (core.Sum pointer direction number site bounds) s = so_always (λ (v : Value) (t : State). is_address (core.Sum pointer direction number site bounds) ≡ true → v ≢ Null) (value audited g k (core.Sum pointer direction number site bounds) s) (λ v t h. absurd (cc))
   address_read (core.Order comparison left right site) s = so_always (λ (v : Value) (t : State). is_address (core.Order comparison left right site) ≡ true → v ≢ Null) (value audited g k (core.Order comparison left right site) s) (λ v t h. absurd (cc))
-  address_read (core.Allocate count element terminated bounds) s = so_always (λ (v : Value) (t : State). is_address (core.Allocate count element terminated bounds) ≡ true → v ≢ Null) (value audited g k (core.Allocate count element terminated bounds) s) (λ v t h. absurd (cc))
+  address_read (core.Allocate count element terminator bounds) s = so_always (λ (v : Value) (t : State). is_address (core.Allocate count element terminator bounds) ≡ true → v ≢ Null) (value audited g k (core.Allocate count element terminator bounds) s) (λ v t h. absurd (cc))
   address_read (core.Length pointer site) s = so_always (λ (v : Value) (t : State). is_address (core.Length pointer site) ≡ true → v ≢ Null) (value audited g k (core.Length pointer site) s) (λ v t h. absurd (cc))
   address_read (core.Cast pointer bounds) s = so_always (λ (v : Value) (t : State). is_address (core.Cast pointer bounds) ≡ true → v ≢ Null) (value audited g k (core.Cast pointer bounds) s) (λ v t h. absurd (cc))
 

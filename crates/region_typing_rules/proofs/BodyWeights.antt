@@ -1,5 +1,6 @@
 -- The bodies of a program that breaks no rule have few nodes.
 use Rattle.std.proofs.Common.{◌≡◌, ℕ, ◌*◌, ◌≤◌, Bool, true, false, List, [], ◌∷◌, ◌++◌, Option, Some, None, ap, ◌∙◌, subst, arith}
+use Rattle.ckc_text.specs.declared.place.Span.{Span}
 use Rattle.std.specs.Prelude.{◌==◌, not, ◌||◌, All}
 use Rattle.std.specs.List.{AllByRecursion}
 use Rattle.std.proofs.lemmas.List.Elements.{All-from_recursion}
@@ -18,9 +19,9 @@ use Rattle.region_typing_rules.specs.Verdicts.{Verdict, Passes, Stops, passing, 
 use Rattle.region_typing_rules.specs.Scopes.{Scope, Signature}
 use Rattle.region_typing_rules.specs.Expressions.{Places, is_import}
 use Rattle.region_typing_rules.specs.Statements.{statements, is_unchecked, is_checked}
-use Rattle.region_typing_rules.specs.Items.{Defined, Parameter, Walk, inside, core_function, function_body, item, items, start, walked}
-use Rattle.region_typing_rules.specs.Cores.{body_of, core_of}
-use Rattle.region_typing_rules.proofs.Sides.{trusted_functions, sides_of, sides_parted}
+use Rattle.region_typing_rules.specs.Items.{body_scope, variables_declared, Defined, Parameter, Walk, inside, core_function, function_body, item, items, start, walked}
+use Rattle.region_typing_rules.specs.Cores.{body_of, small_core}
+use Rattle.region_typing_rules.proofs.Sides.{core_is, trusted_functions, sides_of, sides_parted}
 use Rattle.region_typing_rules.specs.NeverStuck.{HasCore}
 use Rattle.region_typing_rules.proofs.Verdicts.{Promises, passing_promises, needs_promises}
 use Rattle.region_typing_rules.proofs.Walks.{all_append}
@@ -41,14 +42,14 @@ module _ (n : ℕ) where
   HasLight w = AllByRecursion (HasLightBody n) w.bodies
 
   abbrev behind_body : Walk → Signature → List Parameter → i.Body → core.Statements × Scope → Verdict Walk
-  behind_body w f parameters body x = is_checked w.scope body.mark body.span (Passes (record w { bodies = w.bodies ++ record { name = f.name; function = core_function f parameters x.0 x.1 } ∷ [] }))
+  behind_body w f parameters body x = is_checked w.scope body.mark body.span (Passes (record w { scope = body_scope w body; bodies = w.bodies ++ record { name = f.name; function = core_function f parameters x.0 x.1 } ∷ [] }))
 
   body_light : (at : Places) (w : Walk) (f : Signature) (parameters : List Parameter) (body : Option i.Body) → 5 * tree.optional_body_weight body ≤ n → HasLight w → Promises HasLight (function_body at w f parameters body)
   body_light at w f parameters None le h = h
   body_light at w f parameters (Some body) le h =
-      passing_promises (λ (x : core.Statements × Scope). statements_weight x.0 ≤ 5 * tree.statements_weight body.statements) HasLight (statements at (inside f parameters body.statements w.scope) body.statements) (behind_body w f parameters body)
-      (statements_light at (inside f parameters body.statements w.scope) body.statements)
-      (λ x light. needs_promises HasLight (not (is_unchecked body.mark || w.scope.is_off)) E15 body.span (Passes (record w { bodies = w.bodies ++ record { name = f.name; function = core_function f parameters x.0 x.1 } ∷ [] }))
+      passing_promises (λ (x : core.Statements × Scope). statements_weight x.0 ≤ 5 * tree.statements_weight body.statements) HasLight (statements at (inside f parameters body.statements (body_scope w body)) body.statements) (behind_body w f parameters body)
+      (statements_light at (inside f parameters body.statements (body_scope w body)) body.statements)
+      (λ x light. needs_promises HasLight (not (is_unchecked body.mark || w.scope.is_off)) E15 body.span (Passes (record w { scope = body_scope w body; bodies = w.bodies ++ record { name = f.name; function = core_function f parameters x.0 x.1 } ∷ [] }))
       (λ e. all_append (HasLightBody n) w.bodies (record { name = f.name; function = core_function f parameters x.0 x.1 }) h (omega arith)))
 
   item_light : (at : Places) (all : List Item) (w : Walk) (x : Item) → 5 * tree.item_weight x ≤ n → HasLight w → Promises HasLight (item at all w x)
@@ -79,14 +80,14 @@ module _ (n : ℕ) where
       chosen true h rest = rest
       chosen false h rest = (h, rest)
 
-  light_walked : (entry : ℕ) (v : Verdict Walk) (c : Core) → Promises HasLight v → passing v (λ w. Passes (core_of entry w)) ≡ Passes c → All (IsLight n) (parted c).functions
-  light_walked entry (Passes w) c h e =
-      let same : core_of entry w ≡ c = cc in
+  light_walked : (entry : ℕ) (span : Span) (v : Verdict Walk) (c : Core) → Promises HasLight v → passing v (small_core entry span) ≡ Passes c → All (IsLight n) (parted c).functions
+  light_walked entry span (Passes w) c h e =
+      let same = (core_is entry span w c e).same in
       subst (λ (x : Parted). All (IsLight n) x.functions) (sides_parted entry w ∙ ap parted same) (All-from_recursion (IsLight n) (sides_of entry w).functions (functions_light w.bodies w.scope.functions h))
-  light_walked entry (Stops stop) c h e = absurd (cc)
+  light_walked entry span (Stops stop) c h e = absurd (cc)
 
 pub light : (at : Places) (t : Tree) (c : Core) → HasCore at t c → All (λ (f : core.Function). statements_weight f.body ≤ 5 * tree.tree_weight t) (parted c).functions
 light at t c h =
     let n = named_of t in
     subst (λ weight. All (λ (f : core.Function). statements_weight f.body ≤ 5 * weight) (parted c).functions) (same_weight (number_in n.names) t)
-    (light_walked (5 * tree.tree_weight n.tree) (number_in n.names main) (walked at n) c (items_light (5 * tree.tree_weight n.tree) at n.tree.items (start (given_in n.names)) n.tree.items (omega arith) tt) h.rules)
+    (light_walked (5 * tree.tree_weight n.tree) (number_in n.names main) n.tree.span (walked at n) c (items_light (5 * tree.tree_weight n.tree) at n.tree.items (start (given_in n.names) (variables_declared n.tree.items)) n.tree.items (omega arith) tt) h.rules)

@@ -30,11 +30,11 @@ use Rattle.region_typing_rules.specs.Verdicts.{Verdict, Passes, picked}
 use Rattle.region_typing_rules.specs.Scopes.{Scope, Signature, WrittenBounds, bounds_in, named, function_named, members_named}
 use Rattle.region_typing_rules.specs.Types.{is_number, kind_converts, pointer_converts, converts, Counts}
 use Rattle.region_typing_rules.specs.Readings.{own_bounds, based_bounds, is_null, is_pointer_type, pointer_local, term}
-use Rattle.region_typing_rules.specs.Expressions.{OfLocal, OfCell, OfBounded, Standing, Typed, Value, AStruct, Called, Gives, GivesNothing, bounds_at, one_element, number, at_place, member_place, member_from, offset_among, member_at, dotted, first_element, pointed_by, arrowed, as_pointer, is_met, in_type, asked_as, asked_of, meets, bounds_met, converted, arguments_as, arguments_met, is_import, side_number, callee_of, call_of, first_of, writes, predefined_call, called, with_result, typed, argument_meets, at_call, meets_all, pointer_for, pointers_for, term_for, terms_for, call_bounds, result_at, OfUnknown, is_text, length_typed, measures}
+use Rattle.region_typing_rules.specs.Expressions.{OfLocal, OfCell, OfBounded, Standing, Typed, Value, AStruct, Called, Gives, GivesNothing, bounds_at, one_element, number, at_place, member_place, member_from, offset_among, member_at, dotted, first_element, pointed_by, arrowed, as_pointer, is_met, in_type, asked_as, asked_of, meets, bounds_met, converted, arguments_as, arguments_met, is_import, side_number, callee_of, call_of, first_of, writes, predefined_call, called, with_result, typed, argument_meets, at_call, meets_all, pointer_for, pointers_for, term_for, terms_for, call_bounds, result_at, OfUnknown, is_text, length_typed, text_pointer, measures}
 use Rattle.bounds_flow_meaning.specs.Sums.{counted}
 use Rattle.region_typing_rules.specs.Typed as rules
 use Rattle.region_typing_rules.specs.Typed.{Frame, AreAsked, AreOfResult, HasCallBounds, HasResultBounds, HaveRows, IsAsked, IsAskedAt, IsCallee, IsReturned, pointers_of, term_of, terms_of, LeadsToOne, HasType, HaveTypes, HasPlace, IsSimple, IsScalar, IsScalarResult, IsNumberResult}
-use Rattle.region_typing_rules.proofs.Verdicts.{Promises, passing_promises, needs_promises, anything_promised}
+use Rattle.region_typing_rules.proofs.Verdicts.{Promises, passing_promises, needs_promises, convertible_promises, anything_promised}
 use Rattle.region_typing_rules.proofs.Known.{IsKnown, IsKnownResult, IsSizedResult, size_kept, bounds_kept}
 use Rattle.region_typing_rules.proofs.Signatures.{named_has}
 use Rattle.region_typing_rules.proofs.Knowledge.{IsNumberType, IsTrusted, IsTainted, Knows, crossing_promises, HasMember, IfMember, member_there, member_slot}
@@ -548,7 +548,7 @@ module _ (g : Frame) (types : List CType) (s : Scope) where
 
     measures_promise : (arguments : List (Typed × Span)) (site : Site) (span : Span) → AllFit arguments → Promises (FitsCall g types s) (measures arguments site span)
     measures_promise [] site span all = tt
-    measures_promise (a ∷ arguments) site span all = needs_promises (FitsCall g types s) (length (a ∷ arguments) == 1) E14 span (length_typed a.0 site span) (λ one. length_promises a.0 site span all.0)
+    measures_promise (a ∷ arguments) site span all = needs_promises (FitsCall g types s) (length (a ∷ arguments) == 1) E14 span _ (λ one. convertible_promises (FitsCall g types s) a.0 text_pointer a.1 (length_typed a.0 site span) (length_promises a.0 site span all.0))
 
     predefined_promises : (given : Given) (name : ℕ) (arguments : List (Typed × Span)) (site : Site) (span : Span) → AllFit arguments → Promises (FitsCall g types s) (predefined_call given name arguments site span)
     predefined_promises given name arguments site span all = by (name == given.next_input) (name == given.print_int) (name == given.putchar) (name == given.strlen) refl refl refl refl

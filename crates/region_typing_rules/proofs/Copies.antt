@@ -271,12 +271,12 @@ module _ (structs : List Structure) where
   one_stride (Struct k) h z others = absurd (cc)
   one_stride (Pointer m k t) h z others = absurd (cc)
 
-  number_types : (t : CType) → is_number t ≡ true → (n : ℕ) (cells : List Initial) → Copies structs t n cells → (shape_of cells).types ≡ replicate n t
+  pub number_types : (t : CType) → is_number t ≡ true → (n : ℕ) (cells : List Initial) → Copies structs t n cells → (shape_of cells).types ≡ replicate n t
   number_types t number n _ no_copy = refl
   number_types t number n _ (one_more {n = k} {cells = cells} {others = others} is more) =
       ap (λ c. (shape_of (c ++ others)).types) is.same ∙ (one_type t number is.number others ∙ ap (λ ts. t ∷ ts) (number_types t number k others more))
 
-  number_strides : (t : CType) → is_number t ≡ true → (n : ℕ) (cells : List Initial) → Copies structs t n cells → (shape_of cells).strides ≡ replicate n (size_of structs t)
+  pub number_strides : (t : CType) → is_number t ≡ true → (n : ℕ) (cells : List Initial) → Copies structs t n cells → (shape_of cells).strides ≡ replicate n (size_of structs t)
   number_strides t number n _ no_copy = refl
   number_strides t number n _ (one_more {n = k} {cells = cells} {others = others} is more) =
       ap (λ c. (shape_of (c ++ others)).strides) is.same ∙ (one_stride t number is.number others ∙ ap (λ ss. size_of structs t ∷ ss) (number_strides t number k others more))

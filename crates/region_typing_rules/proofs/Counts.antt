@@ -1,5 +1,6 @@
 -- A program that breaks no rule has few functions.
 use Rattle.std.proofs.Common.{◌≡◌, ℕ, ◌≤◌, Bool, true, false, List, [], ◌∷◌, ◌++◌, length, Option, Some, None, subst, length-append, arith, ap, ◌∙◌}
+use Rattle.ckc_text.specs.declared.place.Span.{Span}
 use Rattle.std.specs.Prelude.{nat_lt, not, is_some, ◌||◌}
 use Rattle.std.proofs.lemmas.Bool.Decides.{nat_tests}
 use Rattle.ckc_text.specs.declared.code.Code.TheVariants.{E15}
@@ -14,9 +15,9 @@ use Rattle.region_typing_rules.specs.Verdicts.{Verdict, Passes, Stops, passing, 
 use Rattle.region_typing_rules.specs.Scopes.{Scope, Signature, function_named}
 use Rattle.region_typing_rules.specs.Expressions.{Places, is_import}
 use Rattle.region_typing_rules.specs.Statements.{statements, is_unchecked, is_checked}
-use Rattle.region_typing_rules.specs.Items.{Defined, Parameter, Walk, with_function, inside, core_function, function_body, function, item, items, start, walked}
-use Rattle.region_typing_rules.specs.Cores.{body_of, core_of}
-use Rattle.region_typing_rules.proofs.Sides.{trusted_functions, tainted_functions, sides_parted}
+use Rattle.region_typing_rules.specs.Items.{body_scope, variables_declared, Defined, Parameter, Walk, with_function, inside, core_function, function_body, function, item, items, start, walked}
+use Rattle.region_typing_rules.specs.Cores.{body_of, small_core}
+use Rattle.region_typing_rules.proofs.Sides.{core_is, trusted_functions, tainted_functions, sides_parted}
 use Rattle.region_typing_rules.specs.Lowerable.{HasFewFunctions}
 use Rattle.region_typing_rules.specs.NeverStuck.{HasCore}
 use Rattle.region_typing_rules.proofs.Verdicts.{Promises, passing_promises, needs_promises}
@@ -34,13 +35,13 @@ with_few w None f h room = let low : length w.scope.functions ≤ 4095 = grind (
 with_few w (Some before) f h room = h
 
 abbrev behind_body : Walk → Signature → List Parameter → i.Body → core.Statements × Scope → Verdict Walk
-behind_body w f parameters body x = is_checked w.scope body.mark body.span (Passes (record w { bodies = w.bodies ++ record { name = f.name; function = core_function f parameters x.0 x.1 } ∷ [] }))
+behind_body w f parameters body x = is_checked w.scope body.mark body.span (Passes (record w { scope = body_scope w body; bodies = w.bodies ++ record { name = f.name; function = core_function f parameters x.0 x.1 } ∷ [] }))
 
 body_few : (at : Places) (w : Walk) (f : Signature) (parameters : List Parameter) (body : Option i.Body) → HasFew w → Promises HasFew (function_body at w f parameters body)
 body_few at w f parameters None h = h
 body_few at w f parameters (Some body) h =
-    passing_any HasFew (statements at (inside f parameters body.statements w.scope) body.statements) (behind_body w f parameters body) (λ x.
-    needs_promises HasFew (not (is_unchecked body.mark || w.scope.is_off)) E15 body.span (Passes (record w { bodies = w.bodies ++ record { name = f.name; function = core_function f parameters x.0 x.1 } ∷ [] })) (λ e. h))
+    passing_any HasFew (statements at (inside f parameters body.statements (body_scope w body)) body.statements) (behind_body w f parameters body) (λ x.
+    needs_promises HasFew (not (is_unchecked body.mark || w.scope.is_off)) E15 body.span (Passes (record w { scope = body_scope w body; bodies = w.bodies ++ record { name = f.name; function = core_function f parameters x.0 x.1 } ∷ [] })) (λ e. h))
 
 function_few : (at : Places) (all : List Item) (w : Walk) (d : i.Function) → HasFew w → Promises HasFew (function at all w d)
 function_few at all w d h =
@@ -74,13 +75,13 @@ tainted_fewer (f ∷ functions) =
     let rest = tainted_fewer functions in
     picked_length (is_import f) (record { name = f.text; parameters = length f.parameters; result = f.result } ∷ tainted_functions functions) (tainted_functions functions) (length (f ∷ functions)) (omega (arith, rest)) (omega (arith, rest))
 
-few_walked : (entry : ℕ) (v : Verdict Walk) (c : Core) → Promises HasFew v → passing v (λ w. Passes (core_of entry w)) ≡ Passes c → HasFewFunctions (parted c)
-few_walked entry (Passes w) c h e =
-    let same : core_of entry w ≡ c = cc in
+few_walked : (entry : ℕ) (span : Span) (v : Verdict Walk) (c : Core) → Promises HasFew v → passing v (small_core entry span) ≡ Passes c → HasFewFunctions (parted c)
+few_walked entry span (Passes w) c h e =
+    let same = (core_is entry span w c e).same in
     subst HasFewFunctions (sides_parted entry w ∙ ap parted same) (record { functions = omega (arith, h, trusted_fewer w.bodies w.scope.functions); imports = omega (arith, h, tainted_fewer w.scope.functions) })
-few_walked entry (Stops stop) c h e = absurd (cc)
+few_walked entry span (Stops stop) c h e = absurd (cc)
 
 pub few : (at : Places) (t : Tree) (c : Core) → HasCore at t c → HasFewFunctions (parted c)
 few at t c h =
     let n = named_of t in
-    few_walked (number_in n.names main) (walked at n) c (items_few at n.tree.items (start (given_in n.names)) n.tree.items (omega arith)) h.rules
+    few_walked (number_in n.names main) n.tree.span (walked at n) c (items_few at n.tree.items (start (given_in n.names) (variables_declared n.tree.items)) n.tree.items (omega arith)) h.rules

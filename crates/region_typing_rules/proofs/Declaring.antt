@@ -45,6 +45,9 @@ use Rattle.region_typing_rules.proofs.CountedTexts.{IsRightLength}
 use Rattle.region_typing_rules.proofs.RightNodes.{counted_text}
 use Rattle.region_typing_rules.proofs.NotedTexts.{IsNotedLength, IsNotedStatement, assignment_noted, initialised_noted}
 use Rattle.region_typing_rules.specs.Typed as typed
+use Rattle.ckc_core.specs.declared.program.Terminator.TheVariants as terminators
+use Rattle.bounds_exprs.specs.Normal.{constant}
+use Rattle.std.proofs.lemmas.Option.{same_Some}
 use Rattle.region_typing_rules.specs.Typed.{Frame, HasType, IsScalar, IsSimple}
 use Rattle.region_typing_rules.proofs.Known.{IsKnown as IsKnownType, base_known, without_known}
 use Rattle.region_typing_rules.proofs.Knowledge.{IsPointing, KnowsFile, Knows}
@@ -424,7 +427,7 @@ module _ (frame : Frame) (types : List CType) (all_scalar : AllByRecursion IsSca
 
   known_inside : (g : Scope) (name : ℕ) (t : CType) (bounds : Option Bounds) (arrays : List ℕ) → IsKnownType g.structs t → KnowsFile frame g → KnowsFile frame (record (with_local name t bounds g) { arrays = arrays })
   known_inside g name t bounds arrays known_t file =
-      record { structs = file.structs; closed = closed_arrays arrays (with_local name t bounds g) (local_closed name t bounds g known_t file.closed); few_members = file.few_members; scalar_members = file.scalar_members; variables = file.variables; trusted = file.trusted; tainted = file.tainted }
+      record { structs = file.structs; closed = closed_arrays arrays (with_local name t bounds g) (local_closed name t bounds g known_t file.closed); few_members = file.few_members; scalar_members = file.scalar_members; variables = file.variables; texts = file.texts; trusted = file.trusted; tainted = file.tainted }
 
   -- bounds that are declared may be those of the local that comes next
   declared_may : (g : Scope) (t : CType) (bounds : Option Bounds) → length (g.locals ++ t ∷ []) ≤ vars → IsFormedIf g.structs (g.locals ++ t ∷ []) t bounds → MayCome vars g.structs g.locals t bounds
@@ -479,9 +482,14 @@ module _ (frame : Frame) (types : List CType) (all_scalar : AllByRecursion IsSca
       formed : IsDeclared g.structs (g.locals ++ row_type ended t ∷ []) (length g.locals) (row_of (before_end ended count))
       formed = record { mode = modes.Checked; kind = array_kind ended; counts = array_counts ended; element = t; own = extends_last g.locals (row_type ended t); some = some; ints = record { lo = tt; hi = tt }; base = λ q e. absurd (cc) }
 
-  before_word : (ended : Bool) (count : ℕ) → is_length (Some count) ≡ true → nat_lt (before_end ended count) (2 ^ 31) ≡ true
-  before_word false count counted = length_word count counted
-  before_word true count counted = (let few = leb-true count 8192 (and_parts (nat_lt 0 count) (nat_le count 8192) counted).1 in le-leb (suc (count - 1)) (2 ^ 31) (omega (arith, few)))
+  -- all but the last one stand before the zero that ends it
+  last_before : (locals : List CType) (count : ℕ) → is_length (Some count) ≡ true → typed.IsBeforeZero locals terminators.Last (core.Number (pos count)) (constant (pos (before_end true count)))
+  last_before locals count counted =
+      let both = and_parts (nat_lt 0 count) (nat_le count 8192) counted in
+      let some = ltb-true 0 count both.0 in
+      let few = leb-true count 8192 both.1 in
+      let one : suc (count - 1) ≡ count = omega (arith, some) in
+      subst (λ k. typed.IsBeforeZero locals terminators.Last (core.Number (pos k)) (constant (pos (count - 1)))) one (typed.all_but_last (omega (arith, few, some)))
 
   consists : (structs : List Structure) (ended : Bool) (t : CType) → MayConsist structs ended t → 0 < size_of structs t
   consists structs false t may = ltb-true 0 (size_of structs t) may
@@ -497,8 +505,11 @@ module _ (frame : Frame) (types : List CType) (all_scalar : AllByRecursion IsSca
 
   -- its memory has its type
   array_made : (within : Scope) → Knows frame types within → (ended : Bool) (t : CType) (count : ℕ) (site : Site) → is_length (Some count) ≡ true → MayConsist within.structs ended t → HasType frame types within (memory_of within ended t count site) (row_type ended t)
-  array_made within knows false t count site counted may = memory_typed frame types within knows t (core.Number (pos count)) site (typed.word (before_word false count counted)) may
-  array_made within knows true t count site counted may = ended_memory_typed frame types within knows t (core.Number (pos (count - 1))) site (typed.word (before_word true count counted)) may
+  array_made within knows false t count site counted may = memory_typed frame types within knows t (core.Number (pos count)) site (typed.word (length_word count counted)) may
+  array_made within knows true t count site counted may =
+      ended_memory_typed frame types within knows t (core.Number (pos count)) terminators.Last refl (Some (constant (pos (before_end true count))))
+      (λ n e. subst (typed.IsBeforeZero within.locals terminators.Last (core.Number (pos count))) (same_Some (constant (pos (before_end true count))) n e) (last_before within.locals count counted))
+      site (typed.word (length_word count counted)) may
 
   array_goes : (at : Places) (g : Scope) → IsWalk vars g → KnowsFile frame g → (d : Declarator) (t : CType) (count : ℕ) (ended : Bool) (span : Span) → is_length (Some count) ≡ true → MayConsist g.structs ended t → IsKnownType g.structs t → length (g.locals ++ row_type ended t ∷ []) ≤ vars
       → Promises (GoesOn g) (settled_array (with_array d.name.number t count ended g) (length g.locals) (memory_of (with_array d.name.number t count ended g) ended t count (site_at at span)) span)

@@ -196,7 +196,7 @@ based_has_base (core.Call callee arguments bounds) d h = absurd (cc)
 based_has_base core.NextInput d h = absurd (cc)
 based_has_base (core.Sum pointer direction number site bounds) d h = based_has_base pointer d h
 based_has_base (core.Order comparison left right site) d h = absurd (cc)
-based_has_base (core.Allocate count element terminated bounds) d h = absurd (cc)
+based_has_base (core.Allocate count element terminator bounds) d h = absurd (cc)
 based_has_base (core.Length pointer site) d h = absurd (cc)
 based_has_base (core.Cast pointer bounds) d h = written_base (option_map (λ (b : PointerBounds). b.bounds) bounds) d h
 

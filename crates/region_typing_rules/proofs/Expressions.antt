@@ -22,6 +22,9 @@ use Rattle.pointer_modes.specs.Layout.{size_of}
 use Rattle.ckc_core.specs.declared.program.Site.{Site}
 use Rattle.act_words.specs.declared.operator.Operator.{Operator}
 use Rattle.ckc_core.specs.declared.program.PointerBounds.{PointerBounds}
+use Rattle.ckc_core.specs.declared.program.Terminator.{Terminator}
+use Rattle.ckc_core.specs.declared.program.Terminator.TheVariants as terminators
+use Rattle.ckc_core.specs.Pointers.{is_terminated}
 use Rattle.ckc_core.specs.Core as core
 use Rattle.ckc_core.specs.Meaning.{bounds_of}
 use Rattle.ckc_core.specs.States.{same_mode, same_type}
@@ -44,9 +47,9 @@ use Rattle.region_typing_rules.specs.DeclaredBounds.{declared_bounds}
 use Rattle.region_typing_rules.specs.DeclaredFormed.{IsFormedFor, IsFormedIf}
 use Rattle.region_typing_rules.proofs.DeclaredBounds.{declared_formed, int_below}
 use Rattle.region_typing_rules.proofs.NewCells.{AreNewCells, new_cells}
-use Rattle.region_typing_rules.proofs.Terms.{term_formed}
+use Rattle.region_typing_rules.proofs.Terms.{before_formed}
 use Rattle.region_typing_rules.specs.Typed as rules
-use Rattle.region_typing_rules.specs.Typed.{Frame, AreNewBounds, IsBaseOf, HasBounds, HasElements, HasType, CountsAs, IsNewNumber}
+use Rattle.region_typing_rules.specs.Typed.{Frame, AreNewBounds, IsBaseOf, IsBeforeZero, HasBounds, HasElements, HasType, CountsAs, IsNewNumber}
 use Rattle.region_typing_rules.proofs.Verdicts.{Promises, passing_promises, needs_promises, anything_promised}
 use Rattle.region_typing_rules.proofs.Known.{IsKnown, size_kept, bounds_kept, type_known, cell_kept}
 use Rattle.region_typing_rules.proofs.KnownTypes.{IsKnownTyped, typed_known}
@@ -60,8 +63,10 @@ use Rattle.region_typing_rules.specs.Knowing.{knowing}
 use Rattle.bounds_exprs.specs.declared.term.Term.{Term}
 use Rattle.region_typing_rules.proofs.Told.{IsTold, told_here, told_is}
 use Rattle.region_typing_rules.proofs.Nodes.{AreCounted, HasNode, IsFactor, IsOne, base_is, beside_is, both_promised, counted_node, number_sized}
-use Rattle.region_typing_rules.proofs.Operands.{Fits, FitsCall, FitsCell, FitsNoted, FitsRight, FitsValue, binary_promises, indexed_promises, name_fits, number_fits, number_of_promises, plain_fits, unary_promises}
+use Rattle.region_typing_rules.proofs.Operands.{text_fits, Fits, FitsCall, FitsCell, FitsNoted, FitsRight, FitsValue, binary_promises, indexed_promises, name_fits, number_fits, number_of_promises, plain_fits, unary_promises}
 use Rattle.region_typing_rules.proofs.Conversions.{AllFit, arrowed_promises, called_promises, dotted_promises, with_result_promises}
+use Rattle.region_typing_rules.proofs.TextBlocks.{text_promises}
+use Rattle.region_typing_rules.specs.Strings.{text_at}
 
 module _ (g : Frame) (types : List CType) (s : Scope) where
   module _ (knows : Knows g types s) where
@@ -90,6 +95,10 @@ module _ (g : Frame) (types : List CType) (s : Scope) where
         by None e = alone (is_size s t size) (is_char t) (let k = rw e at h in k)
         by (Some m) e = let k : Some m ≡ Some n = rw e at h in let same : m ≡ n = cc in subst (λ e. HasType g types s e Int) same (factor_typed value m (beside_is s t size value m e) typed)
 
+    -- where there is a term, as many elements stand before the zero
+    abbrev pub AreBefore : Terminator → core.Expression → Option Term → Type 0
+    AreBefore terminator count o = (n : Term) → o ≡ Some n → IsBeforeZero s.locals terminator count n
+
     module _ (t : CType) (count : core.Expression) (site : Site) (some : 0 < size_of s.structs t) where
       abbrev made : AreNewCells s.structs g.structs t (cells_with s.structs t (pos 0))
       made = new_cells s.structs g.structs t knows.file.structs knows.file.scalar_members some
@@ -97,47 +106,52 @@ module _ (g : Frame) (types : List CType) (s : Scope) where
       same_bytes : size_of s.structs t ≡ size_of g.structs t
       same_bytes = sym made.size ∙ made.later_size
 
-      new_bounds : (kind : Kind) (o : Option Term) → term s.locals count ≡ o → AreNewBounds g.structs s.locals count kind t (row_counted s.structs t (is_ended (Pointer modes.Checked kind t)) o site)
-      new_bounds kind None is = rules.uncounted
-      new_bounds kind (Some n) is = subst (λ k. AreNewBounds g.structs s.locals count kind t (Some (record { bounds = counted n; size = k; terminated = is_ended (Pointer modes.Checked kind t); site = site }))) (sym same_bytes) (rules.by_term {site = site} is)
+      new_bounds : (terminator : Terminator) (o : Option Term) → AreBefore terminator count o → AreNewBounds g.structs s.locals terminator count t (row_counted s.structs t (is_terminated terminator) o site)
+      new_bounds terminator None is = rules.uncounted
+      new_bounds terminator (Some n) is = subst (λ k. AreNewBounds g.structs s.locals terminator count t (Some (record { bounds = counted n; size = k; terminated = is_terminated terminator; site = site }))) (sym same_bytes) (rules.by_term {site = site} (is n refl))
 
-      new_counted : (kind : Kind) (o : Option Term) → term s.locals count ≡ o → AreCounted g.structs s.flow.vars kind t (row_counted s.structs t (is_ended (Pointer modes.Checked kind t)) o site)
-      new_counted kind None is = tt
-      new_counted kind (Some n) is = record { node = record { size = same_bytes; terminated = refl }; some = made.bytes; below = record { lo = tt; hi = int_below s.locals s.flow.vars n.var knows.few (term_formed s.locals count n is).int } }
+      new_counted : (kind : Kind) (terminator : Terminator) (o : Option Term) → AreBefore terminator count o → AreCounted g.structs s.flow.vars kind t (row_counted s.structs t (is_ended (Pointer modes.Checked kind t)) o site)
+      new_counted kind terminator None is = tt
+      new_counted kind terminator (Some n) is =
+          let int = (before_formed s.locals terminator count n (is n refl)).int in
+          record { node = record { size = same_bytes; terminated = refl }; some = made.bytes; below = record { lo = tt; hi = int_below s.locals s.flow.vars n.var knows.few int } }
 
     -- new memory of elements that have bytes
     pub memory_typed : (t : CType) (count : core.Expression) (site : Site) → HasType g types s count Int → nat_lt 0 (size_of s.structs t) ≡ true
-        → HasType g types s (core.Allocate count (cells_with s.structs t (pos 0)) false (row_counted s.structs t false (term s.locals count) site)) (Pointer modes.Checked kinds.Array t)
+        → HasType g types s (core.Allocate count (cells_with s.structs t (pos 0)) terminators.Absent (row_counted s.structs t false (term s.locals count) site)) (Pointer modes.Checked kinds.Array t)
     memory_typed t count site h bytes =
         let some = ltb-true 0 (size_of s.structs t) bytes in
         let cells = made t count site some in
         let word = subst (λ n. is_word_number (pos n) ≡ true) (same_bytes t count site some) (size_fits s.structs t knows.file.few_members) in
-        rules.allocate h (record { bytes = cells.bytes; word = word; size = cells.later_size; cells = cells.cells; initial = cells.initial g.structs; roomy = cells.roomy }) (new_bounds t count site some kinds.Array (term s.locals count) refl)
+        rules.allocate h (record { bytes = cells.bytes; word = word; size = cells.later_size; cells = cells.cells; initial = cells.initial g.structs; roomy = cells.roomy }) (new_bounds t count site some terminators.Absent (term s.locals count) (λ n e. rules.all_of e))
 
     allocation_promises : (t : CType) (count : core.Expression) (site : Site) (span : Span) → HasType g types s count Int → Promises (Fits g types s) (allocation s t count site span)
     allocation_promises t count site span h =
         needs_promises (Fits g types s) (nat_lt 0 (size_of s.structs t)) E13 span _
         (λ bytes.
-        (plain_fits g types s) (Pointer modes.Checked kinds.Array t) (core.Allocate count (cells_with s.structs t (pos 0)) false (row_counted s.structs t false (term s.locals count) site)) refl (memory_typed t count site h bytes)
-        (record { own = new_counted t count site (ltb-true 0 (size_of s.structs t) bytes) kinds.Array (term s.locals count) refl; based = λ b e. absurd (cc) }))
+        (plain_fits g types s) (Pointer modes.Checked kinds.Array t) (core.Allocate count (cells_with s.structs t (pos 0)) terminators.Absent (row_counted s.structs t false (term s.locals count) site)) refl (memory_typed t count site h bytes)
+        (record { own = new_counted t count site (ltb-true 0 (size_of s.structs t) bytes) kinds.Array terminators.Absent (term s.locals count) (λ n e. rules.all_of e); based = λ b e. absurd (cc) }))
 
-    -- and of numbers with a zero behind them
+    -- and of numbers that a zero ends
     new_number : (t : CType) → is_number t ≡ true → IsNewNumber g.structs t (cells_with s.structs t (pos 0))
     new_number Int number = record { number = refl; cell = record { number = pos 0; is = refl; some = omega arith }; initial = (refl, tt); roomy = (record { room = omega arith; typed = refl; word = refl; null = λ e. absurd (cc) }, tt) }
     new_number Char number = record { number = refl; cell = record { number = pos 0; is = refl; some = omega arith }; initial = (refl, tt); roomy = (record { room = omega arith; typed = refl; word = refl; null = λ e. absurd (cc) }, tt) }
     new_number (Struct n) number = absurd (cc)
     new_number (Pointer m k t) number = absurd (cc)
 
-    pub ended_memory_typed : (t : CType) (count : core.Expression) (site : Site) → HasType g types s count Int → is_number t ≡ true
-        → HasType g types s (core.Allocate count (cells_with s.structs t (pos 0)) true (row_counted s.structs t true (term s.locals count) site)) (Pointer modes.Checked kinds.Nt t)
-    ended_memory_typed t count site h number = rules.allocate_ended h (new_number t number) (new_bounds t count site (number_sized s.structs t number) kinds.Nt (term s.locals count) refl)
+    pub ended_memory_typed : (t : CType) (count : core.Expression) (terminator : Terminator) → is_terminated terminator ≡ true → (before : Option Term) → AreBefore terminator count before → (site : Site) → HasType g types s count Int → is_number t ≡ true
+        → HasType g types s (core.Allocate count (cells_with s.structs t (pos 0)) terminator (row_counted s.structs t true before site)) (Pointer modes.Checked kinds.Nt t)
+    ended_memory_typed t count terminator ended before are site h number =
+        rules.allocate_ended h ended (new_number t number)
+        (subst (λ x. AreNewBounds g.structs s.locals terminator count t (row_counted s.structs t x before site)) ended (new_bounds t count site (number_sized s.structs t number) terminator before are))
 
-    ended_allocation_promises : (t : CType) (count : core.Expression) (site : Site) (span : Span) → HasType g types s count Int → Promises (Fits g types s) (ended_allocation s t count site span)
-    ended_allocation_promises t count site span h =
+    ended_allocation_promises : (t : CType) (count : core.Expression) (terminator : Terminator) → is_terminated terminator ≡ true → (before : Option Term) → AreBefore terminator count before → (site : Site) (span : Span) → HasType g types s count Int
+        → Promises (Fits g types s) (ended_allocation s t count terminator before site span)
+    ended_allocation_promises t count terminator ended before are site span h =
         needs_promises (Fits g types s) (is_number t) E13 span _
         (λ number.
-        (plain_fits g types s) (Pointer modes.Checked kinds.Nt t) (core.Allocate count (cells_with s.structs t (pos 0)) true (row_counted s.structs t true (term s.locals count) site)) refl (ended_memory_typed t count site h number)
-        (record { own = new_counted t count site (number_sized s.structs t number) kinds.Nt (term s.locals count) refl; based = λ b e. absurd (cc) }))
+        (plain_fits g types s) (Pointer modes.Checked kinds.Nt t) (core.Allocate count (cells_with s.structs t (pos 0)) terminator (row_counted s.structs t true before site)) refl (ended_memory_typed t count terminator ended before are site h number)
+        (record { own = new_counted t count site (number_sized s.structs t number) kinds.Nt terminator before are; based = λ b e. absurd (cc) }))
 
     malloc_promises : (word : MallocWord) (t : CType) (size : Expression) (a : Typed) (site : Site) (span : Span) → Fits g types s a → Promises (Fits g types s) (malloc_typed word s t size a site span)
     malloc_promises malloc_words.Malloc t size a site span h =
@@ -153,8 +167,9 @@ module _ (g : Frame) (types : List CType) (s : Scope) where
         (number_of_promises g types s) (Fits g types s) a span (λ count. needs (is_size s t size) E13 span (allocation s t count site span)) h
         (λ count typed. needs_promises (Fits g types s) (is_size s t size) E13 span (allocation s t count site span) (λ _. allocation_promises t count site span typed))
     calloc_promises calloc_words.NtCalloc t a size site span h =
-        (number_of_promises g types s) (Fits g types s) a span (λ count. needs (is_size s t size) E13 span (ended_allocation s t count site span)) h
-        (λ count typed. needs_promises (Fits g types s) (is_size s t size) E13 span (ended_allocation s t count site span) (λ _. ended_allocation_promises t count site span typed))
+        (number_of_promises g types s) (Fits g types s) a span (λ count. needs (is_size s t size) E13 span (ended_allocation s t count terminators.Behind (term s.locals count) site span)) h
+        (λ count typed. needs_promises (Fits g types s) (is_size s t size) E13 span (ended_allocation s t count terminators.Behind (term s.locals count) site span)
+        (λ _. ended_allocation_promises t count terminators.Behind refl (term s.locals count) (λ n e. rules.all_before e) site span typed))
 
     -- ---- casts
 
@@ -342,7 +357,7 @@ module _ (g : Frame) (types : List CType) where
   knows_told s h knows so told =
       let file = knows.file in
       record {
-        file = record { structs = file.structs; closed = file.closed; few_members = file.few_members; scalar_members = file.scalar_members; variables = file.variables; trusted = file.trusted; tainted = file.tainted };
+        file = record { structs = file.structs; closed = file.closed; few_members = file.few_members; scalar_members = file.scalar_members; variables = file.variables; texts = file.texts; trusted = file.trusted; tainted = file.tainted };
         flow = told.flow;
         pointers = λ k. record { bounds = λ b e. same_pointing s h k b ((so k).bounds b e); declared = λ b e. same_pointing s h k b ((so k).declared b e) };
         few = subst (λ n. length s.locals ≤ n) (sym told.tested.vars) knows.few;
@@ -373,7 +388,7 @@ module _ (g : Frame) (types : List CType) where
     pub typed_promises : (s : Scope) (knows : Knows g types s) (at : Places) (x : Expression) → Promises (Fits g types s) (typed at s x)
     typed_promises s knows at (e.Number value span) = constant_promises g types s knows value (value == 0) span
     typed_promises s knows at (e.Character value span) = constant_promises g types s knows value false span
-    typed_promises s knows at (e.Text bytes span) = tt
+    typed_promises s knows at (e.Text bytes span) = text_promises (Fits g types s) s.structs (text_at s.strings span.from) (site_at at span) span (λ t found few. text_fits g types s knows span.from t (site_at at span) found few)
     typed_promises s knows at (e.Name name) =
         bounded_promises g types s knows (site_at at name.span) (passing (named s name.number) (λ n. Passes (name_typed s n (site_at at name.span)))) (typed_known s knows.file.closed at (e.Name name))
         (passing_promises (StandsFor g s.structs s.locals) (FitsNoted g types s) (named s name.number) _ (name_stands g types s knows name.number) (name_fits g types s knows (site_at at name.span)))

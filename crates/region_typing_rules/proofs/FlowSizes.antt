@@ -72,7 +72,7 @@ told_size types (core.Call callee arguments bounds) truth f = refl
 told_size types core.NextInput truth f = refl
 told_size types (core.Sum pointer direction number site bounds) truth f = refl
 told_size types (core.Order comparison left right site) truth f = refl
-told_size types (core.Allocate count element terminated bounds) truth f = refl
+told_size types (core.Allocate count element terminator bounds) truth f = refl
 told_size types (core.Length pointer site) truth f = refl
 told_size types (core.Cast pointer bounds) truth f = refl
 

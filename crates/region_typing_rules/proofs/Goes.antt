@@ -115,7 +115,7 @@ module _ (g : Frame) (types : List CType) (here : Scope) (reaches : Extends here
   base_of (typed.call known h asked bounds) b is m d target same = absurd (cc)
   base_of typed.next_input b is m d target same = absurd (cc)
   base_of (typed.allocate h fresh bounds) b is m d target same = absurd (cc)
-  base_of (typed.allocate_ended h fresh bounds) b is m d target same = absurd (cc)
+  base_of (typed.allocate_ended h ended fresh bounds) b is m d target same = absurd (cc)
   base_of (typed.cast h elements counts within size limited ints bases) b is m d target same = absurd (cc)
   base_of (typed.cast_single h elements within bounds) b is m d target same = absurd (cc)
   base_of (typed.cast_unbounded h elements counts) b is m d target same = absurd (cc)

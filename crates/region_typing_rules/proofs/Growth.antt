@@ -25,7 +25,7 @@ use Rattle.region_typing_rules.specs.Statements.{Walked, both, assignment, assig
 use Rattle.region_typing_rules.specs.Typed.{Frame, IsScalar}
 use Rattle.region_typing_rules.proofs.Verdicts.{Promises, passing_promises, needs_promises, anything_promised, later_promises, Extends, extends_append}
 use Rattle.region_typing_rules.proofs.Known.{IsKnown, IsClosed, base_known}
-use Rattle.region_typing_rules.proofs.Knowledge.{IsTrusted, IsTainted, IsVariable, KnowsFile}
+use Rattle.region_typing_rules.proofs.Knowledge.{HoldsTexts, IsTrusted, IsTainted, IsVariable, KnowsFile}
 use Rattle.region_typing_rules.proofs.FlowSizes.{told_size, assigned_size, settling_size, outside_size, others_size}
 use Rattle.region_typing_rules.proofs.Memory.{may_lead}
 use Rattle.region_typing_rules.proofs.LocalArrays.{memory_of, settled_array, declarator_promises}
@@ -36,6 +36,7 @@ pub record Grows (before after : Scope) : Type 0 where
   pub structs : before.structs ≡ after.structs
   pub functions : before.functions ≡ after.functions
   pub variables : before.variables ≡ after.variables
+  pub strings : before.strings ≡ after.strings
   pub result : before.result ≡ after.result
   pub asked : before.result_bounds ≡ after.result_bounds
   pub loop : before.in_loop ≡ after.in_loop
@@ -46,7 +47,7 @@ pub record Grows (before after : Scope) : Type 0 where
   pub closed : IsClosed before → IsClosed after
 
 pub stays : (g : Scope) → Grows g g
-stays g = record { tags = refl; structs = refl; functions = refl; variables = refl; result = refl; asked = refl; loop = refl; locals = λ k x h. h; scalars = λ h. h; size = refl; few = λ h. h; closed = λ h. h }
+stays g = record { tags = refl; structs = refl; functions = refl; variables = refl; strings = refl; result = refl; asked = refl; loop = refl; locals = λ k x h. h; scalars = λ h. h; size = refl; few = λ h. h; closed = λ h. h }
 
 pub grows_further : (a b c : Scope) → Grows a b → Grows b c → Grows a c
 grows_further a b c h h' = record {
@@ -54,6 +55,7 @@ grows_further a b c h h' = record {
   structs = h.structs ∙ h'.structs;
   functions = h.functions ∙ h'.functions;
   variables = h.variables ∙ h'.variables;
+  strings = h.strings ∙ h'.strings;
   result = h.result ∙ h'.result;
   asked = h.asked ∙ h'.asked;
   loop = h.loop ∙ h'.loop;
@@ -66,7 +68,7 @@ grows_further a b c h h' = record {
 
 -- where something else is known of as many variables
 pub knowing_grows : (f : Knowledge) (g : Scope) → f.vars ≡ g.flow.vars → Grows g (knowing f g)
-knowing_grows f g e = record { tags = refl; structs = refl; functions = refl; variables = refl; result = refl; asked = refl; loop = refl; locals = λ k x h. h; scalars = λ h. h; size = sym e; few = λ h. subst (λ n. length g.locals ≤ n) (sym e) h; closed = λ h. h }
+knowing_grows f g e = record { tags = refl; structs = refl; functions = refl; variables = refl; strings = refl; result = refl; asked = refl; loop = refl; locals = λ k x h. h; scalars = λ h. h; size = sym e; few = λ h. subst (λ n. length g.locals ≤ n) (sym e) h; closed = λ h. h }
 
 -- behind something that grew, where something else is known
 pub knows_further : (f : Knowledge) (g h : Scope) → f.vars ≡ g.flow.vars → Grows g h → Grows g (knowing f h)
@@ -83,13 +85,13 @@ pub cut_grows : (g : Scope) → Grows g (cut g)
 cut_grows g = knowing_grows (cut_off g.flow) g refl
 
 pub broken_grows : (g : Scope) → Grows g (broken g)
-broken_grows g = record { tags = refl; structs = refl; functions = refl; variables = refl; result = refl; asked = refl; loop = refl; locals = λ k x h. h; scalars = λ h. h; size = refl; few = λ h. h; closed = λ h. h }
+broken_grows g = record { tags = refl; structs = refl; functions = refl; variables = refl; strings = refl; result = refl; asked = refl; loop = refl; locals = λ k x h. h; scalars = λ h. h; size = refl; few = λ h. h; closed = λ h. h }
 
 pub continued_grows : (g : Scope) → Grows g (continued g)
-continued_grows g = record { tags = refl; structs = refl; functions = refl; variables = refl; result = refl; asked = refl; loop = refl; locals = λ k x h. h; scalars = λ h. h; size = refl; few = λ h. h; closed = λ h. h }
+continued_grows g = record { tags = refl; structs = refl; functions = refl; variables = refl; strings = refl; result = refl; asked = refl; loop = refl; locals = λ k x h. h; scalars = λ h. h; size = refl; few = λ h. h; closed = λ h. h }
 
 pub head_grows : (body : Statement) (step : Option Assignment) (g : Scope) → Grows g (at_loop body step g)
-head_grows body step g = record { tags = refl; structs = refl; functions = refl; variables = refl; result = refl; asked = refl; loop = refl; locals = λ k x h. h; scalars = λ h. h; size = refl; few = λ h. h; closed = λ h. h }
+head_grows body step g = record { tags = refl; structs = refl; functions = refl; variables = refl; strings = refl; result = refl; asked = refl; loop = refl; locals = λ k x h. h; scalars = λ h. h; size = refl; few = λ h. h; closed = λ h. h }
 
 -- what is known of the file is known behind it
 pub file_known : (g : Frame) (a b : Scope) → Grows a b → KnowsFile g a → KnowsFile g b
@@ -100,6 +102,7 @@ file_known g a b h k =
       few_members = subst (λ x. (n : ℕ) → length (members_of x n) ≤ 64) h.structs k.few_members;
       scalar_members = subst (λ x. (n : ℕ) → AllByRecursion (λ (m : Member). IsScalar m.ctype) (members_of x n)) h.structs k.scalar_members;
       variables = subst (λ vs. (n : ℕ) (v : FileVariable) → slice_get vs n ≡ Some v → IsVariable g v v.length n) h.variables k.variables;
+      texts = subst (HoldsTexts g) h.strings k.texts;
       trusted = subst (λ fs. (name : ℕ) (f : Signature) → function_named fs name ≡ Some f → is_import f ≡ false → IsTrusted g (side_number false fs f.name 0) f) h.functions k.trusted;
       tainted = subst (λ fs. (name : ℕ) (f : Signature) → function_named fs name ≡ Some f → is_import f ≡ true → IsTainted g (side_number true fs f.name 0) f) h.functions k.tainted;
     }
@@ -127,26 +130,26 @@ named_further a b t h named few =
     subst (λ x. IsKnown x t) h.structs (named before)
 
 pub local_grows : (name : ℕ) (t : CType) (b : Option Bounds) (g : Scope) → IsScalar t → length g.locals < g.flow.vars → IsNamedIn g t → Grows g (with_local name t b g)
-local_grows name t b g h low named = record { size = refl; tags = refl; structs = refl; functions = refl; variables = refl; result = refl; asked = refl; loop = refl; locals = extends_append g.locals (t ∷ []); scalars = scalars_append g.locals t h; few = λ n. omega (arith, length-append g.locals (t ∷ [])); closed = λ c. local_closed name t b g (named c.tagged) c }
+local_grows name t b g h low named = record { size = refl; tags = refl; structs = refl; functions = refl; variables = refl; strings = refl; result = refl; asked = refl; loop = refl; locals = extends_append g.locals (t ∷ []); scalars = scalars_append g.locals t h; few = λ n. omega (arith, length-append g.locals (t ∷ [])); closed = λ c. local_closed name t b g (named c.tagged) c }
 
 -- whichever of its locals are arrays
 pub closed_arrays : (arrays : List ℕ) (g : Scope) → IsClosed g → IsClosed (record g { arrays = arrays })
 closed_arrays arrays g c = record { tagged = c.tagged; of_members = c.of_members; of_functions = c.of_functions; of_results = c.of_results; of_variables = c.of_variables; of_locals = c.of_locals }
 
 arrays_grow : (arrays : List ℕ) (g h : Scope) → Grows g h → Grows g (record h { arrays = arrays })
-arrays_grow arrays g h grown = record { tags = grown.tags; structs = grown.structs; functions = grown.functions; variables = grown.variables; result = grown.result; asked = grown.asked; loop = grown.loop; locals = grown.locals; scalars = grown.scalars; size = grown.size; few = grown.few; closed = λ c. closed_arrays arrays h (grown.closed c) }
+arrays_grow arrays g h grown = record { tags = grown.tags; structs = grown.structs; functions = grown.functions; variables = grown.variables; strings = grown.strings; result = grown.result; asked = grown.asked; loop = grown.loop; locals = grown.locals; scalars = grown.scalars; size = grown.size; few = grown.few; closed = λ c. closed_arrays arrays h (grown.closed c) }
 
 -- behind a block
 pub block_grows : (g inside : Scope) → Grows g inside → Grows g (behind_block g inside)
 block_grows g inside h =
     let size = outside_size (length g.locals) inside inside.flow in
-    record { tags = h.tags; structs = h.structs; functions = h.functions; variables = h.variables; result = h.result; asked = h.asked; loop = refl; locals = h.locals; scalars = h.scalars; size = h.size ∙ sym size; few = λ n. subst (λ v. length inside.locals ≤ v) (sym size) (h.few n); closed = h.closed }
+    record { tags = h.tags; structs = h.structs; functions = h.functions; variables = h.variables; strings = h.strings; result = h.result; asked = h.asked; loop = refl; locals = h.locals; scalars = h.scalars; size = h.size ∙ sym size; few = λ n. subst (λ v. length inside.locals ≤ v) (sym size) (h.few n); closed = h.closed }
 
 -- behind the body of a loop, which isn't in it
 pub loop_grows : (g inside : Scope) → Grows (in_loop g) inside → Grows g (behind_block g inside)
 loop_grows g inside h =
     let size = outside_size (length g.locals) inside inside.flow in
-    record { tags = h.tags; structs = h.structs; functions = h.functions; variables = h.variables; result = h.result; asked = h.asked; loop = refl; locals = h.locals; scalars = h.scalars; size = h.size ∙ sym size; few = λ n. subst (λ v. length inside.locals ≤ v) (sym size) (h.few n); closed = h.closed }
+    record { tags = h.tags; structs = h.structs; functions = h.functions; variables = h.variables; strings = h.strings; result = h.result; asked = h.asked; loop = refl; locals = h.locals; scalars = h.scalars; size = h.size ∙ sym size; few = λ n. subst (λ v. length inside.locals ≤ v) (sym size) (h.few n); closed = h.closed }
 
 -- behind branches
 pub branch_grows : (g : Scope) (c : core.Expression) (inside : Scope) → Grows (when c true g) inside → Grows g (behind_branch g c inside)
@@ -172,13 +175,13 @@ turns_grow g body step c inside h =
     let head = at_loop body step g in
     let grown = loop_grows (when c true head) inside h in
     let whole = grows_further g head _ (head_grows body step g) (grows_further head (when c true head) _ (when_grows c true head) grown) in
-    record { tags = whole.tags; structs = whole.structs; functions = whole.functions; variables = whole.variables; result = whole.result; asked = whole.asked; loop = refl; locals = whole.locals; scalars = whole.scalars; size = whole.size; few = whole.few; closed = whole.closed }
+    record { tags = whole.tags; structs = whole.structs; functions = whole.functions; variables = whole.variables; strings = whole.strings; result = whole.result; asked = whole.asked; loop = refl; locals = whole.locals; scalars = whole.scalars; size = whole.size; few = whole.few; closed = whole.closed }
 
 pub behind_grows : (g : Scope) (body : Statement) (step : Option Assignment) (c : core.Expression) (inside : Scope) → Grows g inside → Grows g (behind_loop g (at_loop body step g) c inside)
 behind_grows g body step c inside h =
     let head = at_loop body step g in
     let size = others_size inside.breaks (told g.locals c false head.flow) ∙ told_size g.locals c false head.flow in
-    record { tags = h.tags; structs = h.structs; functions = h.functions; variables = h.variables; result = h.result; asked = h.asked; loop = refl; locals = h.locals; scalars = h.scalars; size = sym size; few = λ n. subst (λ v. length inside.locals ≤ v) (sym h.size ∙ sym size) (h.few n); closed = h.closed }
+    record { tags = h.tags; structs = h.structs; functions = h.functions; variables = h.variables; strings = h.strings; result = h.result; asked = h.asked; loop = refl; locals = h.locals; scalars = h.scalars; size = sym size; few = λ n. subst (λ v. length inside.locals ≤ v) (sym h.size ∙ sym size) (h.few n); closed = h.closed }
 
 pub step_grows : (g : Scope) (body : Statement) (step : Option Assignment) (c : core.Expression) (inside : Scope) → Grows (in_loop (when c true (at_loop body step g))) inside → Grows g (before_step g inside)
 step_grows g body step c inside h =

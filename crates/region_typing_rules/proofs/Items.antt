@@ -35,9 +35,9 @@ use Rattle.region_typing_rules.specs.Statements.{statements, with_local, is_unch
 use Rattle.bounds_flow.specs.Flows.{at_entry}
 use Rattle.region_typing_rules.specs.Knowing.{all_declared, knowing}
 use Rattle.region_typing_rules.specs.Items as items
-use Rattle.region_typing_rules.specs.Items.{Walk, bounds_of_result, first_changed_in, names as names_of, without_change, scalar_members, structure, variables, global, listed, parameter_types, result_type, with_function, with_parameters, variables_in, inside, core_function, function_body, is_defined, agrees, all_scalar, scalar_result, function_rules, signature_of, function, item, Parameter, with_bounds}
+use Rattle.region_typing_rules.specs.Items.{Walk, body_scope, bounds_of_result, first_changed_in, names as names_of, without_change, scalar_members, structure, variables, global, listed, parameter_types, result_type, with_function, with_parameters, variables_in, inside, core_function, function_body, is_defined, agrees, all_scalar, scalar_result, function_rules, signature_of, function, item, Parameter, with_bounds}
 use Rattle.region_typing_rules.specs.Typed.{Frame, HasResultBounds, HaveRows, IsScalar, IsScalarResult, AreStatements, IsNumberResult}
-use Rattle.region_typing_rules.proofs.Verdicts.{Promises, passing_promises, needs_promises, promised_so, both_promise, later_promises, all_promised, Extends, passed_is}
+use Rattle.region_typing_rules.proofs.Verdicts.{Promises, passing_promises, needs_promises, promised_so, both_promise, later_promises, all_promised, Extends, passed_is, extends_append}
 use Rattle.region_typing_rules.proofs.Known.{IsKnown, IsKnownResult, IsSizedResult, without_known, base_known}
 use Rattle.region_typing_rules.proofs.Knowledge.{IsNumberType, KnowsFile}
 use Rattle.region_typing_rules.proofs.Growth.{Grows, stays, grows_further, file_known, knowing_grows, local_grows, statements_grow, GrowsTo}
@@ -56,6 +56,8 @@ use Rattle.region_typing_rules.proofs.Safe.{IsSafe, setting_of}
 use Rattle.ckc_core.specs.Meaning.{effects, knot}
 use Rattle.ckc_core.specs.States.{shapes}
 use Rattle.region_typing_rules.proofs.Walks.{FileGrows, file_stays, file_further, AreSettled, IsBody, IsNamed, IsWell, bodies_later, all_append}
+use Rattle.ckc_tree_texts.specs.Texts.{body_texts}
+use Rattle.region_typing_rules.proofs.TextBlocks.{changed_beside}
 use Rattle.region_typing_rules.proofs.Objects.{Follows, region_promises, structure_promises, global_promises}
 
 -- what is so of `main`
@@ -225,8 +227,8 @@ module _ (height entry : ℕ) where
   file_inside : (g : Frame) (f : Signature) (ps : List Parameter) (body : trees.Statements) (s : Scope) → length ps ≤ 16 → AllByRecursion IsScalar (map (λ (p : Parameter). p.type) ps) → AllByRecursion (λ (v : Parameter). IsKnown s.structs v.type) ps → KnowsFile g s → KnowsFile g (inside f ps body s)
   file_inside g f ps body s few all types known =
       let start : Scope = at_start f ps body s in
-      let k = file_known g start (before_result f ps body s) (inside_grows f ps body s few all types) (record { structs = known.structs; closed = record { tagged = known.closed.tagged; of_members = known.closed.of_members; of_functions = known.closed.of_functions; of_results = known.closed.of_results; of_variables = known.closed.of_variables; of_locals = tt }; few_members = known.few_members; scalar_members = known.scalar_members; variables = known.variables; trusted = known.trusted; tainted = known.tainted }) in
-      record { structs = k.structs; closed = k.closed; few_members = k.few_members; scalar_members = k.scalar_members; variables = k.variables; trusted = k.trusted; tainted = k.tainted }
+      let k = file_known g start (before_result f ps body s) (inside_grows f ps body s few all types) (record { structs = known.structs; closed = record { tagged = known.closed.tagged; of_members = known.closed.of_members; of_functions = known.closed.of_functions; of_results = known.closed.of_results; of_variables = known.closed.of_variables; of_locals = tt }; few_members = known.few_members; scalar_members = known.scalar_members; variables = known.variables; texts = known.texts; trusted = known.trusted; tainted = known.tainted }) in
+      record { structs = k.structs; closed = k.closed; few_members = k.few_members; scalar_members = k.scalar_members; variables = k.variables; texts = k.texts; trusted = k.trusted; tainted = k.tainted }
 
   -- a body that was walked, in a program in which the file is known, where its locals are these
   record Premises (s : Scope) : Type 0 where
@@ -396,6 +398,8 @@ module _ (height entry : ℕ) where
         let grows : FileGrows w.scope after = record {
           structs = λ k x h. h;
           variables = λ k x h. h;
+          texts = λ k x h. h;
+          counted = refl;
           functions = λ name h found. named_further w.scope.functions f name h found;
           numbers = λ side name h found. side_further side w.scope.functions f name h 0 found;
         } in
@@ -434,6 +438,10 @@ module _ (height entry : ℕ) where
       abbrev with_it : Walk
       with_it = record w { scope = with_function known signature w.scope }
 
+      -- where its body stands
+      abbrev scope_with : i.Body → Scope
+      scope_with body = body_scope with_it body
+
       abbrev IsPassed : Walk → Type 0
       IsPassed v = Passed w (is_main_function d) v
 
@@ -464,19 +472,41 @@ module _ (height entry : ℕ) where
       formed_parameters (Some before) = form.formed
 
       -- with a body more
-      with_body : (at : Places) → IsRuled known signature → (body : i.Body) → first_changed_in with_it.scope signature parameters (Some body) ≡ None → (x : core.Statements × Scope) → IsWalkedBody (inside signature parameters body.statements with_it.scope) x
-          → statements at (inside signature parameters body.statements with_it.scope) body.statements ≡ Passes x → IsPassed (record with_it { bodies = with_it.bodies ++ record { name = signature.name; function = core_function signature parameters x.0 x.1 } ∷ [] })
+      with_body : (at : Places) → IsRuled known signature → (body : i.Body) → first_changed_in with_it.scope signature parameters (Some body) ≡ None → (x : core.Statements × Scope) → IsWalkedBody (inside signature parameters body.statements (scope_with body)) x
+          → statements at (inside signature parameters body.statements (scope_with body)) body.statements ≡ Passes x → IsPassed (record with_it { scope = scope_with body; bodies = with_it.bodies ++ record { name = signature.name; function = core_function signature parameters x.0 x.1 } ∷ [] })
       with_body at ruled body none x walked passes =
           let it = is_declared ruled in
-          let typed_body = function_body_typed at with_it.scope signature parameters body x refl refl (λ b e. (form.for_result b e).are) none it.is_known (scalars_all signature.parameters ruled.scalars) (result_scalar result ruled.scalar) form.few (known_parameters known) (formed_parameters known) walked passes in
+          let known_as : IsKnownAs (scope_with body) signature = record { signature = it.is_known.signature; named = it.is_known.named; agrees = it.is_known.agrees } in
+          let unchanged = changed_beside signature parameters (Some body) with_it.taken (body_texts body) with_it.scope ∙ none in
+          let grows : FileGrows with_it.scope (scope_with body) = record {
+            structs = λ k x h. h;
+            variables = λ k x h. h;
+            texts = extends_append with_it.scope.strings.texts (body_texts body);
+            counted = refl;
+            functions = λ name f h. h;
+            numbers = λ side name f h. refl;
+          } in
+          let typed_body = function_body_typed at (scope_with body) signature parameters body x refl refl (λ b e. (form.for_result b e).are) unchanged known_as (scalars_all signature.parameters ruled.scalars) (result_scalar result ruled.scalar) form.few (known_parameters known) (formed_parameters known) walked passes in
           let well' = it.follows.well in
           record {
             follows = record {
-              well = record { closed = well'.closed; few = well'.few; scalars = well'.scalars; start = well'.start; declared = well'.declared; named = well'.named; bodies = all_append (IsBody height with_it.scope) with_it.bodies (record { name = signature.name; function = core_function signature parameters x.0 x.1 }) well'.bodies typed_body; roomy = well'.roomy; bytes = well'.bytes; room = well'.room };
+              well = record {
+                closed = well'.closed;
+                few = well'.few;
+                scalars = well'.scalars;
+                start = well'.start;
+                declared = well'.declared;
+                named = well'.named;
+                bodies = all_append (IsBody height (scope_with body)) with_it.bodies (record { name = signature.name; function = core_function signature parameters x.0 x.1 })
+                    (bodies_later height with_it.scope (scope_with body) with_it.bodies well'.closed grows well'.bodies) typed_body;
+                roomy = well'.roomy;
+                bytes = well'.bytes;
+                room = well'.room;
+              };
               settled = it.follows.settled;
-              grows = it.follows.grows;
+              grows = file_further w.scope with_it.scope (scope_with body) it.follows.grows grows;
             };
-            main = main_known it.is_known;
+            main = λ main. main_later with_it.scope (scope_with body) grows (main_known it.is_known main);
           }
 
       -- all functions that are known have few parameters
@@ -495,8 +525,8 @@ module _ (height entry : ℕ) where
       parameters_keep [] g = refl
       parameters_keep (p ∷ ps) g = parameters_keep ps (with_local p.name p.type None g)
 
-      few_inside : (body : trees.Statements) → HaveFew (inside signature parameters body with_it.scope)
-      few_inside body = subst (AllByRecursion HasFew) (parameters_keep parameters (at_start signature parameters body with_it.scope)) have_few
+      few_inside : (body : i.Body) → HaveFew (inside signature parameters body.statements (scope_with body))
+      few_inside body = subst (AllByRecursion HasFew) (parameters_keep parameters (at_start signature parameters body.statements (scope_with body))) have_few
 
       abbrev IsPassedIf : Option i.Body → Walk → Type 0
       IsPassedIf body x = IsRuled known signature → first_changed_in with_it.scope signature parameters body ≡ None → IsPassed x
@@ -505,9 +535,9 @@ module _ (height entry : ℕ) where
       body_promises at None low = λ ruled none. let it = is_declared ruled in record { follows = it.follows; main = main_known it.is_known }
       body_promises at (Some body) low =
           let higher = around_higher body.span.from (statements_reach body.statements) in
-          let start = inside signature parameters body.statements with_it.scope in
+          let start = inside signature parameters body.statements (scope_with body) in
           passing_promises (λ (x : core.Statements × Scope). IsWalkedBody start x × (statements at start body.statements ≡ Passes x)) (IsPassedIf (Some body)) (statements at start body.statements) _
-          (both_promise (IsWalkedBody start) (λ (x : core.Statements × Scope). statements at start body.statements ≡ Passes x) (statements at start body.statements) (body_walked at start body.statements (few_inside body.statements) (omega arith)) (passed_is (statements at start body.statements)))
+          (both_promise (IsWalkedBody start) (λ (x : core.Statements × Scope). statements at start body.statements ≡ Passes x) (statements at start body.statements) (body_walked at start body.statements (few_inside body) (omega arith)) (passed_is (statements at start body.statements)))
           (λ x h. needs_promises (IsPassedIf (Some body)) (not (is_unchecked body.mark || with_it.scope.is_off)) E15 body.span _ (λ on ruled none. with_body at ruled body none x h.0 h.1))
 
       declaration_promises : (at : Places) (all : List Item) → (optional_body_reach d.body).height ≤ height
@@ -586,7 +616,7 @@ module _ (height entry : ℕ) where
     }
       where
         region_grows : (region : Region) → FileGrows w.scope (record w.scope { is_off = items.is_off region })
-        region_grows region = record { structs = λ k x h. h; variables = λ k x h. h; functions = λ name f h. h; numbers = λ side name f h. refl }
+        region_grows region = record { structs = λ k x h. h; variables = λ k x h. h; texts = λ k x h. h; counted = refl; functions = λ name f h. h; numbers = λ side name f h. refl }
     item_promises at all (i.StructureItem d) of_main built low = no_main (structure w d) (structure_promises height w d well settled)
     item_promises at all (i.GlobalItem d) of_main built low = no_main (global at w d) (global_promises height at w d well settled)
     item_promises at all (i.FunctionItem d) of_main built low = function_promises at all d of_main built (let last = beside_second (result_reach d.result beside parameters_reach d.parameters beside optional_bounds_reach d.bounds) (optional_body_reach d.body) in omega arith)

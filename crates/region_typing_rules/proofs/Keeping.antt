@@ -19,12 +19,13 @@ use Rattle.ckc_core.specs.Programs.{Import, Initial}
 use Rattle.ckc_core.specs.declared.program.Direction.{Direction}
 use Rattle.ckc_core.specs.declared.program.Direction.TheVariants as directions
 use Rattle.ckc_core.specs.declared.program.PointerBounds.{PointerBounds}
+use Rattle.ckc_core.specs.declared.program.Terminator.{Terminator}
 use Rattle.ckc_core.specs.Bounds.{Ends as EndsOf, ends_at, Pointed, with_ends, is_valid}
 use Rattle.ckc_core.specs.Core as core
 use Rattle.ckc_core.specs.States.{Value, Number, Null, At, Cell, Local, State, Grows, shapes, shape, in_world, cell_at, same_type, zero_of}
 use Rattle.ckc_core.specs.Steps.{variable_if, Result, given, checked, value_if, value_in, load_at, place_if, pointer_to, truth, same_place, test_given, result_of, arithmetic_of, compared, negated, complemented, is_zero, low_byte_of, asked, words_of, reply_as, passed, cross, cross_if, call_tainted, takes, enter_if, called, result_given, choose, back, place_at}
 use Rattle.ckc_core.specs.Meaning.{Knot, bounds_of, Setting, audit, cast_to, cast_if, cast_within, element, element_within, end_kept, length_of, number_of, place, storable, Target, reached, site_of, sound_if, summed, value, values}
-use Rattle.ckc_core.specs.Pointers.{cells_of_elements, element_cells, new_block, number_given, bytes_of_block, byte_read, checked_if, counted, counted_from, counted_if, distance, lies_in, lies_up_to, made_elements, read_as, are_within, cell_behind, reaches, pointer_if, pointer_at, ordered_if, ordered, not_null, counter_behind, element_size, made_if, allocated}
+use Rattle.ckc_core.specs.Pointers.{before_zero, is_terminated, cells_of_elements, element_cells, new_block, number_given, bytes_of_block, byte_read, checked_if, counted, counted_from, counted_if, distance, lies_in, lies_up_to, made_elements, read_as, are_within, cell_behind, reaches, pointer_if, pointer_at, ordered_if, ordered, not_null, counter_behind, element_size, made_if, allocated}
 use Rattle.ckc_text.specs.declared.code.Code.{Code}
 use Rattle.ckc_text.specs.declared.code.Code.TheVariants.{C2, C3, C5}
 use Rattle.std.proofs.lemmas.List.{map-append}
@@ -237,11 +238,13 @@ module _ (r : State) (s : State) (kept : IsLater r s) where
     λ h. zeros_made s.blocks (new_block terminated n element) (kept.1 h) (new_last terminated n element),
   )
 
-  pub allocated_keeps : (size : ℕ) (terminated : Bool) (element : List Initial) (z : ℤ) → Keeps r (allocated size terminated element z s)
-  allocated_keeps size terminated element (negsuc n) = kept
-  allocated_keeps size terminated element (pos zero) = kept
-  allocated_keeps size terminated element (pos (suc n)) =
-      made_keeps_if (is_refused size (counter_behind first_offset s.blocks) (made_elements terminated (suc n) * element_size element)) terminated (suc n) element
+  pub allocated_keeps : (size : ℕ) (terminator : Terminator) (element : List Initial) (z : ℤ) → Keeps r (allocated size terminator element z s)
+  allocated_keeps size terminator element (negsuc n) = kept
+  allocated_keeps size terminator element (pos zero) = kept
+  allocated_keeps size terminator element (pos (suc n)) =
+      let ended = is_terminated terminator in
+      let count = before_zero terminator (suc n) in
+      made_keeps_if (is_refused size (counter_behind first_offset s.blocks) (made_elements ended count * element_size element)) ended count element
 
   pub cast_keeps_if : (test : Bool) (site : Site) (v : Value) (old new : EndsOf) → Keeps r (cast_if test site v old new s)
   cast_keeps_if true site v old new = checked_keeps_if (are_within old new) C5 site (Gives v s) kept
@@ -442,11 +445,11 @@ module _ (audited : Bool) (g : Setting) (k : Knot) (calls : CallsKeep k) where
           (λ b u u_kept. keeps_on r (not_null site a u) _ (not_null_keeps r u u_kept site a)
           (λ _ w w_kept. keeps_on r (not_null site b w) _ (not_null_keeps r w w_kept site b)
           (λ _ x x_kept. ordered_keeps r x x_kept comparison (Some site) a b))))
-      value_keeps (core.Allocate count element terminated bounds) s kept =
+      value_keeps (core.Allocate count element terminator bounds) s kept =
           keeps_on r _ (audit audited bounds)
-          (keeps_on r (and_then (value audited g k count s) (number_given None)) (allocated g.trusted terminated element)
+          (keeps_on r (and_then (value audited g k count s) (number_given None)) (allocated g.trusted terminator element)
           (keeps_on r (value audited g k count s) (number_given None) (value_keeps count s kept) (λ v t t_kept. number_keeps r t t_kept None v))
-          (λ z t t_kept. allocated_keeps r t t_kept g.trusted terminated element z))
+          (λ z t t_kept. allocated_keeps r t t_kept g.trusted terminator element z))
           (λ v t t_kept. audit_keeps r t t_kept audited bounds v)
       value_keeps (core.Length pointer site) s kept =
           keeps_on r (value audited g k pointer s) _ (value_keeps pointer s kept)

@@ -15,7 +15,7 @@ use Rattle.region_typing_rules.specs.Scopes.{Scope, Signature, WrittenBounds, fu
 use Rattle.region_typing_rules.specs.Expressions.{Places, is_tainted}
 use Rattle.region_typing_rules.specs.Statements.{is_unchecked, length_of, array_kind, is_ended_array, array_element}
 use Rattle.region_typing_rules.specs.Types.{may_lead_to, base_type, without_stars}
-use Rattle.region_typing_rules.specs.Items.{Defined, Parameter, Walk, Walked, WalkedVariable, in_checked_region, is_struct, member_types, member_names, with_struct, scalar_members, structure, initializer, object_cells, variables, with_variable, object_bounds, variable_of, room_for, room_for_first, with_objects, global, listed, parameter_types, bounds_of_result, first_changed_in, result_type, with_function, function_body, agrees, all_scalar, scalar_result, is_defined, function_rules, signature_of, function}
+use Rattle.region_typing_rules.specs.Items.{variable_scope, Defined, Parameter, Walk, Walked, WalkedVariable, in_checked_region, is_struct, member_types, member_names, with_struct, scalar_members, structure, initializer, object_cells, variables, object_bounds, variable_of, room_for, room_for_first, with_objects, global, listed, parameter_types, bounds_of_result, first_changed_in, result_type, with_function, function_body, agrees, all_scalar, scalar_result, is_defined, function_rules, signature_of, function}
 use Rattle.region_typing_rules.proofs.Verdicts.{Promises, passing_promises, needs_promises}
 
 -- whatever is passed on
@@ -53,13 +53,13 @@ module _ (P : List Signature → List Defined → Type 0) where
   KeepsFirst x = Keeps x.0
 
   abbrev with_one : Walk → Declarator → ℕ → CType → WrittenBounds → Walk
-  with_one w d taken t bounds = record w { scope = with_variable d.name.number t (length_of d) (is_ended_array d) bounds w.scope; taken = taken }
+  with_one w d taken t bounds = record w { scope = variable_scope taken d t bounds w.scope; taken = taken }
 
   abbrev behind_initial : Places → Walk → TypeTree → CType → Span → Declarator → List Declarator → List WalkedVariable → ℕ → CType → WrittenBounds → Walked → Verdict (Walk × List WalkedVariable)
   behind_initial at w base type span d ds done taken t bounds initial = variables at (with_one w d taken t bounds) base type span ds (done ++ record { type = t; length = length_of d; ended = is_ended_array d; bounds = bounds; initial = initial } ∷ [])
 
   abbrev behind_declared : Places → Walk → TypeTree → CType → Span → Declarator → List Declarator → List WalkedVariable → ℕ → CType → WrittenBounds → Verdict (Walk × List WalkedVariable)
-  behind_declared at w base type span d ds done taken t bounds = passing (initializer at (with_variable d.name.number t (length_of d) (is_ended_array d) bounds w.scope) d.initializer) (behind_initial at w base type span d ds done taken t bounds)
+  behind_declared at w base type span d ds done taken t bounds = passing (initializer at (variable_scope taken d t bounds w.scope) d.initializer) (behind_initial at w base type span d ds done taken t bounds)
 
   abbrev behind_type : Places → Walk → TypeTree → CType → Span → Declarator → List Declarator → List WalkedVariable → ℕ → CType → Verdict (Walk × List WalkedVariable)
   behind_type at w base type span d ds done taken t = array_element (is_ended_array d) t base (passing (object_bounds w.scope d t) (behind_declared at w base type span d ds done taken t))
@@ -74,7 +74,7 @@ module _ (P : List Signature → List Defined → Type 0) where
       passing_any KeepsFirst (without_stars base d.stars type) (behind_type at w base type span d ds done taken) (λ t.
       needs_promises KeepsFirst (may_lead_to (array_kind (is_ended_array d)) t) E13 (type_span base) (passing (object_bounds w.scope d t) (behind_declared at w base type span d ds done taken t)) (λ ends.
       passing_any KeepsFirst (object_bounds w.scope d t) (behind_declared at w base type span d ds done taken t) (λ bounds.
-      passing_any KeepsFirst (initializer at (with_variable d.name.number t (length_of d) (is_ended_array d) bounds w.scope) d.initializer) (behind_initial at w base type span d ds done taken t bounds) (λ initial.
+      passing_any KeepsFirst (initializer at (variable_scope taken d t bounds w.scope) d.initializer) (behind_initial at w base type span d ds done taken t bounds) (λ initial.
       variables_kept at (with_one w d taken t bounds) base type span ds (done ++ record { type = t; length = length_of d; ended = is_ended_array d; bounds = bounds; initial = initial } ∷ []) h)))))
 
   abbrev behind_cells : Walk → Span → (ended : Bool) → WrittenBounds → List WalkedVariable → List Initial → Verdict Walk

@@ -17,6 +17,8 @@ use Rattle.ckc_core.specs.States.{shape, object_block}
 use Rattle.region_typing_rules.specs.Verdicts.{Verdict, meant, picked}
 use Rattle.region_typing_rules.specs.Scopes.{Scope, Signature, WrittenBounds, FileVariable, Visible, Named, Local, Object, Array, Nothing, local_if, found_if, local_named, object_of, object_named, or_else, null_named, named, function_named, bounds_in}
 use Rattle.region_typing_rules.specs.Types.{Counts, is_number}
+use Rattle.ckc_tree_texts.specs.Texts.{Text}
+use Rattle.region_typing_rules.specs.Strings.{Strings, text_object}
 use Rattle.region_typing_rules.specs.Expressions.{Typed, is_checked_argument, without_checked, crossing, is_import, side_number, member_from, offset_among}
 use Rattle.bounds_flow_meaning.specs.Holding.{AreInts}
 use Rattle.bounds_flow_meaning.specs.Rows.{slots_from, slots, HasRow}
@@ -78,7 +80,7 @@ pub record IsArray (g : Frame) (type : CType) (length number : ℕ) : Type 0 whe
 pub record IsEndedArray (g : Frame) (type : CType) (length number : ℕ) : Type 0 where
   pub variable : Variable
   pub found : slice_get g.program.objects number ≡ Some variable
-  pub few : length - 1 ≤ 8191
+  pub few : length - 1 ≤ 32768
   pub row : IsEndedRow g.structs (shape (object_block variable)) type (length - 1)
 
 abbrev pub IsArrayIf : Frame → CType → (length : ℕ) → (ended : Bool) → (number : ℕ) → Type 0
@@ -95,13 +97,18 @@ abbrev pub IsVariable : Frame → FileVariable → Option ℕ → (number : ℕ)
 IsVariable g v None number = IsSingle g v.type v.bounds number
 IsVariable g v (Some length) number = IsArrayIf g v.type length v.ended number
 
--- the structs, the variables and the functions that are known are those of the program
+-- the strings have blocks of the program, behind those of its variables
+abbrev pub HoldsTexts : Frame → Strings → Type 0
+HoldsTexts g s = (k : ℕ) (t : Text) → slice_get s.texts k ≡ Some t → slice_get g.program.objects (s.variables + k) ≡ Some (text_object t)
+
+-- the structs, the variables, the strings and the functions that are known are those of the program
 pub record KnowsFile (g : Frame) (s : Scope) : Type 0 where
   pub structs : Extends s.structs g.structs
   pub closed : IsClosed s
   pub few_members : (n : ℕ) → length (members_of s.structs n) ≤ 64
   pub scalar_members : (n : ℕ) → AllByRecursion (λ m. IsScalar m.ctype) (members_of s.structs n)
   pub variables : (k : ℕ) (v : FileVariable) → slice_get s.variables k ≡ Some v → IsVariable g v v.length k
+  pub texts : HoldsTexts g s.strings
   pub trusted : (name : ℕ) (f : Signature) → function_named s.functions name ≡ Some f → is_import f ≡ false → IsTrusted g (side_number false s.functions f.name 0) f
   pub tainted : (name : ℕ) (f : Signature) → function_named s.functions name ≡ Some f → is_import f ≡ true → IsTainted g (side_number true s.functions f.name 0) f
 

@@ -26,14 +26,16 @@ use Rattle.ckc_names_rules.specs.declared.given.Given.{Given}
 use Rattle.region_typing_rules.specs.Verdicts.{Verdict, Passes, Stops, passing, meant, picked}
 use Rattle.region_typing_rules.specs.Scopes.{Scope, Signature, WrittenBounds, FileVariable, Visible, Named, Local, Object, Array, Nothing, local_if, found_if, local_named, object_of, object_named, or_else, null_named, named, function_named, members_named}
 use Rattle.region_typing_rules.specs.Types.{type_named, is_number, may_lead_to, is_pointer, are_comparable}
-use Rattle.region_typing_rules.specs.Expressions.{Places, OfLocal, OfCell, OfBounded, OfUnknown, ForNothing, ForArray, For, Typed, Value, AStruct, Called, Gives, GivesNothing, site_at, bounded, in_cell, with_cell_bounds, number, at_place, local_typed, name_typed, pointer_typed, unknown_typed, object_typed, member_from, member_at, dotted, with_elements, first_element, first_or_end, pointed_by, arrowed, pointed_at, dereferenced, address, number_of, scalar_of, unary_typed, is_single_value, lacks_bounds, two_numbers, two_scalars, operator_along, summed, sum_typed, equated, zero_test, are_related, ordered, binary_typed, beside, element_at, indexed, arguments_as, is_import, call_of, declared_callee, writes, is_text, length_typed, measures, predefined_call, called, with_result, typed, all_typed, cast_typed, cast_bounds, is_array}
+use Rattle.region_typing_rules.specs.Expressions.{Places, OfLocal, OfCell, OfBounded, OfUnknown, ForNothing, ForArray, For, Typed, Value, AStruct, Called, Gives, GivesNothing, site_at, bounded, in_cell, with_cell_bounds, number, at_place, local_typed, name_typed, pointer_typed, unknown_typed, object_typed, member_from, member_at, dotted, with_elements, first_element, first_or_end, pointed_by, arrowed, pointed_at, dereferenced, address, number_of, scalar_of, unary_typed, is_single_value, lacks_bounds, two_numbers, two_scalars, operator_along, summed, sum_typed, equated, zero_test, are_related, ordered, binary_typed, beside, element_at, indexed, arguments_as, is_import, call_of, declared_callee, writes, is_text, length_typed, text_pointer, measures, predefined_call, called, with_result, typed, all_typed, cast_typed, cast_bounds, is_array}
 use Rattle.region_typing_rules.specs.Statements.{array_kind}
-use Rattle.region_typing_rules.proofs.Verdicts.{Promises, passing_promises, needs_promises, anything_promised, all_met_promise}
+use Rattle.region_typing_rules.proofs.Verdicts.{Promises, passing_promises, needs_promises, convertible_promises, anything_promised, all_met_promise}
 use Rattle.region_typing_rules.proofs.Known.{IsKnown, IsKnownResult, IsKnownVariable, IsClosed, type_known}
 use Rattle.region_typing_rules.proofs.Knowledge.{crossing_promises}
 use Rattle.region_typing_rules.proofs.Signatures.{named_has}
 use Rattle.region_typing_rules.proofs.Kept.{passing_any}
 use Rattle.region_typing_rules.proofs.Memory.{may_lead, of_any, malloc_promises, calloc_promises, cast_promises}
+use Rattle.region_typing_rules.proofs.TextBlocks.{any_text}
+use Rattle.region_typing_rules.specs.Strings.{text_at}
 
 abbrev pub IsKnownTyped : List Structure → Typed → Type 0
 IsKnownTyped structs (Value type zero value place) = IsKnown structs type
@@ -265,7 +267,7 @@ module _ (structs : List Structure) where
   measures_known : (arguments : List (Typed × Span)) (site : Site) (span : Span) → Promises (IsKnownCall structs) (measures arguments site span)
   measures_known [] site span = tt
   measures_known (argument ∷ arguments) site span =
-      needs_promises (IsKnownCall structs) (length (argument ∷ arguments) == 1) E14 span (length_typed argument.0 site span) (λ one. length_known argument.0 site span)
+      needs_promises (IsKnownCall structs) (length (argument ∷ arguments) == 1) E14 span _ (λ one. convertible_promises (IsKnownCall structs) argument.0 text_pointer argument.1 (length_typed argument.0 site span) (length_known argument.0 site span))
 
   predefined_known : (given : Given) (name : ℕ) (arguments : List (Typed × Span)) (site : Site) (span : Span) → Promises (IsKnownCall structs) (predefined_call given name arguments site span)
   predefined_known given name arguments site span = by (name == given.next_input) (name == given.print_int) (name == given.putchar) (name == given.strlen) refl refl refl refl
@@ -356,7 +358,7 @@ module _ (s : Scope) (closed : IsClosed s) where
   pub typed_known : (at : Places) (x : Expression) → Promises (IsKnownTyped s.structs) (typed at s x)
   typed_known at (e.Number value span) = needs_promises (IsKnownTyped s.structs) (nat_lt value (2 ^ 31)) E04 span _ (λ low. tt)
   typed_known at (e.Character value span) = needs_promises (IsKnownTyped s.structs) (nat_lt value (2 ^ 31)) E04 span _ (λ low. tt)
-  typed_known at (e.Text bytes span) = tt
+  typed_known at (e.Text bytes span) = any_text (IsKnownTyped s.structs) s.structs (text_at s.strings span.from) (site_at at span) span (λ t. (refl, tt))
   typed_known at (e.Name name) =
       bounded_known s (site_at at name.span) (passing (named s name.number) (λ n. Passes (name_typed s n (site_at at name.span))))
       (passing_promises (IsKnownNamed s.structs) (IsKnownTyped s.structs) (named s name.number) _ (named_known name.number) (name_known s.structs s (site_at at name.span)))

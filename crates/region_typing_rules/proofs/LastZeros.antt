@@ -142,7 +142,7 @@ pub record IsNewRow (structs : List Structure) (kind : Kind) (t : CType) (elemen
   pub cells : AreCellsBehind structs (Pointer modes.Checked kind t) element
   pub initials : AllByRecursion (IsInitial structs) element
   pub typed : (blocks : List Block) (count : ℕ)
-      → HasValue structs (shapes (blocks ++ new_row (is_ended (Pointer modes.Checked kind t)) (suc count) element ∷ [])) (Pointer modes.Checked kind t) (At (length blocks) 0)
+      → HasValue structs (shapes (blocks ++ new_row (is_ended (Pointer modes.Checked kind t)) count element ∷ [])) (Pointer modes.Checked kind t) (At (length blocks) 0)
   pub last : (count : ℕ) → LastIsZero (new_row (is_ended (Pointer modes.Checked kind t)) count element)
   pub short : (count : ℕ) → count < 2 ^ 31 → (shape (new_row (is_ended (Pointer modes.Checked kind t)) count element)).zero_ended ≡ true
       → length (shape (new_row (is_ended (Pointer modes.Checked kind t)) count element)).types ≤ 2 ^ 31
@@ -188,20 +188,20 @@ module _ (structs : List Structure) (t : CType) (number : is_number t ≡ true) 
     short = λ count few ended. (let many = row_long count in omega (arith, many, few));
   }
     where
-      row_shape : (count : ℕ) → IsEndedRow structs (shape (new_row true (suc count) one)) t (suc count)
-      row_shape count = record { number = number; ended = refl; unsealed = refl; types = one_types structs t n some (suc (suc count)); strides = one_strides structs t n some (suc (suc count)); some = some }
+      row_shape : (count : ℕ) → IsEndedRow structs (shape (new_row true count one)) t count
+      row_shape count = record { number = number; ended = refl; unsealed = refl; types = one_types structs t n some (suc count); strides = one_strides structs t n some (suc count); some = some }
 
       row_long : (count : ℕ) → length (shape (new_row true count one)).types ≡ suc count
       row_long count = ap length (one_types structs t n some (suc count)) ∙ length-replicate (suc count) t
 
-      there : (blocks : List Block) (count : ℕ) → IsEndedPlace structs (shapes (blocks ++ new_row true (suc count) one ∷ [])) t (length blocks) 0 false
+      there : (blocks : List Block) (count : ℕ) → IsEndedPlace structs (shapes (blocks ++ new_row true count one ∷ [])) t (length blocks) 0 false
       there blocks count =
-          let x = shape (new_row true (suc count) one) in
-          let found : slice_get (shapes (blocks ++ new_row true (suc count) one ∷ [])) (length blocks) ≡ Some x =
-          ap (λ l. slice_get l (length blocks)) (map-append shape blocks (new_row true (suc count) one ∷ []))
+          let x = shape (new_row true count one) in
+          let found : slice_get (shapes (blocks ++ new_row true count one ∷ [])) (length blocks) ≡ Some x =
+          ap (λ l. slice_get l (length blocks)) (map-append shape blocks (new_row true count one ∷ []))
           ∙ (ap (λ k. slice_get (shapes blocks ++ x ∷ []) k) (sym (length-map blocks shape)) ∙ last_there (shapes blocks) x) in
           let row = row_shape count in
-          record { shape = x; found = found; ended = refl; unsealed = refl; cells = suc (suc count); types = row.types; strides = row.strides; some = some; number = 0; is = omega arith; below = omega arith; before_zero = λ inner. absurd (cc) }
+          record { shape = x; found = found; ended = refl; unsealed = refl; cells = suc count; types = row.types; strides = row.strides; some = some; number = 0; is = omega arith; below = omega arith; before_zero = λ inner. absurd (cc) }
 
 pub ended_row_new : (structs : List Structure) (t : CType) (element : List Initial) → IsNewNumber structs t element → IsNewRow structs kinds.Nt t element
 ended_row_new structs t element h =

@@ -345,7 +345,7 @@ module _ (given : Given) (at : Places) (s : Scope) where
   negated_promises : (x : Expression) → Promises (λ (t : Typed). ConstantFits (negated_of (unsigned_constant given x))) (typed at s x)
   negated_promises (e.Number value span) = needs_promises (λ (t : Typed). is_word_number (negative value) ≡ true) (nat_lt value (2 ^ 31)) E04 span _ (λ low. negative_fits value low)
   negated_promises (e.Character value span) = needs_promises (λ (t : Typed). is_word_number (negative value) ≡ true) (nat_lt value (2 ^ 31)) E04 span _ (λ low. negative_fits value low)
-  negated_promises (e.Text bytes span) = tt
+  negated_promises (e.Text bytes span) = anything_promised (typed at s (e.Text bytes span))
   negated_promises (e.Name name) = always_promised (typed at s (e.Name name)) (negated_null (name.number == given.null))
   negated_promises (e.Call callee arguments span) = anything_promised (typed at s (e.Call callee arguments span))
   negated_promises (e.SizeOf type span) = anything_promised (typed at s (e.SizeOf type span))
@@ -362,7 +362,7 @@ module _ (given : Given) (at : Places) (s : Scope) where
   pub constant_promises : (x : Expression) → Promises (λ (t : Typed). ConstantFits (signed_constant given x)) (typed at s x)
   constant_promises (e.Number value span) = number_fits value (value == 0) span
   constant_promises (e.Character value span) = number_fits value false span
-  constant_promises (e.Text bytes span) = tt
+  constant_promises (e.Text bytes span) = anything_promised (typed at s (e.Text bytes span))
   constant_promises (e.Name name) = always_promised (typed at s (e.Name name)) (positive_null (name.number == given.null))
   constant_promises (e.Call callee arguments span) = anything_promised (typed at s (e.Call callee arguments span))
   constant_promises (e.SizeOf type span) = anything_promised (typed at s (e.SizeOf type span))

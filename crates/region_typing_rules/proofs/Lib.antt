@@ -1,4 +1,5 @@
 pub mod Worlds
+pub mod TextBlocks
 pub mod Values
 pub mod BoundedObjects
 pub mod Validity
@@ -40,6 +41,7 @@ pub mod Signatures
 pub mod Walks
 pub mod Objects
 pub mod Items
+pub mod Counted
 pub mod Typing
 pub mod Stacks
 pub mod StatementStacks

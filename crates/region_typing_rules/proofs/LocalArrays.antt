@@ -7,9 +7,13 @@ use Rattle.ckc_text.specs.declared.place.Span.{Span}
 use Rattle.ckc_tree.specs.Types.{TypeTree, type_span}
 use Rattle.ckc_tree.specs.Statements.{Declarator}
 use Rattle.bounds_exprs.specs.declared.term.Bounds.{Bounds}
+use Rattle.bounds_exprs.specs.declared.term.Term.{Term}
+use Rattle.bounds_exprs.specs.Normal.{constant}
 use Rattle.pointer_modes.specs.Types.{CType}
 use Rattle.pointer_modes.specs.Layout.{size_of}
 use Rattle.ckc_core.specs.declared.program.Site.{Site}
+use Rattle.ckc_core.specs.declared.program.Terminator.{Terminator}
+use Rattle.ckc_core.specs.declared.program.Terminator.TheVariants as terminators
 use Rattle.ckc_core.specs.Core as core
 use Rattle.region_typing_rules.specs.Verdicts.{Verdict, Passes, passing, needs}
 use Rattle.region_typing_rules.specs.Scopes.{Scope}
@@ -23,11 +27,20 @@ use Rattle.region_typing_rules.specs.Statements.{Walked, both, with_local, bound
 use Rattle.region_typing_rules.proofs.Verdicts.{Promises, passing_promises, needs_promises, anything_promised}
 use Rattle.region_typing_rules.proofs.Memory.{MayConsist}
 
--- new memory for an array of so many elements, of which the last one may be the zero that ends it, in the scope
+-- the last one of an array's elements may be the zero that ends it
+abbrev last_if : (ended : Bool) → Terminator
+last_if false = terminators.Absent
+last_if true = terminators.Last
+
+-- the term of how many stand before it
+abbrev before_in : Scope → (ended : Bool) → ℕ → Option Term
+before_in g false count = term g.locals (core.Number (pos count))
+before_in g true count = Some (constant (pos (before_end true count)))
+
+-- new memory for an array of so many elements in the scope
 abbrev pub memory_of : Scope → (ended : Bool) → CType → ℕ → Site → core.Expression
 memory_of g ended t count site =
-    let number = core.Number (pos (before_end ended count)) in
-    core.Allocate number (cells_with g.structs t (pos 0)) ended (row_counted g.structs t ended (term g.locals number) site)
+    core.Allocate (core.Number (pos count)) (cells_with g.structs t (pos 0)) (last_if ended) (row_counted g.structs t ended (before_in g ended count) site)
 
 -- what is left of its declaration once it has a value
 abbrev pub settled_array : Scope → ℕ → core.Expression → Span → Verdict Walked

@@ -18,6 +18,8 @@ use Rattle.pointer_modes.specs.Layout.{size_of}
 use Rattle.act_words.specs.declared.operator.Operator.TheVariants as operators
 use Rattle.act_words.specs.declared.operator.ArithmeticOperator.TheVariants as arithmetics
 use Rattle.ckc_core.specs.declared.program.Site.{Site}
+use Rattle.ckc_core.specs.declared.program.Terminator.{Terminator}
+use Rattle.ckc_core.specs.declared.program.Terminator.TheVariants as terminators
 use Rattle.ckc_core.specs.Core as core
 use Rattle.ckc_core.specs.Meaning.{bounds_of}
 use Rattle.ckc_core.specs.Steps.{is_char}
@@ -92,10 +94,15 @@ pub may_lead : (structs : List Structure) (t : CType) (ended : Bool) → MayCons
 may_lead structs t false h = refl
 may_lead structs t true h = h
 
+-- a zero stands behind them, or none
+abbrev behind_if : (ended : Bool) → Terminator
+behind_if false = terminators.Absent
+behind_if true = terminators.Behind
+
 -- new memory of so many of them
 abbrev pub new_memory : Scope → (ended : Bool) → CType → core.Expression → Site → Typed
 new_memory s ended t count site =
-    Value (row_type ended t) false (core.Allocate count (cells_with s.structs t (pos 0)) ended (row_counted s.structs t ended (term s.locals count) site)) ForNothing
+    Value (row_type ended t) false (core.Allocate count (cells_with s.structs t (pos 0)) (behind_if ended) (row_counted s.structs t ended (term s.locals count) site)) ForNothing
 
 module _ (Q : Typed → Type 0) (s : Scope) (t : CType) (site : Site) (span : Span) where
   if_promises : (o : Option core.Expression) (size : core.Expression) → IfCount size o → ((count : core.Expression) → IsCount size count → MayConsist s.structs false t → Q (new_memory s false t count site)) → Promises Q (allocation_if s t o site span)

@@ -19,8 +19,9 @@ use Rattle.region_typing_rules.specs.Verdicts.{Verdict, Passes, passing}
 use Rattle.region_typing_rules.specs.Scopes.{Scope, Signature, named, function_named}
 use Rattle.region_typing_rules.specs.Types.{type_named}
 use Rattle.region_typing_rules.specs.Expressions.{Places, Typed, beside, site_at, bounded, in_cell, name_typed, dotted, arrowed, unary_typed, indexed, predefined_call, called, typed, all_typed, call_typed, cast_bounds}
+use Rattle.region_typing_rules.specs.Strings.{text_at}
 use Rattle.region_typing_rules.proofs.RightOperands.{in_right}
-use Rattle.region_typing_rules.proofs.NamedVerdicts.{AllNamed, Any, then_named, needs_named, dotted_named, arrowed_named, unary_named, binary_named, indexed_named, declared_named, writes_named, measures_named, result_named, malloc_named, calloc_named, cast_named}
+use Rattle.region_typing_rules.proofs.NamedVerdicts.{AllNamed, Any, text_named, then_named, needs_named, dotted_named, arrowed_named, unary_named, binary_named, indexed_named, declared_named, writes_named, measures_named, result_named, malloc_named, calloc_named, cast_named}
 use Rattle.region_typing_rules.proofs.NamedMentions.{AreFound, found_append}
 use Rattle.region_typing_rules.proofs.NamedScopes.{number_equal, Agrees, among_any, call_function, name_meant, found_tags, flow_agrees, type_named_named}
 use Rattle.region_typing_rules.specs.DeclaredBounds.{declared_bounds}
@@ -86,7 +87,7 @@ module _ (of : Numbers) (at : Places) (n : Scopes) where
     pub typed_named : (g : Scope) (agrees : Agrees of n g) (x : Expression) → built_expression x ≡ true → AreFound n (expression_mentions x) → AllNamed (typed at g (number_expression of x))
     typed_named g agrees (e.Number value span) built found = needs_named Any (nat_lt value (2 ^ 31)) E04 span _ tt
     typed_named g agrees (e.Character value span) built found = needs_named Any (nat_lt value (2 ^ 31)) E04 span _ tt
-    typed_named g agrees (e.Text bytes span) built found = tt
+    typed_named g agrees (e.Text bytes span) built found = text_named g.structs (text_at g.strings span.from) (site_at at span) span
     typed_named g agrees (e.Name name) built found = bounded_named g (site_at at name.span) (passing (named g (of name.name)) (λ x. Passes (name_typed g x (site_at at name.span)))) (then_named Any (named g (of name.name)) _ (name_meant of n g agrees name found.0) (λ x. tt))
     typed_named g agrees (e.Call callee arguments span) built found =
         then_named Any (all_typed at g (number_expressions of arguments)) _ (all_named g agrees arguments built found.1)

@@ -37,7 +37,10 @@ use Rattle.bounds_flow.specs.Flows.{at_entry}
 use Rattle.region_typing_rules.specs.Statements.{is_unchecked, statements, length_of, array_kind, is_ended_array, before_end}
 use Rattle.ckc_tree.specs.declared.stmt.SignedConstant.{SignedConstant}
 use Rattle.region_typing_rules.specs.Knowing.{knowing}
-use Rattle.region_typing_rules.specs.Items.{Walk, Parameter, is_struct, member_types, scalar_members, with_struct, member_names, structure, signed_constant, Walked, Missing, Written, Constants, unsigned_number, small_constants, initializer, are_zeros, is_zero, number_or_break, cells_or_break, listed_cells, object_cells, with_own, bounded_type, object_bounds, variable_of, with_variable, count_of, written_size, few_bytes, room_for, WalkedVariable, variables, room_for_first, with_objects, global, listed, parameter_types, among_parameters, type_of_result, bounds_of_result, first_changed_in, result_type, agrees, all_scalar, scalar_result, with_function, variables_in, with_bounds, before_bounds, inside, function_body, is_defined, function_rules, signature_of, function, is_off, item, items, start, walked}
+use Rattle.ckc_tree_texts.specs.Texts.{Text, body_texts}
+use Rattle.region_typing_rules.proofs.TextBlocks.{inside_beside}
+use Rattle.region_typing_rules.specs.Strings.{texts_size}
+use Rattle.region_typing_rules.specs.Items.{with_texts, variable_scope, variables_declared, Walk, Parameter, is_struct, member_types, scalar_members, with_struct, member_names, structure, signed_constant, Walked, Missing, Written, Constants, unsigned_number, small_constants, initializer, are_zeros, is_zero, number_or_break, cells_or_break, listed_cells, object_cells, with_own, bounded_type, object_bounds, variable_of, with_variable, count_of, written_size, few_bytes, room_for, WalkedVariable, variables, room_for_first, with_objects, global, listed, parameter_types, among_parameters, type_of_result, bounds_of_result, first_changed_in, result_type, agrees, all_scalar, scalar_result, with_function, variables_in, with_bounds, before_bounds, inside, function_body, is_defined, function_rules, signature_of, function, is_off, item, items, start, walked}
 use Rattle.region_typing_rules.specs.Cores.{checked}
 use Rattle.region_typing_rules.specs.DeclaredBounds.{declared_bounds}
 use Rattle.region_typing_rules.proofs.NamedBounds.{bounds_named}
@@ -84,6 +87,13 @@ function_last (g ∷ fs) f x h = by (x == g.name) refl (function_last fs f x h)
     by : (b : Bool) → (x == g.name) ≡ b → is_some (function_named (fs ++ f ∷ []) x) ≡ true → is_some (function_named (g ∷ (fs ++ f ∷ [])) x) ≡ true
     by true e again = rw e refl
     by false e again = rw e again
+
+-- strings have no names
+texts_agree : (of : Numbers) (n : Scopes) (taken : ℕ) (texts : List Text) (g : Scope) → AgreesFile of n g → AgreesFile of n (with_texts taken texts g)
+texts_agree of n taken texts g h = record { value = h.value; function = h.function; tag = h.tag; given = h.given }
+
+texts_agree_inside : (of : Numbers) (n : Scopes) (taken : ℕ) (texts : List Text) (g : Scope) → Agrees of n g → Agrees of n (with_texts taken texts g)
+texts_agree_inside of n taken texts g h = record { value = h.value; function = h.function; tag = h.tag; given = h.given }
 
 variable_agrees : (of : Numbers) (name : Identifier) (t : CType) (length : Option ℕ) (ended : Bool) (bounds : WrittenBounds) (n : Scopes) (g : Scope) → AgreesFile of n g → AgreesFile of (standing_for name Variable n) (with_variable (of name.name) t length ended bounds g)
 variable_agrees of name t length ended bounds n g h = record {
@@ -174,14 +184,14 @@ size_named of tags g knows (StructType tag span) zero h = then_named Any (meant 
 size_named of tags g knows (PointerType word element starred span) zero h = tt
 size_named of tags g knows base (suc stars) h = tt
 
-bytes_named : (taken : ℕ) (span : Span) → AllNamed (few_bytes taken span)
-bytes_named taken span = needs_named Any (nat_le taken 32768) E08 span (Passes taken) tt
+bytes_named : (g : Scope) (taken : ℕ) (span : Span) → AllNamed (few_bytes g taken span)
+bytes_named g taken span = needs_named Any (nat_le (taken + texts_size g.strings.texts) 32768) E08 span (Passes taken) tt
 
 room_named : (of : Numbers) (n : Scopes) (w : Walk) (base : TypeTree) (span : Span) (d : Declarator) → File of n w → HasTags n.tags base → AllNamed (room_for w (number_type of base) span (number_declarator of d))
 room_named of n w base span d agrees h =
     needs_named Any (nat_lt (length w.scope.variables) 4096) E08 span _
     (then_named Any (written_size w.scope (number_type of base) d.stars) _ (size_named of n.tags w.scope agrees.tag base d.stars h) (λ size. needs_named Any (is_length (length_of (number_declarator of d))) E08 span _
-    (bytes_named (w.taken + (rounded_up (count_of (length_of (number_declarator of d)) * size) + 16)) span)))
+    (bytes_named w.scope (w.taken + (rounded_up (count_of (length_of (number_declarator of d)) * size) + 16)) span)))
 
 first_room_named : (of : Numbers) (n : Scopes) (w : Walk) (g : i.Global) (ds : List Declarator) → File of n w → HasTags n.tags g.base → AllNamed (room_for_first w (number_global of g) (map (number_declarator of) ds))
 first_room_named of n w g [] agrees h = tt
@@ -247,8 +257,8 @@ variables_named of at (d ∷ ds) n m w base type span done agrees tags built h =
     (then_named Q (object_bounds w.scope (number_declarator of d) t) _
     (then_named Any (declared_bounds (with_own (of d.name.name) t w.scope) (bounded_type (length_of d) t) 0 (option_map (number_bounds of) d.bounds)) _
     (bounds_named of inner (with_own (of d.name.name) t w.scope) (variable_agrees of d.name t (length_of d) ended None n w.scope agrees).tag (bounded_type (length_of d) t) 0 d.bounds behind.0) (λ b. tt))
-    (λ declared. (let now = variable_agrees of d.name t (length_of d) ended declared n w.scope agrees in
-    let inside = with_variable (of d.name.name) t (length_of d) ended declared w.scope in
+    (λ declared. (let now = texts_agree of inner taken _ _ (variable_agrees of d.name t (length_of d) ended declared n w.scope agrees) in
+    let inside = variable_scope taken (number_declarator of d) t declared w.scope in
     then_named Q (initializer at inside (option_map (number_initializer of) d.initializer)) _ (initializer_named of at inner inside (file_agrees of inner _ now) d.initializer form last.0)
     (λ x. variables_named of at ds split.0 m (record w { scope = inside; taken = taken }) base type span _
     (subst (λ k. AgreesFile of k inside) (sym last.1) now) (subst (λ k. HasTags k.tags base) (sym last.1) tags) parts.1 split.2))))))
@@ -316,14 +326,20 @@ parameters_keep i.Nothing = nothing_keeps
 parameters_keep i.VoidAlone = nothing_keeps
 parameters_keep (i.Listed members) = listed_keeps members
 
+-- a walk behind a scope agrees with whatever that agrees with
+abbrev AgreesAs : Numbers → Scope → Walk → Type 0
+AgreesAs of g v = (n : Scopes) → AgreesFile of n g → AgreesFile of n v.scope
+
 body_named : (of : Numbers) (at : Places) (w : Walk) (f : Signature) (ps : List Parameter) (o : Option Body) (k l : Scopes) → ((body : Statements) → Agrees of k (inside f ps body w.scope)) → optional built_body o ≡ true → all_mentioned (optional_mentions of_body o) k ≡ Ok l
-    → IsNamed (λ (v : Walk). v.scope ≡ w.scope) (function_body at w f ps (option_map (number_body of) o))
-body_named of at w f ps None k l agrees built h = refl
+    → IsNamed (AgreesAs of w.scope) (function_body at w f ps (option_map (number_body of) o))
+body_named of at w f ps None k l agrees built h = λ n same. same
 body_named of at w f ps (Some body) k l agrees built h =
-    let start = inside f ps (number_statements of body.statements) w.scope in
-    passing_named (Behind {A = core.Statements} of l start) (λ (v : Walk). v.scope ≡ w.scope) (statements at start (number_statements of body.statements)) _
-    (statements_named of at body.statements k l start (agrees (number_statements of body.statements)) built h)
-    (λ x _. needs_named (λ (v : Walk). v.scope ≡ w.scope) (not (is_unchecked body.mark || w.scope.is_off)) E15 body.span _ refl)
+    let xs = number_statements of body.statements in
+    let texts = body_texts (number_body of body) in
+    let start = inside f ps xs (with_texts w.taken texts w.scope) in
+    let here = subst (Agrees of k) (sym (inside_beside f ps xs w.taken texts w.scope)) (texts_agree_inside of k w.taken texts (inside f ps xs w.scope) (agrees xs)) in
+    passing_named (Behind {A = core.Statements} of l start) (AgreesAs of w.scope) (statements at start xs) _ (statements_named of at body.statements k l start here built h)
+    (λ x _. needs_named (AgreesAs of w.scope) (not (is_unchecked body.mark || w.scope.is_off)) E15 body.span _ (λ n same. texts_agree of n w.taken texts w.scope same))
 
 -- the bounds of a result, where those of all parameters are read
 result_bounds_named : (of : Numbers) (k : Scopes) (g : Scope) → KnowsTags of k.tags g → (all : List Member) (result : Option CType) (o : Option Bounds) → AreFound k (optional_mentions bounds_mentions o)
@@ -420,9 +436,9 @@ function_named_so of at all n m w d before built h =
     flow_agrees of parts.entered b b.outside (with_bounds 0 ps b.flow) b.breaks b.continues
     (inside_agrees of (opened parts.declared) parts.entered (start body) ps (record { value = now.value; function = now.function; tag = now.tag; given = now.given }) adds) in
     record { value = begun.value; function = begun.function; tag = begun.tag; given = begun.given }) in
-    passing_named (λ (v : Walk). v.scope ≡ after) (File of m) (function_body at inner f ps e.body) _ (body_named of at inner f ps d.body parts.entered parts.left inside_now form parts.body)
+    passing_named (AgreesAs of after) (File of m) (function_body at inner f ps e.body) _ (body_named of at inner f ps d.body parts.entered parts.left inside_now form parts.body)
     (λ x same. named_so (λ (v : Walk). v ≡ x) (File of m) (function_rules all e f known changed x)
-    (λ v is. subst (λ (u : Walk). File of m u) (sym is) (subst (AgreesFile of m) (sym same) (subst (λ k. AgreesFile of k after) (sym parts.behind) now))) (rules_named all e f known changed x)))))))
+    (λ v is. subst (λ (u : Walk). File of m u) (sym is) (same m (subst (λ k. AgreesFile of k after) (sym parts.behind) now))) (rules_named all e f known changed x)))))))
 
 -- ---- the whole program
 
@@ -440,8 +456,8 @@ items_named of at all (x ∷ xs) n m w agrees built h =
     let split = mentioned_append (item_mentions x) (flat_map item_mentions xs) n m h in
     passing_named (File of split.0) (File of m) (item at all w (number_item of x)) _ (item_named of at all n split.0 w x agrees parts.0 split.1) (λ v known. items_named of at all xs split.0 m v known parts.1 split.2)
 
-start_agrees : (of : Numbers) → File of at_file_level (start (given_by of))
-start_agrees of = record { value = λ x v. absurd (cc); function = λ x f. absurd (cc); tag = λ x t. absurd (cc); given = refl }
+start_agrees : (of : Numbers) (variables : ℕ) → File of at_file_level (start (given_by of) variables)
+start_agrees of variables = record { value = λ x v. absurd (cc); function = λ x f. absurd (cc); tag = λ x t. absurd (cc); given = refl }
 
 named_is : {A : Type 0} (v : Verdict A) → AllNamed v → v ≡ Unnamed → ⊥
 named_is (Passes value) h e = absurd (cc)
@@ -456,6 +472,8 @@ all_named at t built names = by (all_mentioned (tree_mentions t) at_file_level) 
 
     by : (r : Result Scopes SourceFault) → all_mentioned (tree_mentions t) at_file_level ≡ r → naming_fault_in (has_main t) r ≡ None → checked at (named_of t) ≡ Unnamed → ⊥
     by (Ok m) e fine =
+        let declared = variables_declared (named_of t).tree.items in
         named_is (checked at (named_of t))
-        (passing_named (File of m) Any (walked at (named_of t)) _ (items_named of at (named_of t).tree.items t.items at_file_level m (start (given_by of)) (start_agrees of) built e) (λ w _. tt))
+        (passing_named (File of m) Any (walked at (named_of t)) _ (items_named of at (named_of t).tree.items t.items at_file_level m (start (given_by of) declared) (start_agrees of declared) built e)
+        (λ w _. needs_named Any (nat_le (w.taken + texts_size w.scope.strings.texts) 32768) E08 (named_of t).tree.span _ tt))
     by (Err fault) e fine = absurd (cc)

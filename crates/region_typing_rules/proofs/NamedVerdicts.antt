@@ -1,9 +1,9 @@
 -- Verdicts that aren't that a name stands for nothing: rules that speak of no name give no other ones.
 use Rattle.std.proofs.Common.{◌≡◌, ℕ, Bool, true, false, List, [], ◌∷◌, length, Option, Some, None, refl, pos}
-use Rattle.std.specs.Prelude.{◌==◌, ◌-◌, ◌&&◌, ◌||◌, not, is_some, nat_lt}
+use Rattle.std.specs.Prelude.{◌==◌, ◌&&◌, ◌||◌, not, is_some, nat_lt, nat_le}
 use Rattle.ckc_text.specs.declared.place.Span.{Span}
 use Rattle.ckc_text.specs.declared.code.Code.{Code}
-use Rattle.ckc_text.specs.declared.code.Code.TheVariants.{E13, E14, E17, E18, E19, E24, E26}
+use Rattle.ckc_text.specs.declared.code.Code.TheVariants.{E08, E13, E14, E17, E18, E19, E24, E26}
 use Rattle.ckc_tree.specs.declared.expr.UnaryOperator.{UnaryOperator}
 use Rattle.ckc_tree.specs.declared.expr.UnaryOperator.TheVariants as unary
 use Rattle.ckc_tree.specs.declared.expr.BinaryOperator.{BinaryOperator}
@@ -21,9 +21,12 @@ use Rattle.pointer_modes.specs.declared.ctype.Kind.TheVariants as kinds
 use Rattle.bounds_exprs.specs.declared.term.Bounds.{Bounds}
 use Rattle.bounds_exprs.specs.declared.term.Term.{Term}
 use Rattle.bounds_flow.specs.Flows.{Knowledge}
-use Rattle.pointer_modes.specs.Types.{CType, Int, Char, Struct, Pointer, members_of}
+use Rattle.pointer_modes.specs.Types.{CType, Int, Char, Struct, Pointer, members_of, Structure}
 use Rattle.pointer_modes.specs.Layout.{size_of}
 use Rattle.ckc_core.specs.declared.program.Site.{Site}
+use Rattle.ckc_core.specs.declared.program.Terminator.{Terminator}
+use Rattle.ckc_core.specs.declared.program.Terminator.TheVariants as terminators
+use Rattle.bounds_exprs.specs.Normal.{constant}
 use Rattle.act_words.specs.declared.operator.ArithmeticOperator.TheVariants as arithmetics
 use Rattle.act_words.specs.declared.operator.BitwiseOperator.TheVariants as bits
 use Rattle.act_words.specs.declared.operator.Operator.TheVariants as operators
@@ -36,9 +39,11 @@ use Rattle.ckc_core.specs.Meaning.{bounds_of}
 use Rattle.region_typing_rules.specs.Verdicts.{Verdict, Passes, Stops, Broken, Nameless, passing, needs}
 use Rattle.region_typing_rules.specs.Scopes.{Scope, Signature, WrittenBounds, bounds_in, members_named}
 use Rattle.region_typing_rules.specs.Types.{is_number, is_pointer, are_comparable, converts}
-use Rattle.region_typing_rules.specs.Expressions.{Places, site_at, Lvalue, OfLocal, OfCell, OfBounded, OfUnknown, Standing, ForNothing, ForArray, For, Typed, Value, AStruct, Called, Gives, GivesNothing, plain, number, sum_node, at_place, member_from, member_at, dotted, struct_place, first_element, first_or_end, with_elements, pointed_by, arrowed, pointed_at, dereferenced, address_at, address, number_of, scalar_of, unary_typed, is_single_value, lacks_bounds, without_ptr, two_numbers, two_scalars, operator_along, summed, sum_typed, equated_values, equated, are_related, ordered_values, ordered, arithmetic, binary_typed, element_at, indexed, in_type, asked_of, meets, bounds_met, converted, arguments_as, terms_for, pointers_for, argument_meets, arguments_met, is_import, is_checked_argument, without_checked, crossing, declared_call, writes, is_text, length_typed, measures, with_result, is_size, elements_in, allocation, ended_allocation, allocation_if, malloc_typed, calloc_typed, casts_to, takes, has_base, base_in, cast_typed}
+use Rattle.region_typing_rules.specs.Strings.{FoundText}
+use Rattle.region_typing_rules.specs.Expressions.{Places, text_typed, site_at, Lvalue, OfLocal, OfCell, OfBounded, OfUnknown, Standing, ForNothing, ForArray, For, Typed, Value, AStruct, Called, Gives, GivesNothing, plain, number, sum_node, at_place, member_from, member_at, dotted, struct_place, first_element, first_or_end, with_elements, pointed_by, arrowed, pointed_at, dereferenced, address_at, address, number_of, scalar_of, unary_typed, is_single_value, lacks_bounds, without_ptr, two_numbers, two_scalars, operator_along, summed, sum_typed, equated_values, equated, are_related, ordered_values, ordered, arithmetic, binary_typed, element_at, indexed, in_type, asked_of, meets, bounds_met, converted, arguments_as, terms_for, pointers_for, argument_meets, arguments_met, is_import, is_checked_argument, without_checked, crossing, declared_call, writes, is_text, length_typed, text_pointer, measures, with_result, is_size, elements_in, allocation, ended_allocation, allocation_if, malloc_typed, calloc_typed, casts_to, takes, has_base, base_in, cast_typed}
 use Rattle.region_typing_rules.specs.DeclaredBounds.{unwritten_bounds}
-use Rattle.region_typing_rules.specs.Statements.{array_memory, assigned, update, declared_for, moved, updated_as, updated, stored, meets_declared, returned, returned_nothing}
+use Rattle.region_typing_rules.specs.Readings.{term}
+use Rattle.region_typing_rules.specs.Statements.{array_memory, before_end, assigned, update, declared_for, moved, updated_as, updated, stored, meets_declared, returned, returned_nothing}
 
 -- no name stands for nothing, and this is so of the value where no rule is broken
 abbrev pub IsNamed : {A : Type 0} → (A → Type 0) → Verdict A → Type 0
@@ -276,23 +281,29 @@ length_named (AStruct number place) site span = tt
 
 pub measures_named : (ts : List (Typed × Span)) (site : Site) (span : Span) → AllNamed (measures ts site span)
 measures_named [] site span = tt
-measures_named (t ∷ ts) site span = needs_named Any (length (t ∷ ts) == 1) E14 span _ (length_named t.0 site span)
+measures_named (t ∷ ts) site span = needs_named Any (length (t ∷ ts) == 1) E14 span _ (converted_named t.0 text_pointer t.1 _ (λ v. length_named t.0 site span))
 
 pub result_named : (c : Called) (span : Span) → AllNamed (with_result c span)
 result_named (Gives type value) span = tt
 result_named (GivesNothing call) span = tt
+
+-- ---- strings
+
+pub text_named : (structs : List Structure) (o : Option FoundText) (site : Site) (span : Span) → AllNamed (text_typed structs o site span)
+text_named structs None site span = tt
+text_named structs (Some t) site span = needs_named Any (nat_le t.taken 32768) E08 span _ tt
 
 -- ---- allocation and casts
 
 allocation_named : (s : Scope) (t : CType) (count : core.Expression) (site : Site) (span : Span) → AllNamed (allocation s t count site span)
 allocation_named s t count site span = needs_named Any (nat_lt 0 (size_of s.structs t)) E13 span _ tt
 
-ended_named : (s : Scope) (t : CType) (count : core.Expression) (site : Site) (span : Span) → AllNamed (ended_allocation s t count site span)
-ended_named s t count site span = needs_named Any (is_number t) E13 span _ tt
+ended_named : (s : Scope) (t : CType) (count : core.Expression) (terminator : Terminator) (before : Option Term) (site : Site) (span : Span) → AllNamed (ended_allocation s t count terminator before site span)
+ended_named s t count terminator before site span = needs_named Any (is_number t) E13 span _ tt
 
 pub memory_named : (g : Scope) (ended : Bool) (t : CType) (count : ℕ) (site : Site) (span : Span) → AllNamed (array_memory g ended t count site span)
 memory_named g false t count site span = allocation_named g t (core.Number (pos count)) site span
-memory_named g true t count site span = ended_named g t (core.Number (pos (count - 1))) site span
+memory_named g true t count site span = ended_named g t (core.Number (pos count)) terminators.Last (Some (constant (pos (before_end true count)))) site span
 
 allocation_if_named : (s : Scope) (t : CType) (o : Option core.Expression) (site : Site) (span : Span) → AllNamed (allocation_if s t o site span)
 allocation_if_named s t None site span = tt
@@ -304,7 +315,7 @@ malloc_named malloc_words.TMalloc s t size a site span = tt
 
 pub calloc_named : (word : CallocWord) (s : Scope) (t : CType) (a : Typed) (size : Expression) (site : Site) (span : Span) → AllNamed (calloc_typed word s t a size site span)
 calloc_named calloc_words.Calloc s t a size site span = number_named a span _ (λ v. needs_named Any (is_size s t size) E13 span _ (allocation_named s t v site span))
-calloc_named calloc_words.NtCalloc s t a size site span = number_named a span _ (λ v. needs_named Any (is_size s t size) E13 span _ (ended_named s t v site span))
+calloc_named calloc_words.NtCalloc s t a size site span = number_named a span _ (λ v. needs_named Any (is_size s t size) E13 span _ (ended_named s t v terminators.Behind (term s.locals v) site span))
 
 pub cast_named : (word : CastWord) (s : Scope) (to : CType) (a : Typed) (written : WrittenBounds) (site : Site) (span : Span) → AllNamed (cast_typed word s to a written site span)
 cast_named cast_words.Dynamic s to (Value type zero value place) written site span =

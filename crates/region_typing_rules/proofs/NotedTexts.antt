@@ -31,9 +31,9 @@ use Rattle.region_typing_rules.specs.Scopes.{Scope, Signature, WrittenBounds, Na
 use Rattle.region_typing_rules.specs.Types.{converts, type_named, is_number, is_pointer, are_comparable}
 use Rattle.region_typing_rules.specs.Expressions.{Places, OfLocal, OfCell, OfBounded, OfUnknown, ForNothing, ForArray, For, Typed, Value, AStruct, Called, Gives, GivesNothing, site_at, with_bounds, with_cell_bounds, in_cell, number, at_place, local_typed, name_typed, object_typed, is_array}
 use Rattle.region_typing_rules.specs.Expressions.{struct_place, member_place, member_from, offset_among, member_at, dotted, with_elements, first_element, first_or_end, pointed_by, arrowed, pointed_at, dereferenced, address, scalar_of, unary_typed, two_numbers, two_scalars, operator_along, summed, sum_typed}
-use Rattle.region_typing_rules.specs.Expressions.{equated, zero_test, are_related, ordered_values, ordered, arithmetic, binary_typed, beside, element_at, indexed, arguments_as, is_import, call_of, declared_callee, writes, is_text, length_typed, measures, constant_typed, predefined_call, called, with_result, typed, all_typed, cast_typed, cast_bounds}
+use Rattle.region_typing_rules.specs.Expressions.{equated, zero_test, are_related, ordered_values, ordered, arithmetic, binary_typed, beside, element_at, indexed, arguments_as, is_import, call_of, declared_callee, writes, is_text, length_typed, text_pointer, measures, constant_typed, predefined_call, called, with_result, typed, all_typed, cast_typed, cast_bounds}
 use Rattle.region_typing_rules.proofs.Knowledge.{crossing_promises}
-use Rattle.region_typing_rules.proofs.Verdicts.{Promises, passing_promises, needs_promises, promised_so, elements_promise, apart_promises, all_met_promise}
+use Rattle.region_typing_rules.proofs.Verdicts.{Promises, passing_promises, needs_promises, convertible_promises, promised_so, elements_promise, apart_promises, all_met_promise}
 use Rattle.region_typing_rules.proofs.Kept.{passing_any}
 use Rattle.region_typing_rules.proofs.Memory.{of_any, malloc_promises, calloc_promises, cast_promises}
 use Rattle.std.proofs.Common.{sym, ap, ◌∙◌}
@@ -57,6 +57,8 @@ use Rattle.region_typing_rules.proofs.Sources.{number_any, numbers_any}
 use Rattle.region_typing_rules.proofs.Verdicts.{met_promises}
 use Rattle.ckc_core.specs.declared.program.PointerBounds.{PointerBounds}
 use Rattle.pointer_modes.specs.declared.ctype.Mode.{Mode}
+use Rattle.region_typing_rules.proofs.TextBlocks.{any_text}
+use Rattle.region_typing_rules.specs.Strings.{text_at}
 
 -- ---- expressions that are no locals and no counts
 
@@ -340,7 +342,7 @@ AreNoted s arguments = AllByRecursion (λ (a : Typed × Span). IsNoted s a.0) ar
 
 measures_noted : (s : Scope) (arguments : List (Typed × Span)) (site : Site) (span : Span) → AreNoted s arguments → Promises (IsNotedCall s) (measures arguments site span)
 measures_noted s [] site span h = tt
-measures_noted s (a ∷ arguments) site span h = needs_promises (IsNotedCall s) (length (a ∷ arguments) == 1) E14 span _ (λ one. length_noted s a.0 site span h.0)
+measures_noted s (a ∷ arguments) site span h = needs_promises (IsNotedCall s) (length (a ∷ arguments) == 1) E14 span _ (λ one. convertible_promises (IsNotedCall s) a.0 text_pointer a.1 (length_typed a.0 site span) (length_noted s a.0 site span h.0))
 
 writes_noted : (s : Scope) (of : core.Expression → core.Statement) (arguments : List (Typed × Span)) (span : Span) → Promises (IsNotedCall s) (writes of arguments span)
 writes_noted s of arguments span = needs_promises (IsNotedCall s) (length arguments == 1) E14 span _ (λ x. passing_any (IsNotedCall s) (arguments_as arguments (Int ∷ [])) _ (λ values. tt))
@@ -378,7 +380,7 @@ mutual
   typed_noted : (at : Places) (s : Scope) (x : Expression) → Promises (IsNoted s) (typed at s x)
   typed_noted at s (e.Number value span) = others_noted s (constant_typed value (value == 0) span) (constant_other value (value == 0) span)
   typed_noted at s (e.Character value span) = others_noted s (constant_typed value false span) (constant_other value false span)
-  typed_noted at s (e.Text bytes span) = tt
+  typed_noted at s (e.Text bytes span) = any_text (IsNoted s) s.structs (text_at s.strings span.from) (site_at at span) span (λ t. tt)
   typed_noted at s (e.Name name) = by (named s name.number)
     where
       by : (v : Verdict Named) → Promises (IsNoted s) (bounded s (site_at at name.span) (passing v (λ n. Passes (name_typed s n (site_at at name.span)))))

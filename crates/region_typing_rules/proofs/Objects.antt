@@ -14,6 +14,7 @@ use Rattle.ckc_tree.specs.Statements as trees
 use Rattle.ckc_tree.specs.Statements.{Initializer, Declarator}
 use Rattle.ckc_tree.specs.Items as i
 use Rattle.ckc_names_rules.specs.declared.given.Given.{Given}
+use Rattle.ckc_tree_texts.specs.Texts.{Text, initializer_texts}
 use Rattle.flat_bytes.specs.Blocks.{rounded_up}
 use Rattle.bounds_exprs.specs.declared.term.Bounds.{Bounds}
 use Rattle.pointer_modes.specs.Layout.{size_of}
@@ -24,7 +25,8 @@ use Rattle.region_typing_rules.specs.Scopes.{Scope, WrittenBounds, bounds_in, st
 use Rattle.region_typing_rules.specs.Types.{is_number, kind_of, may_lead_to, base_type, without_stars, type_named}
 use Rattle.region_typing_rules.specs.Expressions.{Places, Typed, typed}
 use Rattle.ckc_tree.specs.declared.stmt.SignedConstant.{SignedConstant}
-use Rattle.region_typing_rules.specs.Items.{Walk, in_checked_region, is_struct, member_types, scalar_members, with_struct, member_names, signed_constant, structure, Walked, initializer, object_cells, with_variable, with_own, written_as, object_bounds, variable_of, WalkedVariable, written_size, few_bytes, room_for, room_for_first, variables, with_objects, global, count_of, small_constants, unsigned_number}
+use Rattle.region_typing_rules.specs.Items.{Walk, in_checked_region, is_struct, member_types, scalar_members, with_struct, member_names, signed_constant, structure, Walked, initializer, object_cells, with_variable, with_texts, variable_scope, with_own, written_as, object_bounds, variable_of, WalkedVariable, written_size, few_bytes, room_for, room_for_first, variables, with_objects, global, count_of, small_constants, unsigned_number}
+use Rattle.region_typing_rules.specs.Strings.{texts_size}
 use Rattle.region_typing_rules.specs.Typed.{IsScalar}
 use Rattle.region_typing_rules.specs.Lowerable.{cells_size, objects_size, IsRoomy}
 use Rattle.region_typing_rules.proofs.Verdicts.{Promises, passing_promises, needs_promises, anything_promised, both_promise, all_promised, later_promises, promised_so, extends_append}
@@ -81,7 +83,7 @@ module _ (height : ℕ) where
       let new : Structure = record { tainted = tainted; members = members } in
       let ext = extends_append w.scope.structs (new ∷ []) in
       let after = with_struct tag names tainted members w.scope in
-      let grows : FileGrows w.scope after = record { structs = ext; variables = λ k x h. h; functions = λ name f h. h; numbers = λ side name f h. refl } in
+      let grows : FileGrows w.scope after = record { structs = ext; variables = λ k x h. h; texts = λ k x h. h; counted = refl; functions = λ name f h. h; numbers = λ side name f h. refl } in
       record {
         well = record {
           closed = with_struct_closed w.scope tag names tainted members known well.closed;
@@ -231,11 +233,12 @@ module _ (height : ℕ) where
       by None e = tt
       by (Some n) e = λ size h. let h' = rw e at h in let same : size_of g.structs (Struct n) ≡ size = cc in sym same
 
-  sized_later : (g : Scope) (name : ℕ) (t : CType) (length : Option ℕ) (ended : Bool) (bounds : WrittenBounds) (base : TypeTree) (type : CType) → IsSized g base type → IsSized (with_variable name t length ended bounds g) base type
-  sized_later g name t length ended bounds (IntType span) type h = h
-  sized_later g name t length ended bounds (CharType span) type h = h
-  sized_later g name t length ended bounds (StructType tag span) type h = h
-  sized_later g name t length ended bounds (PointerType word element stars span) type h = h
+  sized_later : (taken : ℕ) (d : Declarator) (t : CType) (bounds : WrittenBounds) (g : Scope) (base : TypeTree) (type : CType) → IsSized g base type
+      → IsSized (variable_scope taken d t bounds g) base type
+  sized_later taken d t bounds g (IntType span) type h = h
+  sized_later taken d t bounds g (CharType span) type h = h
+  sized_later taken d t bounds g (StructType tag span) type h = h
+  sized_later taken d t bounds g (PointerType word element stars span) type h = h
 
   -- a variable more has room, by its type as it is written, and by its length
   record HasRoom (w : Walk) (base : TypeTree) (d : Declarator) (taken : ℕ) : Type 0 where
@@ -260,12 +263,19 @@ module _ (height : ℕ) where
   room_promises w base span d = needs_promises (HasRoom w base d) (nat_lt (length w.scope.variables) 4096) E08 span _ (λ few. by (written_size w.scope base d.stars) refl)
     where
       by : (v : Verdict ℕ) → written_size w.scope base d.stars ≡ v
-          → Promises (HasRoom w base d) (passing v (λ size. needs (is_length (length_of d)) E08 span (few_bytes (w.taken + (rounded_up (count_of (length_of d) * size) + 16)) span)))
+          → Promises (HasRoom w base d) (passing v (λ size. needs (is_length (length_of d)) E08 span (few_bytes w.scope (w.taken + (rounded_up (count_of (length_of d) * size) + 16)) span)))
       by (Passes size) e =
           let taken = w.taken + (rounded_up (count_of (length_of d) * size) + 16) in
           needs_promises (HasRoom w base d) (is_length (length_of d)) E08 span _
-          (λ some. needs_promises (HasRoom w base d) (nat_le taken 32768) E08 span (Passes taken)
-          (λ room. record { size = size; written = e; some = length_some (length_of d) some; few = length_few (length_of d) some; bytes = refl; within = leb-true taken 32768 room }))
+          (λ some. needs_promises (HasRoom w base d) (nat_le (taken + texts_size w.scope.strings.texts) 32768) E08 span (Passes taken)
+          (λ room. record {
+            size = size;
+            written = e;
+            some = length_some (length_of d) some;
+            few = length_few (length_of d) some;
+            bytes = refl;
+            within = (let all = leb-true (taken + texts_size w.scope.strings.texts) 32768 room in omega (arith, all));
+          }))
       by (Stops stop) e = tt
 
   -- the bounds of a variable are those of a pointer, between constants
@@ -305,15 +315,15 @@ module _ (height : ℕ) where
       let size = sized room.size (subst (λ n. written_size w.scope base n ≡ Passes room.size) none room.written) ∙ ap (size_of w.scope.structs) (sym same) in
       room.bytes ∙ ap (λ n. w.taken + (rounded_up (count_of (length_of d) * n) + 16)) size
 
-  with_variable_waits : (a w : Walk) (walked : List WalkedVariable) (name : ℕ) (t : CType) (length : Option ℕ) (ended : Bool) (bounds : WrittenBounds) (initial : Walked) (taken : ℕ)
+  with_variable_waits : (a w : Walk) (walked : List WalkedVariable) (texts : List Text) (name : ℕ) (t : CType) (length : Option ℕ) (ended : Bool) (bounds : WrittenBounds) (initial : Walked) (taken : ℕ)
       → HaveFileBounds w.scope.structs (record { name = name; type = t; length = length; ended = ended; bounds = bounds }) (bounds_in bounds)
       → IsKnownVariable w.scope.structs (record { name = name; type = t; length = length; ended = ended; bounds = bounds }) → (ended ≡ true → AreNumbers t length) → 0 < count_of length → count_of length ≤ 8192 → taken ≡ w.taken + gapped w.scope.structs t length → taken ≤ 32768 → Waits a (w, walked) → IsWalked initial
-      → Waits a (record w { scope = with_variable name t length ended bounds w.scope; taken = taken }, walked ++ record { type = t; length = length; ended = ended; bounds = bounds; initial = initial } ∷ [])
-  with_variable_waits a w walked name t length ended bounds initial taken formed known numbers some few bytes within h is =
+      → Waits a (record w { scope = with_texts taken texts (with_variable name t length ended bounds w.scope); taken = taken }, walked ++ record { type = t; length = length; ended = ended; bounds = bounds; initial = initial } ∷ [])
+  with_variable_waits a w walked texts name t length ended bounds initial taken formed known numbers some few bytes within h is =
       let v : FileVariable = record { name = name; type = t; length = length; ended = ended; bounds = bounds } in
       let c = h.well.closed in
-      let after = with_variable name t length ended bounds w.scope in
-      let more : FileGrows w.scope after = record { structs = λ k x e. e; variables = extends_append w.scope.variables (v ∷ []); functions = λ n f e. e; numbers = λ side n f e. refl } in
+      let after = with_texts taken texts (with_variable name t length ended bounds w.scope) in
+      let more : FileGrows w.scope after = record { structs = λ k x e. e; variables = extends_append w.scope.variables (v ∷ []); texts = extends_append w.scope.strings.texts texts; counted = refl; functions = λ n f e. e; numbers = λ side n f e. refl } in
       record {
         settled_ones = h.settled_ones;
         waiting_ones = h.waiting_ones ++ v ∷ [];
@@ -344,11 +354,11 @@ module _ (height : ℕ) where
       (λ t plain. let known_t : IsKnown w.scope.structs t = subst (IsKnown w.scope.structs) (sym plain.1) known in
       needs_promises (Waits a) (may_lead_to (array_kind (is_ended_array d)) t) E13 (type_span base) _
       (λ may. passing_promises (AreFileBounds w.scope d t) (Waits a) (object_bounds w.scope d t) _ (bounds_formed_for w.scope d t known_t)
-      (λ bounds formed. let inside = with_variable d.name.number t (length_of d) (is_ended_array d) bounds w.scope in
+      (λ bounds formed. let inside = variable_scope taken d t bounds w.scope in
       passing_promises IsWalked (Waits a) (initializer at inside d.initializer) _ (initializer_promises at inside d.initializer)
       (λ initial is. variables_promise at a (record w { scope = inside; taken = taken }) base type span ds (walked ++ record { type = t; length = length_of d; ended = is_ended_array d; bounds = bounds; initial = initial } ∷ []) known
-      (sized_later w.scope d.name.number t (length_of d) (is_ended_array d) bounds base type sized)
-      (with_variable_waits a w walked d.name.number t (length_of d) (is_ended_array d) bounds initial taken formed (may, known_t) (array_numbers d t may) room.some room.few (taken_by w base type t d taken sized room plain.0 plain.1) room.within h is))))))
+      (sized_later taken d t bounds w.scope base type sized)
+      (with_variable_waits a w walked (initializer_texts d.initializer) d.name.number t (length_of d) (is_ended_array d) bounds initial taken formed (may, known_t) (array_numbers d t may) room.some room.few (taken_by w base type t d taken sized room plain.0 plain.1) room.within h is))))))
 
   settled_append : (structs : List Structure) (vs : List FileVariable) (objects : List Variable) (v : FileVariable) (new : Variable) → AreSettled structs vs objects → IsSettled structs v new → AreSettled structs (vs ++ v ∷ []) (objects ++ new ∷ [])
   settled_append structs [] [] v new h is = (is, tt)

@@ -1,5 +1,5 @@
 -- Names, places and operators that break no rule have types.
-use Rattle.std.proofs.Common.{◌≡◌, ℕ, ◌+◌, Bool, true, false, List, length, Option, Some, None, ◌<◌, refl, sym, subst, arith}
+use Rattle.std.proofs.Common.{◌≡◌, ℕ, ◌+◌, Bool, true, false, List, length, Option, Some, None, ◌<◌, ◌≤◌, refl, sym, ap, ◌∙◌, subst, arith}
 use Rattle.std.specs.Prelude.{slice_get, not, ◌&&◌, ◌||◌}
 use Rattle.std.proofs.lemmas.Bool.{and_parts}
 use Rattle.ckc_text.specs.declared.place.Span.{Span}
@@ -40,10 +40,10 @@ use Rattle.region_typing_rules.specs.Verdicts.{Verdict, Passes, picked}
 use Rattle.region_typing_rules.specs.Scopes.{Scope, Named, Local, Object, Array, Nothing}
 use Rattle.region_typing_rules.specs.Types.{is_number, is_pointer, is_row, are_comparable, Counts}
 use Rattle.region_typing_rules.specs.Readings.{from_base, based_bounds}
-use Rattle.region_typing_rules.specs.Expressions.{OfLocal, OfCell, OfBounded, Standing, ForNothing, ForArray, For, Typed, Value, AStruct, Called, Gives, GivesNothing, bounds_at, noted_if, with_bounds, sum_node, number, at_place, in_force, local_typed, name_typed, pointer_typed, member_place, with_elements, first_element, pointed_at, dereferenced, checked_at, pointer_to, address, number_of, scalar_of, unary_typed, is_single_value, lacks_bounds, without_ptr, two_numbers, two_scalars, operator_along, summed, sum_typed, equated_values, equated, have_one_base, are_related, ordered_values, ordered, arithmetic, binary_typed, element_at, indexed, typed, is_array, local_standing, OfUnknown, with_cell_bounds, cell_bounds, is_ended_element, zero_test, first_or_end, unknown_typed}
+use Rattle.region_typing_rules.specs.Expressions.{OfLocal, OfCell, OfBounded, Standing, ForNothing, ForArray, For, Typed, Value, AStruct, text_value, Called, Gives, GivesNothing, bounds_at, noted_if, with_bounds, sum_node, number, at_place, in_force, local_typed, name_typed, pointer_typed, member_place, with_elements, first_element, pointed_at, dereferenced, checked_at, pointer_to, address, number_of, scalar_of, unary_typed, is_single_value, lacks_bounds, without_ptr, two_numbers, two_scalars, operator_along, summed, sum_typed, equated_values, equated, have_one_base, are_related, ordered_values, ordered, arithmetic, binary_typed, element_at, indexed, typed, is_array, local_standing, OfUnknown, with_cell_bounds, cell_bounds, is_ended_element, zero_test, first_or_end, unknown_typed}
 use Rattle.bounds_flow_meaning.specs.Sums.{counted}
 use Rattle.region_typing_rules.specs.Typed as rules
-use Rattle.region_typing_rules.specs.Typed.{Frame, IsBoundedObject, HasElements, IsInForce, HasType, HasPlace, IsSimple, IsScalar, HasAccess, HasCellBounds}
+use Rattle.region_typing_rules.specs.Typed.{Frame, IsBoundedObject, IsEndedRow, HasElements, IsInForce, HasType, HasPlace, IsSimple, IsScalar, HasAccess, HasCellBounds}
 use Rattle.region_typing_rules.proofs.Values.{member_row}
 use Rattle.region_typing_rules.proofs.Verdicts.{Promises, passing_promises, needs_promises, Extends}
 use Rattle.region_typing_rules.proofs.Known.{IsKnown, size_kept, cell_kept}
@@ -52,6 +52,8 @@ use Rattle.region_typing_rules.proofs.Knowledge.{IsBoundedPointer, IsNumberType,
 use Rattle.region_typing_rules.proofs.Alike.{alike_here}
 use Rattle.region_typing_rules.specs.Knowing.{when}
 use Rattle.region_typing_rules.proofs.Nodes.{AreCounted, CountElements, HasNode, IsRow, at_mode, cell_node_with, counted_node, ended_alike, first_not, from_base_below, load_takes, local_takes, no_ended, no_row, node_with, number_sized, one_base, row_type, sum_bounded, sum_counted}
+use Rattle.region_typing_rules.proofs.TextBlocks.{found_from, text_row}
+use Rattle.region_typing_rules.specs.Strings.{FoundText, text_at, text_object}
 
 module _ (g : Frame) (types : List CType) (s : Scope) where
   -- what a value stands for
@@ -274,6 +276,23 @@ module _ (g : Frame) (types : List CType) (s : Scope) where
     unknown_fits at k (Pointer modes.Tainted kinds.Array u) h known site = at_place_fits (Pointer modes.Tainted kinds.Array u) (core.Direct k 0) h site known
     unknown_fits at k (Pointer modes.Raw kinds.Array u) h known site = at_place_fits (Pointer modes.Raw kinds.Array u) (core.Direct k 0) h site known
     unknown_fits at k (Pointer m kinds.Nt u) h known site = subst (λ o. FitsValue (Pointer m kinds.Nt u) false (noted_if o (core.Load (Pointer m kinds.Nt u) (core.Direct k 0) None)) (For (OfUnknown k))) (sym (no_ended m _)) (unbounded_fits k m u h)
+
+    -- a string is a row of characters that a zero ends
+    pub text_fits : (from : ℕ) (t : FoundText) (at : Site) → text_at s.strings from ≡ Some t → t.taken ≤ 32768 → Fits (text_value s.structs t at)
+    text_fits from t at found few =
+        let is = found_from s.strings.variables s.strings.taken s.strings.texts from t found in
+        let bytes = is.taken in
+        let long = is.length in
+        record {
+          has_type = rules.ended_array
+              (ap (slice_get g.program.objects) is.object ∙ knows.file.texts is.number is.text is.found) (omega (arith, bytes, long, few))
+              (subst (IsEndedRow g.structs (shape (object_block (text_object is.text))) Char) (sym is.length) (text_row g.structs is.text)) refl
+              (record { size = refl; terminated = refl });
+          is_number = λ x. absurd (cc);
+          stands = tt;
+          scalar = refl;
+          node = record { own = record { node = record { size = refl; terminated = refl }; some = omega arith; below = record { lo = tt; hi = tt } }; based = λ b e. absurd (cc) };
+        }
 
     pub name_fits : (at : Site) (n : Named) → StandsFor g s.structs s.locals n → FitsNoted (name_typed s n at)
     name_fits at (Local k t) h = local_fits k t (is_array s.arrays k) at (of_element IsScalar types k t knows.scalar (knows.locals k t h)) h

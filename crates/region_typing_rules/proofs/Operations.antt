@@ -3,7 +3,8 @@ use Rattle.std.proofs.Common.{◌≡◌, ◌+ℤ◌, ℕ, suc, ◌+◌, ◌<◌,
 use Rattle.std.specs.Prelude.{◌==◌, is_some, slice_get, option_map, pos}
 use Rattle.std.proofs.lemmas.Int.{ints}
 use Rattle.std.proofs.lemmas.Bool.Decides.{nat_tests}
-use Rattle.std.proofs.lemmas.Option.{cond_some, slice_get_within}
+use Rattle.std.proofs.lemmas.Bool.{le-leb}
+use Rattle.std.proofs.lemmas.Option.{cond_some, same_Some, slice_get_within}
 use Rattle.std.proofs.lemmas.List.{length-replicate}
 use Rattle.ckc_core.specs.Outcome.{Gives, and_then}
 use Rattle.act_words.specs.Operators.{holds}
@@ -23,11 +24,12 @@ use Rattle.pointer_modes.specs.Types.{CType, Int, Char, Struct, Pointer}
 use Rattle.ckc_core.specs.Core as core
 use Rattle.ckc_core.specs.States.{Value, Number, Null, At, Local, Grows, State, shape, shapes, has_type, object_block}
 use Rattle.ckc_core.specs.declared.program.PointerBounds.{PointerBounds}
+use Rattle.ckc_core.specs.declared.program.Terminator.{Terminator}
 use Rattle.ckc_core.specs.Programs.{Import, Initial, Variable}
 use Rattle.ckc_core.specs.declared.program.Direction.{Direction}
 use Rattle.bounds_exprs.specs.declared.term.Bounds.{Bounds}
 use Rattle.ckc_core.specs.Bounds.{Ends as EndsOf, base_byte, ends_at, term_value, with_ends}
-use Rattle.ckc_core.specs.Pointers.{allocated, are_within, not_null, ordered, ordered_if, number_given, checked_if}
+use Rattle.ckc_core.specs.Pointers.{allocated, is_terminated, are_within, not_null, ordered, ordered_if, number_given, checked_if}
 use Rattle.ckc_core.specs.Steps.{Result, locals_for, given, truth, number_of_test, asked, words_of, reply_as, back, passed, cross, cross_if, call_tainted, takes, parameters_of, enter_if, call_trusted, result_given, choose, called}
 use Rattle.ckc_core.specs.Meaning.{Knot, Setting, audit, bounds_of, cast_if, cast_to, cast_within, element, summed, value, values, place}
 use Rattle.region_typing_rules.specs.Scopes.{Scope}
@@ -41,11 +43,13 @@ use Rattle.region_typing_rules.specs.KnownIsSo.{HasLocals, IsAlike, WhereGiven, 
 use Rattle.region_typing_rules.specs.Typed as typed
 use Rattle.bounds_exprs.specs.Values.{value as term_number}
 use Rattle.bounds_exprs.specs.declared.term.Term.{Term}
+use Rattle.bounds_exprs.specs.Normal.{constant as constant_term}
+use Rattle.bounds_exprs.specs.Terms.{is_within, term_limit}
 use Rattle.bounds_flow.specs.Conditions.{IsFlow}
 use Rattle.bounds_flow_meaning.specs.Holding.{AreInts, HasSize, HaveTypes as AreTyped, IsInt, IsValid, at_node, numbers_in, types_of}
 use Rattle.bounds_flow_meaning.specs.Calls.{HoldTerms}
 use Rattle.bounds_exprs.specs.Changes.{ends_filled_in}
-use Rattle.bounds_flow_meaning.specs.Sums.{counted}
+use Rattle.bounds_flow_meaning.specs.Sums.{counted, IsBeforeZero}
 use Rattle.bounds_flow_meaning.proofs.Numbers.{int_term, same_number}
 use Rattle.bounds_flow_meaning.proofs.Validity.{base_found, ends_parts, null_valid, valid_from}
 use Rattle.region_typing_rules.specs.Typed.{IsBoundedObject, AreNewBounds, IsBaseOf, Frame, HasBounds, IsBoundedBy, HasValue, IsNumberResult, IsCallee, HasCallBounds, HasResultBounds, AreAsked, terms_of, pointers_of, AreRows, AreSumBounds, CountsAs, HasCellBounds, HasElements, IsNodeOf, IsEndedRow}
@@ -58,7 +62,7 @@ use Rattle.region_typing_rules.proofs.Verdicts.{Extends}
 use Rattle.region_typing_rules.proofs.Sure.{sure_further, sure_both, sure_given}
 use Rattle.region_typing_rules.proofs.Keeping.{IsAfter, after_here}
 use Rattle.region_typing_rules.proofs.Casts.{cast_valid, new_ends}
-use Rattle.region_typing_rules.proofs.Terms.{term_formed, so_always, so_both, so_further, audited_so, IsOfTerm, term_so}
+use Rattle.region_typing_rules.proofs.Terms.{before_formed, term_formed, so_always, so_both, so_further, audited_so, IsOfTerm, term_so}
 use Rattle.region_typing_rules.proofs.Alike.{alike_here, alike_on, fits_after, types_alike}
 use Rattle.region_typing_rules.proofs.Given.{IsGivenIf, AreGivenAt, AreGiven, bounds_alike, free_alike, given_later, local_given, none_given, own_given, plain_given, given_weaker}
 use Rattle.region_typing_rules.proofs.Assigns.{IsGivenTo}
@@ -705,40 +709,50 @@ module _ (g : Frame) (budget ticks : ℕ) where
                 (int_term s.locals n (types_there s h) (ints_there s h n.var (term_formed here.locals i n e).int) ∙ ap Some (sym number)),
           )))
 
-      bounded_new : (count : core.Expression) (kind : Kind) (t : CType) (element : List Initial) (new : IsNewRow g.structs kind t element) (b : Option PointerBounds) → AreNewBounds g.structs here.locals count kind t b
+      -- the term of the bounds comes to as many as stand before the zero, where one ends them
+      before_counted : (terminator : Terminator) (count : core.Expression) (n : Term) → typed.IsBeforeZero here.locals terminator count n → (z : ℤ) (u : State) → IsCounted count z u → IsBeforeZero terminator n z u
+      before_counted _ count n (typed.all_of counts) z u is k e = is.1 n counts ∙ ap Some e
+      before_counted _ count n (typed.all_before counts) z u is k e = is.1 n counts ∙ ap Some e
+      before_counted _ _ _ (typed.all_but_last {n = m} few) z u is k e =
+          let limited : is_within term_limit (pos (suc m)) ≡ true = le-leb (suc m) term_limit (omega (arith, few)) in
+          let whole = is.1 (constant_term (pos (suc m))) (ap (λ test. cond test (Some (constant_term (pos (suc m)))) None) limited) in
+          let same : pos 0 +ℤ pos (suc m) ≡ pos (suc k) = same_Some (pos 0 +ℤ pos (suc m)) (pos (suc k)) (whole ∙ ap Some e) in
+          ap Some (omega (arith, ints, same))
+
+      bounded_new : (count : core.Expression) (kind : Kind) (t : CType) (element : List Initial) (new : IsNewRow g.structs kind t element) (terminator : Terminator) → is_terminated terminator ≡ is_ended (Pointer modes.Checked kind t) → (b : Option PointerBounds) → AreNewBounds g.structs here.locals terminator count t b
           → (s : State) (z : ℤ) → IsCounted count z s → IsKept g budget ticks low types s
-          → Goes g budget ticks low types s (λ v u. OfType g (Pointer modes.Checked kind t) v u × IsBounded g (Pointer modes.Checked kind t) b v u) (allocated trusted (is_ended (Pointer modes.Checked kind t)) element z s)
-      bounded_new count kind t element new _ typed.uncounted s z is kept =
-          goes_further g budget ticks low types s (OfType g (Pointer modes.Checked kind t)) (λ v u. OfType g (Pointer modes.Checked kind t) v u × IsBounded g (Pointer modes.Checked kind t) None v u) (allocated trusted (is_ended (Pointer modes.Checked kind t)) element z s)
-          (allocated_goes g budget ticks low types kind t element new s trusted z is.0 kept) (λ v u typed. (typed, tt))
-      bounded_new count kind t element new _ (typed.by_term {n = n} {site = site} counts) s z is kept =
-          let p : PointerBounds = at_node (counted n) (size_of g.structs t) (is_ended (Pointer modes.Checked kind t)) site in
+          → Goes g budget ticks low types s (λ v u. OfType g (Pointer modes.Checked kind t) v u × IsBounded g (Pointer modes.Checked kind t) b v u) (allocated trusted terminator element z s)
+      bounded_new count kind t element new terminator alike _ typed.uncounted s z is kept =
+          goes_further g budget ticks low types s (OfType g (Pointer modes.Checked kind t)) (λ v u. OfType g (Pointer modes.Checked kind t) v u × IsBounded g (Pointer modes.Checked kind t) None v u) (allocated trusted terminator element z s)
+          (allocated_goes g budget ticks low types kind t element new s trusted terminator alike z is.0 kept) (λ v u typed. (typed, tt))
+      bounded_new count kind t element new terminator alike _ (typed.by_term {n = n} {site = site} counts) s z is kept =
+          let p : PointerBounds = at_node (counted n) (size_of g.structs t) (is_terminated terminator) site in
           sure_further (λ v u. (OfType g (Pointer modes.Checked kind t) v u × IsAfter s u × IsKept g budget ticks low types u) × IsValid g.structs (Some (counted n)) (pointing (Pointer modes.Checked kind t) v) u)
-          (λ v u. (OfType g (Pointer modes.Checked kind t) v u × IsBounded g (Pointer modes.Checked kind t) (Some p) v u) × IsAfter s u × IsKept g budget ticks low types u) (allocated trusted (is_ended (Pointer modes.Checked kind t)) element z s)
-          (sure_both (λ v u. OfType g (Pointer modes.Checked kind t) v u × IsAfter s u × IsKept g budget ticks low types u) (λ v u. IsValid g.structs (Some (counted n)) (pointing (Pointer modes.Checked kind t) v) u) (allocated trusted (is_ended (Pointer modes.Checked kind t)) element z s)
-          (allocated_goes g budget ticks low types kind t element new s trusted z is.0 kept) (new_valid g budget ticks low types kind t element new s trusted z n (is.1 n counts)))
+          (λ v u. (OfType g (Pointer modes.Checked kind t) v u × IsBounded g (Pointer modes.Checked kind t) (Some p) v u) × IsAfter s u × IsKept g budget ticks low types u) (allocated trusted terminator element z s)
+          (sure_both (λ v u. OfType g (Pointer modes.Checked kind t) v u × IsAfter s u × IsKept g budget ticks low types u) (λ v u. IsValid g.structs (Some (counted n)) (pointing (Pointer modes.Checked kind t) v) u) (allocated trusted terminator element z s)
+          (allocated_goes g budget ticks low types kind t element new s trusted terminator alike z is.0 kept) (new_valid g budget ticks low types kind t element new s trusted terminator alike z n (before_counted terminator count n counts z s is)))
           (λ v u x. ((x.0.0, x.1), x.0.1, x.0.2))
 
-      new_size : (count : core.Expression) (kind : Kind) (t : CType) (b : Option PointerBounds) → AreNewBounds g.structs here.locals count kind t b → AreOf g.structs (Pointer modes.Checked kind t) b
-      new_size count kind t _ typed.uncounted = tt
-      new_size count kind t _ (typed.by_term counts) = record { size = refl; terminated = refl }
+      new_size : (count : core.Expression) (kind : Kind) (t : CType) (terminator : Terminator) → is_terminated terminator ≡ is_ended (Pointer modes.Checked kind t) → (b : Option PointerBounds) → AreNewBounds g.structs here.locals terminator count t b → AreOf g.structs (Pointer modes.Checked kind t) b
+      new_size count kind t terminator alike _ typed.uncounted = tt
+      new_size count kind t terminator alike _ (typed.by_term counts) = record { size = refl; terminated = alike }
 
-      pub allocate_goes : (count : core.Expression) (kind : Kind) (t : CType) (element : List Initial) (b : Option PointerBounds) → IsNewRow g.structs kind t element → AreNewBounds g.structs here.locals count kind t b → (s : State) → IsHere s
-          → Goes g budget ticks low types s (OfType g Int) (value true setting k count s) → Goes g budget ticks low types s (OfNode g (core.Allocate count element (is_ended (Pointer modes.Checked kind t)) b) (Pointer modes.Checked kind t)) (value true setting k (core.Allocate count element (is_ended (Pointer modes.Checked kind t)) b) s)
-      allocate_goes count kind t element b new bounds s h goes =
-          goes_on g budget ticks low types s (λ v u. OfType g (Pointer modes.Checked kind t) v u × IsBounded g (Pointer modes.Checked kind t) b v u) (OfNode g (core.Allocate count element (is_ended (Pointer modes.Checked kind t)) b) (Pointer modes.Checked kind t))
-          (and_then (and_then (value true setting k count s) (number_given None)) (allocated trusted (is_ended (Pointer modes.Checked kind t)) element)) (audit true b)
+      pub allocate_goes : (count : core.Expression) (kind : Kind) (t : CType) (element : List Initial) (terminator : Terminator) → is_terminated terminator ≡ is_ended (Pointer modes.Checked kind t) → (b : Option PointerBounds) → IsNewRow g.structs kind t element → AreNewBounds g.structs here.locals terminator count t b → (s : State) → IsHere s
+          → Goes g budget ticks low types s (OfType g Int) (value true setting k count s) → Goes g budget ticks low types s (OfNode g (core.Allocate count element terminator b) (Pointer modes.Checked kind t)) (value true setting k (core.Allocate count element terminator b) s)
+      allocate_goes count kind t element terminator alike b new bounds s h goes =
+          goes_on g budget ticks low types s (λ v u. OfType g (Pointer modes.Checked kind t) v u × IsBounded g (Pointer modes.Checked kind t) b v u) (OfNode g (core.Allocate count element terminator b) (Pointer modes.Checked kind t))
+          (and_then (and_then (value true setting k count s) (number_given None)) (allocated trusted terminator element)) (audit true b)
           (goes_on g budget ticks low types s (IsCounted count) (λ v u. OfType g (Pointer modes.Checked kind t) v u × IsBounded g (Pointer modes.Checked kind t) b v u)
-          (and_then (value true setting k count s) (number_given None)) (allocated trusted (is_ended (Pointer modes.Checked kind t)) element) (counted_goes count s h goes)
-          (λ z u _ counts u_kept. bounded_new count kind t element new b bounds u z counts u_kept))
-          (λ v u _ x u_kept. bounded_goes g budget ticks low types u modes.Checked kind t b v (new_size count kind t b bounds) x.0 x.1 u_kept)
+          (and_then (value true setting k count s) (number_given None)) (allocated trusted terminator element) (counted_goes count s h goes)
+          (λ z u _ counts u_kept. bounded_new count kind t element new terminator alike b bounds u z counts u_kept))
+          (λ v u _ x u_kept. bounded_goes g budget ticks low types u modes.Checked kind t b v (new_size count kind t terminator alike b bounds) x.0 x.1 u_kept)
 
-      pub allocate_given : (count : core.Expression) (kind : Kind) (t : CType) (element : List Initial) (b : Option PointerBounds) → AreNewBounds g.structs here.locals count kind t b → (s : State) → Goes g budget ticks low types s (OfNode g (core.Allocate count element (is_ended (Pointer modes.Checked kind t)) b) (Pointer modes.Checked kind t)) (value true setting k (core.Allocate count element (is_ended (Pointer modes.Checked kind t)) b) s)
-          → WhereGiven (GivenTo (core.Allocate count element (is_ended (Pointer modes.Checked kind t)) b) modes.Checked kind t) (value true setting k (core.Allocate count element (is_ended (Pointer modes.Checked kind t)) b) s)
-      allocate_given count kind t element _ typed.uncounted s goes = given_none (core.Allocate count element (is_ended (Pointer modes.Checked kind t)) None) modes.Checked kind t s refl refl
-      allocate_given count kind t element _ (typed.by_term {n = n} {site = site} counts) s goes =
-          freely_given (core.Allocate count element (is_ended (Pointer modes.Checked kind t)) (Some (at_node (counted n) (size_of g.structs t) (is_ended (Pointer modes.Checked kind t)) site))) modes.Checked kind t (at_node (counted n) (size_of g.structs t) (is_ended (Pointer modes.Checked kind t)) site) s refl refl refl
-          (record { lo = tt; hi = (term_formed here.locals count n counts).int }) goes
+      pub allocate_given : (count : core.Expression) (kind : Kind) (t : CType) (element : List Initial) (terminator : Terminator) (b : Option PointerBounds) → AreNewBounds g.structs here.locals terminator count t b → (s : State) → Goes g budget ticks low types s (OfNode g (core.Allocate count element terminator b) (Pointer modes.Checked kind t)) (value true setting k (core.Allocate count element terminator b) s)
+          → WhereGiven (GivenTo (core.Allocate count element terminator b) modes.Checked kind t) (value true setting k (core.Allocate count element terminator b) s)
+      allocate_given count kind t element terminator _ typed.uncounted s goes = given_none (core.Allocate count element terminator None) modes.Checked kind t s refl refl
+      allocate_given count kind t element terminator _ (typed.by_term {n = n} {site = site} counts) s goes =
+          freely_given (core.Allocate count element terminator (Some (at_node (counted n) (size_of g.structs t) (is_terminated terminator) site))) modes.Checked kind t (at_node (counted n) (size_of g.structs t) (is_terminated terminator) site) s refl refl refl
+          (record { lo = tt; hi = (before_formed here.locals terminator count n counts).int }) goes
 
       -- ---- casts
 

@@ -63,7 +63,7 @@ module _ (g : Frame) (locals : List CType) where
   right_pointer (typed.call known h asked bounds) m target is = tt
   right_pointer typed.next_input m target is = tt
   right_pointer (typed.allocate h fresh bounds) m target is = tt
-  right_pointer (typed.allocate_ended h fresh bounds) m target is = tt
+  right_pointer (typed.allocate_ended h ended fresh bounds) m target is = tt
   right_pointer (typed.byte_count h elements) m target is = tt
   right_pointer (typed.cast h elements counts within size limited ints bases) m target is = tt
   right_pointer (typed.cast_single h elements within bounds) m target is = tt
@@ -109,7 +109,7 @@ module _ (g : Frame) (locals : List CType) where
   right_typed (typed.call known h asked bounds) = tt
   right_typed typed.next_input = tt
   right_typed (typed.allocate h fresh bounds) = tt
-  right_typed (typed.allocate_ended h fresh bounds) = tt
+  right_typed (typed.allocate_ended h ended fresh bounds) = tt
   right_typed (typed.byte_count h elements) = tt
   right_typed (typed.cast h elements counts within size limited ints bases) = tt
   right_typed (typed.cast_single h elements within bounds) = tt

@@ -1,14 +1,18 @@
 -- The two sides of a program that was walked.
-use Rattle.std.proofs.Common.{◌≡◌, ℕ, Bool, true, false, List, [], ◌∷◌, map, Option, refl, ap}
+use Rattle.std.proofs.Common.{◌≡◌, ℕ, ◌+◌, ◌≤◌, Bool, true, false, List, [], ◌∷◌, ◌++◌, map, Option, refl, ap}
+use Rattle.std.specs.Prelude.{nat_le}
+use Rattle.std.proofs.lemmas.Bool.{leb-true}
+use Rattle.ckc_text.specs.declared.place.Span.{Span}
 use Rattle.bounds_exprs.specs.declared.term.Bounds.{Bounds}
 use Rattle.ckc_core.specs.Programs.{Import, Trusted, Tainted, trusted_of, tainted_of, parted}
 use Rattle.ckc_core.specs.Core as core
-use Rattle.ckc_core.specs.Core.{Parted}
-use Rattle.region_typing_rules.specs.Verdicts.{picked}
+use Rattle.ckc_core.specs.Core.{Core, Parted}
+use Rattle.region_typing_rules.specs.Verdicts.{Passes, picked}
 use Rattle.region_typing_rules.specs.Scopes.{Signature, bounds_in}
 use Rattle.region_typing_rules.specs.Expressions.{is_import, side_number}
+use Rattle.region_typing_rules.specs.Strings.{texts_size, text_object}
 use Rattle.region_typing_rules.specs.Items.{Defined, Walk}
-use Rattle.region_typing_rules.specs.Cores.{body_of, import_of, definitions_of, core_of}
+use Rattle.region_typing_rules.specs.Cores.{body_of, import_of, definitions_of, core_of, small_core}
 
 -- functions that aren't tainted, in their order
 abbrev pub trusted_functions : List Defined → List Signature → List core.Function
@@ -34,7 +38,7 @@ tainted_functions (f ∷ functions) = picked (is_import f) (import_of f ∷ tain
 abbrev pub sides_of : ℕ → Walk → Parted
 sides_of entry w =
     record {
-      objects = w.objects;
+      objects = w.objects ++ map text_object w.scope.strings.texts;
       imports = tainted_functions w.scope.functions;
       functions = trusted_functions w.bodies w.scope.functions;
       main = side_number false w.scope.functions entry 0;
@@ -62,3 +66,15 @@ tainted_same bodies (f ∷ functions) = by (is_import f) (tainted_same bodies fu
 
 pub sides_parted : (entry : ℕ) (w : Walk) → sides_of entry w ≡ parted (core_of entry w)
 sides_parted entry w = rw (trusted_same w.bodies w.scope.functions, tainted_same w.bodies w.scope.functions) refl
+
+-- the core of a walk, whose variables and strings take few bytes
+pub record IsCoreOf (entry : ℕ) (w : Walk) (c : Core) : Type 0 where
+  pub same : core_of entry w ≡ c
+  pub room : w.taken + texts_size w.scope.strings.texts ≤ 32768
+
+pub core_is : (entry : ℕ) (span : Span) (w : Walk) (c : Core) → small_core entry span w ≡ Passes c → IsCoreOf entry w c
+core_is entry span w c e = by (nat_le (w.taken + texts_size w.scope.strings.texts) 32768) refl
+  where
+    by : (test : Bool) → nat_le (w.taken + texts_size w.scope.strings.texts) 32768 ≡ test → IsCoreOf entry w c
+    by true few = record { same = (let e' = rw few at e in cc); room = leb-true (w.taken + texts_size w.scope.strings.texts) 32768 few }
+    by false few = absurd (let e' = rw few at e in cc)

@@ -18,6 +18,7 @@ use Rattle.pointer_modes.specs.Types.{CType, Int, Char, Struct, Pointer}
 use Rattle.ckc_core.specs.Core as core
 use Rattle.ckc_core.specs.States.{Value, Number, Null, At, Local, Grows, State, shape, shapes, stored, same_type, has_type, object_block}
 use Rattle.ckc_core.specs.declared.program.PointerBounds.{PointerBounds}
+use Rattle.ckc_core.specs.declared.program.Terminator.TheVariants as terminators
 use Rattle.ckc_core.specs.declared.program.Direction.{Direction}
 use Rattle.ckc_core.specs.declared.program.Direction.TheVariants as directions
 use Rattle.bounds_exprs.specs.declared.term.Bounds.{Bounds}
@@ -162,9 +163,9 @@ module _ (g : Frame) (budget ticks : ℕ) where
             with_none g budget ticks sandbox trusted k is low types here flow reaches (core.LowByte e) Char s (λ v u _. tt) (goes_on g budget ticks low types s (OfType g Int) (OfType g Char) (value true (setting g budget ticks sandbox trusted k is) k e s) low_byte_of (typed_alone g budget ticks sandbox trusted k is low types here flow reaches e Int s (value_goes here flow tracked reaches h s here')) (λ v u _ typed u_kept. byte_goes g budget ticks low types u v typed u_kept))
         value_goes here flow tracked reaches (typed.call {callee = callee} {ts = ts} {bs = bs} {r = r} {arguments = arguments} {t = t} {b = b} known h asked bounds) s here' = call_goes g budget ticks sandbox trusted k is low types here flow reaches callee arguments ts bs t r b known bounds asked s here' (values_go here flow tracked reaches h s here')
         value_goes here flow tracked reaches (typed.allocate {count = count} {t = t} {element = element} {b = b} h fresh bounds) s here' =
-            allocate_goes g budget ticks sandbox trusted k is low types here flow reaches count kinds.Array t element b (array_row g.structs t element fresh.size fresh.cells fresh.initial) bounds s here' (typed_alone g budget ticks sandbox trusted k is low types here flow reaches count Int s (value_goes here flow tracked reaches h s here'))
-        value_goes here flow tracked reaches (typed.allocate_ended {count = count} {t = t} {element = element} {b = b} h fresh bounds) s here' =
-            allocate_goes g budget ticks sandbox trusted k is low types here flow reaches count kinds.Nt t element b (ended_row_new g.structs t element fresh) bounds s here' (typed_alone g budget ticks sandbox trusted k is low types here flow reaches count Int s (value_goes here flow tracked reaches h s here'))
+            allocate_goes g budget ticks sandbox trusted k is low types here flow reaches count kinds.Array t element terminators.Absent refl b (array_row g.structs t element fresh.size fresh.cells fresh.initial) bounds s here' (typed_alone g budget ticks sandbox trusted k is low types here flow reaches count Int s (value_goes here flow tracked reaches h s here'))
+        value_goes here flow tracked reaches (typed.allocate_ended {count = count} {terminator = terminator} {t = t} {element = element} {b = b} h ended fresh bounds) s here' =
+            allocate_goes g budget ticks sandbox trusted k is low types here flow reaches count kinds.Nt t element terminator ended b (ended_row_new g.structs t element fresh) bounds s here' (typed_alone g budget ticks sandbox trusted k is low types here flow reaches count Int s (value_goes here flow tracked reaches h s here'))
         value_goes here flow tracked reaches (typed.byte_count {mode = m} {e = e} {p = p} {site = site} h elements) s here' =
             with_none g budget ticks sandbox trusted k is low types here flow reaches (core.Length e site) Int s (λ v u _. tt)
             (goes_on g budget ticks low types s (λ v u. IsAimed g budget ticks low types m kinds.Nt Char p elements.node (with_ends (bounds_of e) v u.locals) u × IsLocalOf g budget ticks sandbox trusted k is low types here flow reaches e m kinds.Nt Char v u) (OfType g Int) (value true (setting g budget ticks sandbox trusted k is) k e s) _
@@ -257,11 +258,11 @@ module _ (g : Frame) (budget ticks : ℕ) where
         given_so here flow tracked reaches (typed.call {callee = callee} {ts = ts} {r = r} {arguments = arguments} {t = c} {b = b} known h asked bounds) m d t same s here' goes = call_given g budget ticks sandbox trusted k is low types here flow reaches callee arguments ts c r b bounds m d t same s here' goes
         given_so here flow tracked reaches typed.next_input m d t same s here' goes = absurd (cc)
         given_so here flow tracked reaches (typed.allocate {count = count} {t = t'} {element = element} {b = b} h fresh bounds) m d t same s here' goes =
-            subst (λ c. WhereGiven (AreGiven g.structs (length here.locals) c (core.Allocate count element false b)) (value true (setting g budget ticks sandbox trusted k is) k (core.Allocate count element false b) s)) same
-            (allocate_given g budget ticks sandbox trusted k is low types here flow reaches count kinds.Array t' element b bounds s goes)
-        given_so here flow tracked reaches (typed.allocate_ended {count = count} {t = t'} {element = element} {b = b} h fresh bounds) m d t same s here' goes =
-            subst (λ c. WhereGiven (AreGiven g.structs (length here.locals) c (core.Allocate count element true b)) (value true (setting g budget ticks sandbox trusted k is) k (core.Allocate count element true b) s)) same
-            (allocate_given g budget ticks sandbox trusted k is low types here flow reaches count kinds.Nt t' element b bounds s goes)
+            subst (λ c. WhereGiven (AreGiven g.structs (length here.locals) c (core.Allocate count element terminators.Absent b)) (value true (setting g budget ticks sandbox trusted k is) k (core.Allocate count element terminators.Absent b) s)) same
+            (allocate_given g budget ticks sandbox trusted k is low types here flow reaches count kinds.Array t' element terminators.Absent b bounds s goes)
+        given_so here flow tracked reaches (typed.allocate_ended {count = count} {terminator = terminator} {t = t'} {element = element} {b = b} h ended fresh bounds) m d t same s here' goes =
+            subst (λ c. WhereGiven (AreGiven g.structs (length here.locals) c (core.Allocate count element terminator b)) (value true (setting g budget ticks sandbox trusted k is) k (core.Allocate count element terminator b) s)) same
+            (allocate_given g budget ticks sandbox trusted k is low types here flow reaches count kinds.Nt t' element terminator b bounds s goes)
         given_so here flow tracked reaches (typed.cast {e = e} {mode = m'} {kind = kind} {kind' = kind'} {t = t'} {p = p} {q = q} h elements counts within size limited ints bases) m d t same s here' goes =
             subst (λ c. WhereGiven (AreGiven g.structs (length here.locals) c (core.Cast e (Some q))) (value true (setting g budget ticks sandbox trusted k is) k (core.Cast e (Some q)) s)) same
             (so_on (λ v u. IsCast g budget ticks sandbox trusted k is low types here flow reaches e m' kind t' q v u × IsAfter s u × IsKept g budget ticks low types u) (GivenTo g budget ticks sandbox trusted k is low types here flow reaches (core.Cast e (Some q)) m' kind' t') (and_then (value true (setting g budget ticks sandbox trusted k is) k e s) (λ v u. cast_to (Some q) (with_ends (bounds_of e) v u.locals) u)) (audit true (Some q))
@@ -414,8 +415,8 @@ module _ (g : Frame) (budget ticks : ℕ) where
       behind_so (typed.byte_count {e = e} {site = site} he elements) s h = nowhere (core.Length e site) s (λ b is. absurd (cc))
       behind_so (typed.call {callee = callee} {arguments = arguments} {b = c} known ha asked bounds) s h = nowhere (core.Call callee arguments c) s (λ b is. absurd (cc))
       behind_so typed.next_input s h = nowhere core.NextInput s (λ b is. absurd (cc))
-      behind_so (typed.allocate {count = count} {element = element} {b = c} hn fresh bounds) s h = nowhere (core.Allocate count element false c) s (λ b is. absurd (cc))
-      behind_so (typed.allocate_ended {count = count} {element = element} {b = c} hn fresh bounds) s h = nowhere (core.Allocate count element true c) s (λ b is. absurd (cc))
+      behind_so (typed.allocate {count = count} {element = element} {b = c} hn fresh bounds) s h = nowhere (core.Allocate count element terminators.Absent c) s (λ b is. absurd (cc))
+      behind_so (typed.allocate_ended {count = count} {terminator = terminator} {element = element} {b = c} hn ended fresh bounds) s h = nowhere (core.Allocate count element terminator c) s (λ b is. absurd (cc))
       behind_so (typed.cast {e = e} {q = q} he elements counts within size limited ints bases) s h = nowhere (core.Cast e (Some q)) s (λ b is. absurd (cc))
       behind_so (typed.cast_single {e = e} {b = c} he elements within bounds) s h = nowhere (core.Cast e c) s (λ b is. absurd (cc))
       behind_so (typed.cast_unbounded {e = e} he elements counts) s h = nowhere (core.Cast e None) s (λ b is. absurd (cc))

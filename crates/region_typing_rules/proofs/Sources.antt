@@ -33,13 +33,15 @@ use Rattle.region_typing_rules.specs.Scopes.{Scope, Signature, WrittenBounds, Fi
 use Rattle.region_typing_rules.specs.Types.{type_named, is_number, is_pointer, are_comparable}
 use Rattle.region_typing_rules.specs.Expressions.{Places, OfLocal, OfCell, OfBounded, OfUnknown, Standing, ForNothing, ForArray, For, Typed, Value, AStruct, Called, Gives, GivesNothing, site_at, with_bounds, with_cell_bounds, in_cell, number, at_place, local_typed, name_typed, object_typed, is_array, local_standing}
 use Rattle.region_typing_rules.specs.Expressions.{struct_place, member_place, member_from, offset_among, member_at, dotted, with_elements, first_element, first_or_end, pointed_by, arrowed, pointed_at, dereferenced, address, number_of, scalar_of, unary_typed, two_numbers, two_scalars, operator_along, summed, sum_typed}
-use Rattle.region_typing_rules.specs.Expressions.{equated, zero_test, are_related, ordered_values, ordered, arithmetic, binary_typed, beside, element_at, indexed, arguments_as, is_import, call_of, declared_callee, first_of, writes, is_text, length_typed, measures, constant_typed, predefined_call, called, with_result, typed, all_typed, call_typed, cast_typed, cast_bounds}
+use Rattle.region_typing_rules.specs.Expressions.{equated, zero_test, are_related, ordered_values, ordered, arithmetic, binary_typed, beside, element_at, indexed, arguments_as, is_import, call_of, declared_callee, first_of, writes, is_text, length_typed, text_pointer, measures, constant_typed, predefined_call, called, with_result, typed, all_typed, call_typed, cast_typed, cast_bounds}
 use Rattle.region_typing_rules.specs.Knowing.{local_number}
 use Rattle.region_typing_rules.proofs.Knowledge.{crossing_promises}
-use Rattle.region_typing_rules.proofs.Verdicts.{Promises, passing_promises, needs_promises, promised_so, elements_promise, apart_promises, all_met_promise}
+use Rattle.region_typing_rules.proofs.Verdicts.{Promises, passing_promises, needs_promises, convertible_promises, promised_so, elements_promise, apart_promises, all_met_promise}
 use Rattle.region_typing_rules.proofs.Kept.{passing_any}
 use Rattle.region_typing_rules.proofs.Memory.{of_any, malloc_promises, calloc_promises, cast_promises}
 use Rattle.region_typing_rules.proofs.Assigns.{IsPlain}
+use Rattle.region_typing_rules.proofs.TextBlocks.{any_text}
+use Rattle.region_typing_rules.specs.Strings.{text_at}
 
 -- ---- expressions that are no locals
 
@@ -242,7 +244,7 @@ length_fresh (AStruct number place) site span = tt
 
 measures_fresh : (arguments : List (Typed × Span)) (site : Site) (span : Span) → Promises IsFreshCall (measures arguments site span)
 measures_fresh [] site span = tt
-measures_fresh (a ∷ arguments) site span = needs_promises IsFreshCall (length (a ∷ arguments) == 1) E14 span _ (λ one. length_fresh a.0 site span)
+measures_fresh (a ∷ arguments) site span = needs_promises IsFreshCall (length (a ∷ arguments) == 1) E14 span _ (λ one. convertible_promises IsFreshCall a.0 text_pointer a.1 (length_typed a.0 site span) (length_fresh a.0 site span))
 
 predefined_fresh : (given : Given) (name : ℕ) (arguments : List (Typed × Span)) (site : Site) (span : Span) → Promises IsFreshCall (predefined_call given name arguments site span)
 predefined_fresh given name arguments site span = by (name == given.next_input) (name == given.print_int) (name == given.putchar) (name == given.strlen) refl refl refl refl
@@ -436,7 +438,7 @@ cast_fresh word s t a written site span = cast_promises IsFresh word s t a writt
 pub typed_source : (at : Places) (s : Scope) (x : Expression) → Promises (IsSource s x) (typed at s x)
 typed_source at s (e.Number value span) = fresh_sources s (e.Number value span) (constant_typed value (value == 0) span) (constant_fresh value (value == 0) span)
 typed_source at s (e.Character value span) = fresh_sources s (e.Character value span) (constant_typed value false span) (constant_fresh value false span)
-typed_source at s (e.Text bytes span) = tt
+typed_source at s (e.Text bytes span) = any_text (IsSource s (e.Text bytes span)) s.structs (text_at s.strings span.from) (site_at at span) span (λ t. tt)
 typed_source at s (e.Name name) =
     passing_promises (IsSource s (e.Name name)) (IsSource s (e.Name name)) (passing (named s name.number) (λ n. Passes (name_typed s n (site_at at name.span)))) _
     (passing_promises (IsLocalAt s name.number) (IsSource s (e.Name name)) (named s name.number) _ (named_at s name.number) (name_source s name (site_at at name.span))) (with_bounds_source s (e.Name name) (site_at at name.span))

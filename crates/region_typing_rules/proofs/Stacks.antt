@@ -38,13 +38,15 @@ use Rattle.ckc_names_rules.specs.declared.given.Given.{Given}
 use Rattle.region_typing_rules.specs.Verdicts.{Verdict, Passes, passing, picked}
 use Rattle.region_typing_rules.specs.Scopes.{Scope, Signature, WrittenBounds, Named, Local, Object, Array, Nothing, named, function_named, members_named}
 use Rattle.region_typing_rules.specs.Types.{type_named, is_number, is_pointer, are_comparable, converts}
-use Rattle.region_typing_rules.specs.Expressions.{Places, OfLocal, OfCell, OfBounded, OfUnknown, Standing, ForNothing, ForArray, For, Typed, Value, AStruct, Called, Gives, GivesNothing, site_at, bounds_at, noted, noted_if, with_bounds, cell_bounds, with_cell_bounds, sum_node, bounded, in_cell, plain, number, at_place, local_typed, name_typed, object_typed, member_place, member_from, offset_among, member_at, dotted, first_element, first_or_end, pointed_by, arrowed, pointed_at, dereferenced, pointer_to, address, number_of, scalar_of, unary_typed, two_numbers, two_scalars, operator_along, summed, sum_typed, as_pointer, equated_values, equated, is_ended_element, zero_test, are_related, ordered_values, ordered, arithmetic, binary_typed, beside as right_scope, element_at, indexed, in_type, converted, arguments_as, is_import, call_of, declared_callee, first_of, writes, is_text, length_typed, measures, predefined_call, called, with_result, typed, all_typed, call_typed, malloc_typed, calloc_typed, cast_typed, cast_bounds, is_array, local_standing}
+use Rattle.region_typing_rules.specs.Expressions.{Places, OfLocal, OfCell, OfBounded, OfUnknown, Standing, ForNothing, ForArray, For, Typed, Value, AStruct, Called, Gives, GivesNothing, site_at, bounds_at, noted, noted_if, with_bounds, cell_bounds, with_cell_bounds, sum_node, bounded, in_cell, plain, number, at_place, local_typed, name_typed, object_typed, member_place, member_from, offset_among, member_at, dotted, first_element, first_or_end, pointed_by, arrowed, pointed_at, dereferenced, pointer_to, address, number_of, scalar_of, unary_typed, two_numbers, two_scalars, operator_along, summed, sum_typed, as_pointer, equated_values, equated, is_ended_element, zero_test, are_related, ordered_values, ordered, arithmetic, binary_typed, beside as right_scope, element_at, indexed, in_type, converted, arguments_as, is_import, call_of, declared_callee, first_of, writes, is_text, length_typed, text_pointer, measures, predefined_call, called, with_result, typed, all_typed, call_typed, malloc_typed, calloc_typed, cast_typed, cast_bounds, is_array, local_standing}
 use Rattle.region_typing_rules.proofs.RightOperands.{in_right}
 use Rattle.region_typing_rules.proofs.Knowledge.{crossing_promises}
 use Rattle.region_typing_rules.proofs.Kept.{passing_any}
 use Rattle.region_typing_rules.proofs.Memory.{IsCount, OfBytes, OfOne, OfLeft, OfRight, malloc_promises, calloc_promises, cast_promises}
-use Rattle.region_typing_rules.proofs.Verdicts.{Promises, passing_promises, needs_promises, anything_promised, promised_so, elements_promise, apart_promises, all_met_promise}
+use Rattle.region_typing_rules.proofs.Verdicts.{Promises, passing_promises, needs_promises, convertible_promises, anything_promised, promised_so, elements_promise, apart_promises, all_met_promise}
 use Rattle.region_typing_rules.proofs.Signatures.{named_has}
+use Rattle.region_typing_rules.proofs.TextBlocks.{any_text}
+use Rattle.region_typing_rules.specs.Strings.{text_at}
 
 -- ---- heights
 
@@ -140,7 +142,7 @@ noted_low b (core.Call callee arguments bounds) = refl
 noted_low b core.NextInput = refl
 noted_low b (core.Sum pointer direction number site bounds) = refl
 noted_low b (core.Order comparison left right site) = refl
-noted_low b (core.Allocate count element terminated bounds) = refl
+noted_low b (core.Allocate count element terminator bounds) = refl
 noted_low b (core.Length pointer site) = refl
 noted_low b (core.Cast pointer bounds) = refl
 
@@ -438,7 +440,7 @@ length_low n (AStruct number place) site span h = tt
 
 measures_low : (n : ℕ) (arguments : List (Typed × Span)) (site : Site) (span : Span) → AllLow n arguments → Promises (LowCall (n + 16)) (measures arguments site span)
 measures_low n [] site span all = tt
-measures_low n (a ∷ arguments) site span all = needs_promises (LowCall (n + 16)) (length (a ∷ arguments) == 1) E14 span (length_typed a.0 site span) (λ one. length_low n a.0 site span all.0)
+measures_low n (a ∷ arguments) site span all = needs_promises (LowCall (n + 16)) (length (a ∷ arguments) == 1) E14 span _ (λ one. convertible_promises (LowCall (n + 16)) a.0 text_pointer a.1 (length_typed a.0 site span) (length_low n a.0 site span all.0))
 
 predefined_low : (n : ℕ) (given : Given) (name : ℕ) (arguments : List (Typed × Span)) (site : Site) (span : Span) → 1 ≤ n → AllLow n arguments → Promises (LowCall (n + 16)) (predefined_call given name arguments site span)
 predefined_low n given name arguments site span one all = by (name == given.next_input) (name == given.print_int) (name == given.putchar) (name == given.strlen) refl refl refl refl
@@ -502,7 +504,7 @@ mutual
   pub typed_low : (s : Scope) (few : AllByRecursion HasFew s.functions) (at : Places) (x : Expression) (n : ℕ) → 17 * (expression_reach x).height ≤ n → Promises (Low n) (typed at s x)
   typed_low s few at (e.Number value span) n h = needs_promises (Low n) (nat_lt value (2 ^ 31)) E04 span _ (λ low. (omega arith, tt))
   typed_low s few at (e.Character value span) n h = needs_promises (Low n) (nat_lt value (2 ^ 31)) E04 span _ (λ low. (omega arith, tt))
-  typed_low s few at (e.Text bytes span) n h = tt
+  typed_low s few at (e.Text bytes span) n h = any_text (Low n) s.structs (text_at s.strings span.from) (site_at at span) span (λ t. (omega arith, tt))
   typed_low s few at (e.Name name) n h = bounded_low n s (site_at at name.span) (passing (named s name.number) (λ x. Passes (name_typed s x (site_at at name.span)))) (passing_promises (λ (x : Named). Unit {0}) (Low n) (named s name.number) _ (anything_promised (named s name.number)) (λ x _. name_low n s x (site_at at name.span) (omega arith)))
   typed_low s few at (e.Call callee arguments span) n h =
       let parts = expressions_reach arguments in

@@ -260,4 +260,4 @@ module _ (g : Frame) (types : List CType) (all_scalar : AllByRecursion IsScalar 
   statements_from a b xs h typed = subst (λ r. AreStatements g types r a.result_bounds a.in_loop xs) (sym h.result) (subst (λ k. AreStatements g types b.result k a.in_loop xs) (sym h.asked) (subst (λ l. AreStatements g types b.result b.result_bounds l xs) (sym h.loop) typed))
 
 pub in_loop_known : (g : Frame) (s : Scope) → KnowsFile g s → KnowsFile g (in_loop s)
-in_loop_known g s file = record { structs = file.structs; closed = file.closed; few_members = file.few_members; scalar_members = file.scalar_members; variables = file.variables; trusted = file.trusted; tainted = file.tainted }
+in_loop_known g s file = record { structs = file.structs; closed = file.closed; few_members = file.few_members; scalar_members = file.scalar_members; variables = file.variables; texts = file.texts; trusted = file.trusted; tainted = file.tainted }

@@ -3,6 +3,7 @@ use Rattle.std.proofs.Common.{◌≡◌, ℕ, ◌≤◌, ℤ, pos, ◌+ℤ◌, �
 use Rattle.std.specs.Prelude.{not, ◌||◌, neg_ℤ, slice_get, cond}
 use Rattle.std.specs.Int.Signed.{le_z}
 use Rattle.std.proofs.lemmas.Int.{ints}
+use Rattle.std.proofs.lemmas.Bool.{le-leb}
 use Rattle.std.proofs.lemmas.Option.{slice_get_within}
 use Rattle.act_words.specs.Checks.{is_word_number, held_if}
 use Rattle.act_words.specs.declared.ending.Ending.{Ending}
@@ -24,6 +25,7 @@ use Rattle.bounds_flow_meaning.proofs.Numbers.{local_there, numbers_there}
 use Rattle.bounds_flow_meaning.proofs.Validity.{both_true, int_from}
 use Rattle.ckc_core.specs.declared.program.Site.{Site}
 use Rattle.ckc_core.specs.declared.program.PointerBounds.{PointerBounds}
+use Rattle.ckc_core.specs.declared.program.Terminator.{Terminator}
 use Rattle.ckc_core.specs.Outcome.{Gives, Ends, Stuck, Unsound, Short, and_then}
 use Rattle.ckc_core.specs.Core as core
 use Rattle.ckc_core.specs.States.{Value, Number, Null, At, Local, State, has_type}
@@ -31,6 +33,7 @@ use Rattle.ckc_core.specs.Bounds.{is_valid}
 use Rattle.ckc_core.specs.Steps.{Result, given, value_if, checked, arithmetic_of}
 use Rattle.ckc_core.specs.Meaning.{Knot, Setting, audit, sound_if, value}
 use Rattle.region_typing_rules.specs.Readings.{term}
+use Rattle.region_typing_rules.specs.Typed.{IsBeforeZero, all_of, all_before, all_but_last}
 use Rattle.region_typing_rules.specs.KnownIsSo.{WhereGiven, HasLocals}
 use Rattle.region_typing_rules.proofs.Keeping.{IsAfter, CallsKeep, value_after}
 
@@ -171,9 +174,15 @@ term_formed types (core.Call callee arguments bounds) t h = absurd (cc)
 term_formed types core.NextInput t h = absurd (cc)
 term_formed types (core.Sum pointer direction number site bounds) t h = absurd (cc)
 term_formed types (core.Order comparison left right site) t h = absurd (cc)
-term_formed types (core.Allocate count element terminated bounds) t h = absurd (cc)
+term_formed types (core.Allocate count element terminator bounds) t h = absurd (cc)
 term_formed types (core.Length pointer site) t h = absurd (cc)
 term_formed types (core.Cast pointer bounds) t h = absurd (cc)
+
+-- what the term of the bounds of new memory is
+pub before_formed : (types : List CType) (terminator : Terminator) (count : core.Expression) (n : Term) → IsBeforeZero types terminator count n → IsFormedTerm types n
+before_formed types _ count n (all_of counts) = term_formed types count n counts
+before_formed types _ count n (all_before counts) = term_formed types count n counts
+before_formed types _ _ _ (all_but_last {n = m} few) = record { int = tt; small = is_within_limit (pos m) (le-leb m term_limit (omega (arith, few))) }
 
 pub formed_below : (types : List CType) (vars : ℕ) (o : Option ℕ) → length types ≤ vars → IsInt types o → IsBelow vars o
 formed_below types vars None few h = tt
@@ -310,6 +319,6 @@ module _ (audited : Bool) (g : Setting) (k : Knot) (calls : CallsKeep k) (types 
   term_so core.NextInput s here = without_term core.NextInput s refl
   term_so (core.Sum pointer direction number site bounds) s here = without_term (core.Sum pointer direction number site bounds) s refl
   term_so (core.Order comparison left right site) s here = without_term (core.Order comparison left right site) s refl
-  term_so (core.Allocate count element terminated bounds) s here = without_term (core.Allocate count element terminated bounds) s refl
+  term_so (core.Allocate count element terminator bounds) s here = without_term (core.Allocate count element terminator bounds) s refl
   term_so (core.Length pointer site) s here = without_term (core.Length pointer site) s refl
   term_so (core.Cast pointer bounds) s here = without_term (core.Cast pointer bounds) s refl

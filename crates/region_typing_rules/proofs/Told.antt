@@ -87,7 +87,7 @@ pointer_is types (core.Call callee arguments bounds) p h = absurd (cc)
 pointer_is types core.NextInput p h = absurd (cc)
 pointer_is types (core.Sum pointer direction number site bounds) p h = absurd (cc)
 pointer_is types (core.Order comparison left right site) p h = absurd (cc)
-pointer_is types (core.Allocate count element terminated bounds) p h = absurd (cc)
+pointer_is types (core.Allocate count element terminator bounds) p h = absurd (cc)
 pointer_is types (core.Length pointer site) p h = absurd (cc)
 pointer_is types (core.Cast pointer bounds) p h = absurd (cc)
 
@@ -110,7 +110,7 @@ null_is (core.Call callee arguments bounds) h = absurd (cc)
 null_is core.NextInput h = absurd (cc)
 null_is (core.Sum pointer direction number site bounds) h = absurd (cc)
 null_is (core.Order comparison left right site) h = absurd (cc)
-null_is (core.Allocate count element terminated bounds) h = absurd (cc)
+null_is (core.Allocate count element terminator bounds) h = absurd (cc)
 null_is (core.Length pointer site) h = absurd (cc)
 null_is (core.Cast pointer bounds) h = absurd (cc)
 
@@ -258,7 +258,7 @@ module _ (types : List CType) (f : Knowledge) (few : length types ≤ f.vars) wh
   told_is core.NextInput truth h t = t
   told_is (core.Sum pointer direction number site bounds) truth h t = t
   told_is (core.Order comparison left right site) truth h t = t
-  told_is (core.Allocate count element terminated bounds) truth h t = t
+  told_is (core.Allocate count element terminator bounds) truth h t = t
   told_is (core.Length pointer site) truth h t = t
   told_is (core.Cast pointer bounds) truth h t = t
 
@@ -565,7 +565,7 @@ module _ (audited : Bool) (g : Setting) (k : Knot) (calls : CallsKeep k) (struct
   told_so core.NextInput f flow few nodes s has zeros h = plain core.NextInput f s flow (λ b. refl) h
   told_so (core.Sum pointer direction number site bounds) f flow few nodes s has zeros h = plain (core.Sum pointer direction number site bounds) f s flow (λ b. refl) h
   told_so (core.Order comparison left right site) f flow few nodes s has zeros h = plain (core.Order comparison left right site) f s flow (λ b. refl) h
-  told_so (core.Allocate count element terminated bounds) f flow few nodes s has zeros h = plain (core.Allocate count element terminated bounds) f s flow (λ b. refl) h
+  told_so (core.Allocate count element terminator bounds) f flow few nodes s has zeros h = plain (core.Allocate count element terminator bounds) f s flow (λ b. refl) h
   told_so (core.Length pointer site) f flow few nodes s has zeros h = plain (core.Length pointer site) f s flow (λ b. refl) h
   told_so (core.Cast pointer bounds) f flow few nodes s has zeros h = plain (core.Cast pointer bounds) f s flow (λ b. refl) h
 

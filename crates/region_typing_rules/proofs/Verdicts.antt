@@ -3,15 +3,16 @@ use Rattle.std.proofs.Common.{◌≡◌, ℕ, zero, suc, ◌≤◌, Bool, true, 
 use Rattle.std.specs.Prelude.{slice_get, not, ◌||◌, is_some}
 use Rattle.ckc_text.specs.declared.code.Code.{Code}
 use Rattle.ckc_text.specs.declared.place.Span.{Span}
-use Rattle.ckc_text.specs.declared.code.Code.TheVariants.{E17, E18, E19}
+use Rattle.ckc_text.specs.declared.code.Code.TheVariants.{E13, E17, E18, E19}
 use Rattle.bounds_exprs.specs.declared.term.Term.{Term}
 use Rattle.bounds_flow.specs.Flows.{Knowledge}
 use Rattle.pointer_modes.specs.Types.{CType}
 use Rattle.ckc_core.specs.Core as core
 use Rattle.ckc_core.specs.Meaning.{bounds_of}
 use Rattle.region_typing_rules.specs.Verdicts.{Verdict, Passes, Stops, passing, needs}
+use Rattle.region_typing_rules.specs.Types.{converts}
 use Rattle.region_typing_rules.specs.Scopes.{WrittenBounds, bounds_in}
-use Rattle.region_typing_rules.specs.Expressions.{Typed, Value, AStruct, with_elements, is_single_value, lacks_bounds, without_ptr, asked_of, meets, bounds_met, argument_meets, arguments_met}
+use Rattle.region_typing_rules.specs.Expressions.{Typed, Value, AStruct, converted, with_elements, is_single_value, lacks_bounds, without_ptr, asked_of, meets, bounds_met, argument_meets, arguments_met}
 
 -- what is so of the value where no rule is broken
 abbrev pub Promises : {A : Type 0} → (A → Type 0) → Verdict A → Type 0
@@ -25,6 +26,11 @@ passing_promises P Q (Stops stop) next h more = tt
 pub needs_promises : {A : Type 0} (Q : A → Type 0) (test : Bool) (code : Code) (span : Span) (next : Verdict A) → (test ≡ true → Promises Q next) → Promises Q (needs test code span next)
 needs_promises Q true code span next h = h refl
 needs_promises Q false code span next h = tt
+
+-- what is converted, and only that it converts is asked
+pub convertible_promises : {A : Type 0} (Q : A → Type 0) (a : Typed) (to : CType) (span : Span) (next : Verdict A) → Promises Q next → Promises Q (converted a to span (λ v. next))
+convertible_promises Q (Value type null value place) to span next h = needs_promises Q (converts type null to) E13 span next (λ yes. h)
+convertible_promises Q (AStruct number place) to span next h = tt
 
 pub anything_promised : {A : Type 0} (v : Verdict A) → Promises (λ (x : A). Unit {0}) v
 anything_promised (Passes value) = tt

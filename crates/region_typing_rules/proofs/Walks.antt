@@ -1,5 +1,5 @@
 -- What holds of a walk behind each item.
-use Rattle.std.proofs.Common.{◌≡◌, ℕ, zero, suc, ◌-◌, ◌*◌, ◌<◌, ◌≤◌, Bool, true, false, List, [], ◌∷◌, ◌++◌, take, map, length, replicate, Option, Some, None, refl, sym, ap, ◌∙◌, subst, arith}
+use Rattle.std.proofs.Common.{◌≡◌, ℕ, zero, suc, ◌+◌, ◌-◌, ◌*◌, ◌<◌, ◌≤◌, Bool, true, false, List, [], ◌∷◌, ◌++◌, take, map, length, replicate, Option, Some, None, refl, sym, ap, ◌∙◌, subst, arith}
 use Rattle.std.specs.Prelude.{◌==◌, slice_get, is_some}
 use Rattle.std.specs.List.{AllByRecursion}
 use Rattle.std.proofs.lemmas.Option.{same_Some}
@@ -15,6 +15,7 @@ use Rattle.region_typing_rules.specs.Verdicts.{picked}
 use Rattle.region_typing_rules.specs.Scopes.{Scope, Signature, WrittenBounds, FileVariable, bounds_in, function_named}
 use Rattle.region_typing_rules.specs.Types.{is_number}
 use Rattle.region_typing_rules.specs.Expressions.{is_import, side_number}
+use Rattle.region_typing_rules.specs.Strings.{text_object}
 use Rattle.region_typing_rules.specs.Items.{Defined, Walk, count_of}
 use Rattle.region_typing_rules.specs.Cores.{body_of}
 use Rattle.region_typing_rules.proofs.Sides.{trusted_functions, trusted_bounds, trusted_results, tainted_functions, sides_of}
@@ -23,7 +24,7 @@ use Rattle.bounds_flow_meaning.specs.Rows.{HasRow}
 use Rattle.region_typing_rules.specs.Typed.{Frame, HasResultBounds, HaveRows, AreRows, IsScalar, IsInitial}
 use Rattle.region_typing_rules.proofs.Safe.{AreSafe, IsSafe}
 use Rattle.region_typing_rules.specs.Lowerable.{objects_size, IsRoomy, IsSmall}
-use Rattle.region_typing_rules.proofs.Verdicts.{Extends, extends_length}
+use Rattle.region_typing_rules.proofs.Verdicts.{Extends, extends_append, extends_length}
 use Rattle.region_typing_rules.proofs.Known.{IsKnown, IsClosed, known_later, size_kept}
 use Rattle.region_typing_rules.proofs.Knowledge.{IsTrusted, IsTainted, IsObject, IsEndedArray, IsArrayIf, IsSingle, IsVariable, KnowsFile}
 use Rattle.region_typing_rules.proofs.DeclaredBounds.{IsConstantFor}
@@ -37,16 +38,20 @@ use Rattle.region_typing_rules.proofs.Signatures.{named_self, named_has, numbers
 pub record FileGrows (a b : Scope) : Type 0 where
   pub structs : Extends a.structs b.structs
   pub variables : Extends a.variables b.variables
+  pub texts : Extends a.strings.texts b.strings.texts
+  pub counted : a.strings.variables ≡ b.strings.variables
   pub functions : (name : ℕ) (f : Signature) → function_named a.functions name ≡ Some f → function_named b.functions name ≡ Some f
   pub numbers : (side : Bool) (name : ℕ) (f : Signature) → function_named a.functions name ≡ Some f → side_number side a.functions name 0 ≡ side_number side b.functions name 0
 
 pub file_stays : (s : Scope) → FileGrows s s
-file_stays s = record { structs = λ k x h. h; variables = λ k x h. h; functions = λ name f h. h; numbers = λ side name f h. refl }
+file_stays s = record { structs = λ k x h. h; variables = λ k x h. h; texts = λ k x h. h; counted = refl; functions = λ name f h. h; numbers = λ side name f h. refl }
 
 pub file_further : (a b c : Scope) → FileGrows a b → FileGrows b c → FileGrows a c
 file_further a b c h h' = record {
   structs = λ k x e. h'.structs k x (h.structs k x e);
   variables = λ k x e. h'.variables k x (h.variables k x e);
+  texts = λ k x e. h'.texts k x (h.texts k x e);
+  counted = h.counted ∙ h'.counted;
   functions = λ name f e. h'.functions name f (h.functions name f e);
   numbers = λ side name f e. h.numbers side name f e ∙ h'.numbers side name f (h.functions name f e);
 }
@@ -59,6 +64,7 @@ known_before g a b closed h known = record {
   few_members = earlier_members (λ members. length members ≤ 64) (omega arith) a.structs b.structs h.structs known.few_members;
   scalar_members = earlier_members (AllByRecursion (λ (m : Member). IsScalar m.ctype)) tt a.structs b.structs h.structs known.scalar_members;
   variables = λ k v e. known.variables k v (h.variables k v e);
+  texts = λ k t e. subst (λ n. slice_get g.program.objects (n + k) ≡ Some (text_object t)) (sym h.counted) (known.texts k t (h.texts k t e));
   trusted = λ name f found side. subst (λ n. IsTrusted g n f) (sym (same_number name f found false)) (known.trusted name f (h.functions name f found) side);
   tainted = λ name f found side. subst (λ n. IsTainted g n f) (sym (same_number name f found true)) (known.tainted name f (h.functions name f found) side);
 }
@@ -308,7 +314,13 @@ body_suits height s (b ∷ bodies) f all named = by (f.name == b.name) refl (bod
         rw e (record { parameters = all.0.parameters ∙ ap (λ (x : Signature). x.parameters) same; result = all.0.result ∙ ap (λ (x : Signature). x.result) same })
     by false e again = rw e again
 
-module _ (height entry : ℕ) (w : Walk) (well : IsWell height w) (settled : AreSettled w.scope.structs w.scope.variables w.objects) where
+-- behind some elements of a list stand those of another one
+behind_get : {X : Type 0} (xs ys : List X) (k : ℕ) → slice_get (xs ++ ys) (length xs + k) ≡ slice_get ys k
+behind_get [] ys k = let none : 0 + k ≡ k = omega arith in ap (slice_get ys) none
+behind_get (x ∷ xs) ys k = let more : suc (length xs) + k ≡ suc (length xs + k) = omega arith in ap (slice_get (x ∷ (xs ++ ys))) more ∙ behind_get xs ys k
+
+module _ (height entry : ℕ) (w : Walk) (well : IsWell height w) (settled : AreSettled w.scope.structs w.scope.variables w.objects)
+    (counted : w.scope.strings.variables ≡ length w.objects) where
   abbrev pub frame : Frame
   frame = record { program = sides_of entry w; structs = w.scope.structs; bounds = trusted_bounds w.scope.functions; result_bounds = trusted_results w.scope.functions; object_bounds = bounds_declared w.scope.variables }
 
@@ -354,7 +366,11 @@ module _ (height entry : ℕ) (w : Walk) (well : IsWell height w) (settled : Are
     few_members = well.few;
     scalar_members = well.scalars;
     variables = λ k v e.
-        (let there = settled_there w.scope.structs w.scope.variables w.objects k v settled e in variable_there frame k v there.0 there.1 there.2 (mapped_there (λ (v : FileVariable). bounds_in v.bounds) w.scope.variables k v e));
+        (let there = settled_there w.scope.structs w.scope.variables w.objects k v settled e in
+        variable_there frame k v there.0 (extends_append w.objects (map text_object w.scope.strings.texts) k there.0 there.1) there.2
+        (mapped_there (λ (v : FileVariable). bounds_in v.bounds) w.scope.variables k v e));
+    texts = λ k t e.
+        (rw counted (behind_get w.objects (map text_object w.scope.strings.texts) k ∙ mapped_there text_object w.scope.strings.texts k t e));
     trusted = trusted_known;
     tainted = tainted_known;
   }

@@ -36,11 +36,13 @@ use Rattle.ckc_names_rules.specs.declared.given.Given.{Given}
 use Rattle.region_typing_rules.specs.Verdicts.{Verdict, Passes, passing, picked}
 use Rattle.region_typing_rules.specs.Scopes.{Scope, Signature, WrittenBounds, Named, Local, Object, Array, Nothing, named, function_named, members_named}
 use Rattle.region_typing_rules.specs.Types.{type_named, is_number, is_pointer, are_comparable, converts}
-use Rattle.region_typing_rules.specs.Expressions.{Places, OfLocal, OfCell, OfBounded, OfUnknown, Standing, ForNothing, ForArray, For, Typed, Value, AStruct, Called, Gives, GivesNothing, site_at, bounds_at, noted, noted_if, with_bounds, cell_bounds, with_cell_bounds, sum_node, bounded, in_cell, plain, number, at_place, local_typed, name_typed, object_typed, member_place, member_from, offset_among, member_at, dotted, first_element, first_or_end, pointed_by, arrowed, pointed_at, dereferenced, pointer_to, address, number_of, scalar_of, unary_typed, two_numbers, two_scalars, operator_along, summed, sum_typed, as_pointer, equated_values, equated, is_ended_element, zero_test, are_related, ordered_values, ordered, arithmetic, binary_typed, beside, element_at, indexed, in_type, converted, arguments_as, is_import, call_of, declared_callee, first_of, writes, is_text, length_typed, measures, predefined_call, called, with_result, typed, all_typed, call_typed, malloc_typed, calloc_typed, cast_typed, cast_bounds, is_array, local_standing}
+use Rattle.region_typing_rules.specs.Expressions.{Places, OfLocal, OfCell, OfBounded, OfUnknown, Standing, ForNothing, ForArray, For, Typed, Value, AStruct, Called, Gives, GivesNothing, site_at, bounds_at, noted, noted_if, with_bounds, cell_bounds, with_cell_bounds, sum_node, bounded, in_cell, plain, number, at_place, local_typed, name_typed, object_typed, member_place, member_from, offset_among, member_at, dotted, first_element, first_or_end, pointed_by, arrowed, pointed_at, dereferenced, pointer_to, address, number_of, scalar_of, unary_typed, two_numbers, two_scalars, operator_along, summed, sum_typed, as_pointer, equated_values, equated, is_ended_element, zero_test, are_related, ordered_values, ordered, arithmetic, binary_typed, beside, element_at, indexed, in_type, converted, arguments_as, is_import, call_of, declared_callee, first_of, writes, is_text, length_typed, text_pointer, measures, predefined_call, called, with_result, typed, all_typed, call_typed, malloc_typed, calloc_typed, cast_typed, cast_bounds, is_array, local_standing}
 use Rattle.region_typing_rules.proofs.Knowledge.{crossing_promises}
 use Rattle.region_typing_rules.proofs.Kept.{passing_any}
 use Rattle.region_typing_rules.proofs.Memory.{IsCount, OfBytes, OfOne, OfLeft, OfRight, malloc_promises, calloc_promises, cast_promises}
-use Rattle.region_typing_rules.proofs.Verdicts.{Promises, passing_promises, needs_promises, anything_promised, promised_so, elements_promise, apart_promises, all_met_promise}
+use Rattle.region_typing_rules.proofs.Verdicts.{Promises, passing_promises, needs_promises, convertible_promises, anything_promised, promised_so, elements_promise, apart_promises, all_met_promise}
+use Rattle.region_typing_rules.proofs.TextBlocks.{any_text}
+use Rattle.region_typing_rules.specs.Strings.{text_at}
 
 -- ---- what an expression is has fewer nodes
 
@@ -95,7 +97,7 @@ noted_light b (core.Call callee arguments bounds) = refl
 noted_light b core.NextInput = refl
 noted_light b (core.Sum pointer direction number site bounds) = refl
 noted_light b (core.Order comparison left right site) = refl
-noted_light b (core.Allocate count element terminated bounds) = refl
+noted_light b (core.Allocate count element terminator bounds) = refl
 noted_light b (core.Length pointer site) = refl
 noted_light b (core.Cast pointer bounds) = refl
 
@@ -421,8 +423,9 @@ measures_light e.NoMore (a ∷ arguments) site span all = absurd all
 measures_light (e.Then first others) (a ∷ arguments) site span all =
     let n = 5 * tree.expression_weight first in
     let m = 5 * tree.expressions_weight (e.Then first others) + 2 in
-    needs_promises (LightCall m) (length (a ∷ arguments) == 1) E14 span (length_typed a.0 site span)
-    (λ one. promised_so (LightCall (n + 2)) (LightCall m) (length_typed a.0 site span) (length_light n a.0 site span all.0) (λ c. call_more (n + 2) m c (omega arith)))
+    needs_promises (LightCall m) (length (a ∷ arguments) == 1) E14 span _
+    (λ one. convertible_promises (LightCall m) a.0 text_pointer a.1 (length_typed a.0 site span)
+    (promised_so (LightCall (n + 2)) (LightCall m) (length_typed a.0 site span) (length_light n a.0 site span all.0) (λ c. call_more (n + 2) m c (omega arith))))
 
 predefined_light : (xs : Expressions) (given : Given) (name : ℕ) (arguments : List (Typed × Span)) (site : Site) (span : Span) → AllLight xs arguments → Promises (LightCall (5 * tree.expressions_weight xs + 2)) (predefined_call given name arguments site span)
 predefined_light xs given name arguments site span all = by (name == given.next_input) (name == given.print_int) (name == given.putchar) (name == given.strlen) refl refl refl refl
@@ -478,7 +481,7 @@ mutual
   pub typed_light : (at : Places) (s : Scope) (x : Expression) → Promises (Light (5 * tree.expression_weight x)) (typed at s x)
   typed_light at s (e.Number value span) = needs_promises (Light 5) (nat_lt value (2 ^ 31)) E04 span _ (λ low. (omega arith, tt))
   typed_light at s (e.Character value span) = needs_promises (Light 5) (nat_lt value (2 ^ 31)) E04 span _ (λ low. (omega arith, tt))
-  typed_light at s (e.Text bytes span) = tt
+  typed_light at s (e.Text bytes span) = any_text (Light 5) s.structs (text_at s.strings span.from) (site_at at span) span (λ t. (omega arith, tt))
   typed_light at s (e.Name name) = bounded_light 5 s (site_at at name.span) (passing (named s name.number) (λ x. Passes (name_typed s x (site_at at name.span)))) (passing_promises (λ (x : Named). Unit {0}) (Light 5) (named s name.number) _ (anything_promised (named s name.number)) (λ x _. name_light 5 s x (site_at at name.span) (omega arith)))
   typed_light at s (e.Call callee arguments span) =
       let n = 5 * tree.expressions_weight arguments in

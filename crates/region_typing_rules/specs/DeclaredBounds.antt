@@ -1,7 +1,7 @@
 -- The bounds that are declared for a local: what is written, and the normal bounds that it comes to.
 use Rattle.std.specs.Prelude.{ℕ, ◌&&◌, ◌==◌, nat_lt, pos, Option, None, Some, slice_get}
 use Rattle.ckc_text.specs.declared.place.Span.{Span}
-use Rattle.ckc_text.specs.declared.code.Code.TheVariants.{E13, E16}
+use Rattle.ckc_text.specs.declared.code.Code.TheVariants.{E16}
 use Rattle.ckc_tree.specs.declared.expr.BinaryOperator.{BinaryOperator}
 use Rattle.ckc_tree.specs.declared.expr.BinaryOperator.TheVariants as binary
 use Rattle.ckc_tree.specs.Expressions as e
@@ -74,12 +74,11 @@ abbrev other_sum : {A : Type 0} → Verdict A → Verdict Sum
 other_sum part = passing part (λ _. Passes sums.Other)
 
 abbrev mutual
-  -- An expression in bounds. Of what stands in it, only the types under `sizeof` have rules. Strings aren't a form of which rules speak here:
-  -- no tree that is built has them
+  -- an expression in bounds. Of what stands in it, only the types under `sizeof` have rules
   pub sum_written : Scope → Bounded → Expression → Verdict Sum
   sum_written s p (e.Number value span) = Passes (sums.Number (pos value))
   sum_written s p (e.Character value span) = Passes (sums.Number (pos value))
-  sum_written s p (e.Text bytes span) = breaks E13 span
+  sum_written s p (e.Text bytes span) = Passes sums.Other
   sum_written s p (e.Name name) = Passes (name_sum s p name.number (local_number s.visible name.number))
   sum_written s p (e.Call callee arguments span) = all_written s p arguments
   sum_written s p (e.SizeOf type span) = passing (type_named s type) (λ t. Passes (sums.Size (size_of s.structs t) (same_type p.element t)))

@@ -1,5 +1,6 @@
 -- Null-terminated pointers, where n is an `int` local with the number 0, and p is one to `char`s with the number 1 for which count(n) is declared.
 use Rattle.std.specs.Prelude.{◌≡◌, ℕ, pos, Bool, true, false, List, [], ◌∷◌, Option, Some, None}
+use Rattle.ckc_text.specs.declared.place.Span.{Span}
 use Rattle.ckc_text.specs.declared.code.Code.TheVariants.{E13, E18, E22}
 use Rattle.ckc_tree.specs.declared.expr.BinaryOperator.TheVariants as binary
 use Rattle.ckc_tree.specs.declared.expr.CallocWord.TheVariants as calloc_words
@@ -15,13 +16,15 @@ use Rattle.act_words.specs.declared.operator.ArithmeticOperator.TheVariants as a
 use Rattle.act_words.specs.declared.operator.Comparison.TheVariants as comparisons
 use Rattle.ckc_core.specs.declared.program.Direction.TheVariants as directions
 use Rattle.ckc_core.specs.declared.program.PointerBounds.{PointerBounds}
+use Rattle.ckc_core.specs.declared.program.Terminator.TheVariants as terminators
 use Rattle.ckc_core.specs.Core as core
 use Rattle.region_typing_rules.specs.Verdicts.{Passes, breaks}
 use Rattle.region_typing_rules.specs.Scopes.{Scope, Object, Array}
 use Rattle.region_typing_rules.specs.DeclaredBounds.{row_of, unwritten_bounds}
 use Rattle.region_typing_rules.specs.Readings.{told}
 use Rattle.region_typing_rules.specs.Knowing.{assigned_by}
-use Rattle.region_typing_rules.specs.Expressions.{Typed, Value, ForNothing, ForArray, For, OfCell, OfUnknown, address, binary_typed, calloc_typed, length_typed, Gives, element_at, name_typed, number, plain, pointed_at}
+use Rattle.region_typing_rules.specs.Expressions.{Typed, Value, ForNothing, ForArray, For, OfCell, OfUnknown, address, binary_typed, calloc_typed, length_typed, measures, Gives, element_at, name_typed, number, plain, pointed_at}
+use Rattle.region_typing_rules.specs.Statements.{array_memory}
 use Rattle.region_typing_rules.specs.Items.{object_cells, Constants, zeros_of}
 use Rattle.region_typing_rules.specs.MemoryExamples.{here, site, scope as plain_scope, from_to, term}
 
@@ -40,6 +43,10 @@ known = entered 1 (Some (upto 0)) (at_entry 2)
 
 abbrev scope : Scope
 scope = record plain_scope { locals = locals; flow = known }
+
+-- where an argument stands
+abbrev there : Span
+there = record { from = 7; to = 8 }
 
 abbrev node : Bounds → Option PointerBounds
 node b = Some (record { bounds = b; size = 1; terminated = true; site = site })
@@ -98,7 +105,8 @@ elements =
     ≡ Passes (Value (Pointer modes.Checked kinds.One Char) false (core.AddressOf (core.Through p (core.Element n false) 0 site) None) ForNothing))
     × (element_at text (core.Local 1 None) n site here ≡ breaks E18 here)
 
--- behind `n = strlen(p)` the bounds end at n, where they were lost too; another assignment takes them back
+-- behind `n = strlen(p)` the bounds end at n, where they were lost too; another assignment takes them back. What isn't a text is refused where it
+-- stands, and a text without bounds at the call
 abbrev pub lengths : Type 0
 lengths =
     let measured = assigned_by locals (core.SetLocal 0 (core.Length p site)) (entered 1 (Some (row_of 0)) (at_entry 2)) in
@@ -106,6 +114,8 @@ lengths =
     × (length_typed (Value text false p ForNothing) site here ≡ Passes (Gives Int (core.Length p site)))
     × (length_typed (Value text false (core.Local 1 None) ForNothing) site here ≡ breaks E13 here)
     × (length_typed (Value (Pointer modes.Checked kinds.Array Char) false p ForNothing) site here ≡ breaks E13 here)
+    × (measures ((Value (Pointer modes.Checked kinds.Array Char) false p ForNothing, there) ∷ []) site here ≡ breaks E13 there)
+    × (measures ((Value text false (core.Local 1 None) ForNothing, there) ∷ []) site here ≡ breaks E13 here)
 
 -- where no bounds are written the end may be where a pointer stands: a local, a parameter or a result, and what stands in a cell. One at file level
 -- whose bounds are unknown has none, and no address
@@ -118,11 +128,13 @@ unwritten =
     × (address (name_typed scope (Object 0 text (Some None)) site) site here ≡ breaks E22 here)
     × (name_typed scope (Array 0 Char 3 true) site ≡ Value text false (core.AddressOf cell (node (row_of 2))) ForArray)
 
--- new memory has a cell more than its bounds, and so has an array
+-- new memory has a cell more than its bounds, and so has an array: one of a single element is the zero alone
 abbrev pub memory : Type 0
 memory =
     let cells = record { type = Char; stride = 1; number = pos 0 } ∷ [] in
     let one_char = e.SizeOf (record { base = types.CharType here; stars = 0 }) here in
     (calloc_typed calloc_words.NtCalloc scope Char (Value Int false (constant 2) ForNothing) one_char site here
-    ≡ plain text (core.Allocate (constant 2) cells true (node (row_of 2))))
+    ≡ plain text (core.Allocate (constant 2) cells terminators.Behind (node (row_of 2))))
+    × (array_memory scope true Char 3 site here ≡ plain text (core.Allocate (constant 3) cells terminators.Last (node (row_of 2))))
+    × (array_memory scope true Char 1 site here ≡ plain text (core.Allocate (constant 1) cells terminators.Last (node (row_of 0))))
     × (object_cells scope.given [] Char (Some 3) true (Constants []) here ≡ Passes (zeros_of 3 [] Char))

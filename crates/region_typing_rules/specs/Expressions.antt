@@ -1,9 +1,9 @@
 -- The rules of expressions, each with its name, in the order in which they are asked of a node behind its children.
-use Rattle.std.specs.Prelude.{ℕ, suc, ◌+◌, ◌-◌, ◌^◌, nat_lt, Bool, true, false, not, ◌&&◌, ◌||◌, ◌==◌, List, [], ◌∷◌, length, pos}
+use Rattle.std.specs.Prelude.{ℕ, suc, ◌+◌, ◌-◌, ◌^◌, nat_lt, nat_le, Bool, true, false, not, ◌&&◌, ◌||◌, ◌==◌, List, [], ◌∷◌, length, pos}
 use Rattle.std.specs.Prelude.{Option, Some, None, is_none, is_some, slice_index_or}
 use Rattle.ckc_text.specs.declared.place.Place.{Place}
 use Rattle.ckc_text.specs.declared.place.Span.{Span}
-use Rattle.ckc_text.specs.declared.code.Code.TheVariants.{E04, E10, E12, E13, E14, E15, E17, E18, E19, E22, E24, E26}
+use Rattle.ckc_text.specs.declared.code.Code.TheVariants.{E04, E08, E10, E12, E13, E14, E15, E17, E18, E19, E22, E24, E26}
 use Rattle.ckc_tree.specs.declared.expr.UnaryOperator.{UnaryOperator}
 use Rattle.ckc_tree.specs.declared.expr.UnaryOperator.TheVariants as unary
 use Rattle.ckc_tree.specs.declared.expr.BinaryOperator.{BinaryOperator}
@@ -37,6 +37,8 @@ use Rattle.ckc_core.specs.declared.program.Callee.TheVariants as callees
 use Rattle.ckc_core.specs.declared.program.Direction.{Direction}
 use Rattle.ckc_core.specs.declared.program.Direction.TheVariants as directions
 use Rattle.ckc_core.specs.declared.program.PointerBounds.{PointerBounds}
+use Rattle.ckc_core.specs.declared.program.Terminator.{Terminator}
+use Rattle.ckc_core.specs.declared.program.Terminator.TheVariants as terminators
 use Rattle.ckc_core.specs.Core as core
 use Rattle.ckc_core.specs.States.{same_type}
 use Rattle.ckc_core.specs.Steps.{is_char}
@@ -56,6 +58,7 @@ use Rattle.region_typing_rules.specs.Types.{type_named, is_number, is_pointer, i
 use Rattle.region_typing_rules.specs.Types.{converts}
 use Rattle.region_typing_rules.specs.Cells.{cells_with}
 use Rattle.region_typing_rules.specs.DeclaredBounds.{row_of, declared_bounds}
+use Rattle.region_typing_rules.specs.Strings.{FoundText, text_at}
 
 -- where a value may be stored: a local, a cell, a file-level pointer for which bounds are declared, or one that a zero ends and whose bounds are
 -- declared as unknown
@@ -129,7 +132,7 @@ noted b (core.Call callee arguments bounds) = core.Call callee arguments b
 noted b core.NextInput = core.NextInput
 noted b (core.Sum pointer direction number site bounds) = core.Sum pointer direction number site b
 noted b (core.Order comparison left right site) = core.Order comparison left right site
-noted b (core.Allocate count element terminated bounds) = core.Allocate count element terminated b
+noted b (core.Allocate count element terminator bounds) = core.Allocate count element terminator b
 noted b (core.Length pointer site) = core.Length pointer site
 noted b (core.Cast pointer bounds) = core.Cast pointer b
 
@@ -237,6 +240,20 @@ array_typed structs object type length false site =
 array_typed structs object type length true site =
     Value (Pointer modes.Checked kinds.Nt type) false
     (core.AddressOf (core.Direct object 0) (Some (record { bounds = row_of (length - 1); size = size_of structs type; terminated = true; site = site }))) ForArray
+
+-- a string is a pointer to its first character, with all of them but the zero that ends it
+abbrev pub text_value : List Structure → FoundText → Site → Typed
+text_value structs t site =
+    Value (Pointer modes.Checked kinds.Nt Char) false
+    (core.AddressOf (core.Direct t.object 0) (Some (record { bounds = row_of t.length; size = size_of structs Char; terminated = true; site = site })))
+    ForNothing
+
+-- few-static-bytes: at most 32,768 up to its end (E08, at the string). A string that isn't among those of the program has no block; no tree of a source
+-- has such
+abbrev pub text_typed : List Structure → Option FoundText → Site → Span → Verdict Typed
+text_typed structs None site span = breaks E13 span
+text_typed structs (Some t) site span =
+    needs (nat_le t.taken 32768) E08 span (Passes (text_value structs t site))
 
 -- a file-level pointer with the bounds that are declared for it; no other type has any
 abbrev pub pointer_typed : List Structure → ℕ → CType → Bounds → Site → Typed
@@ -728,10 +745,15 @@ length_typed (Value type zero value place) site span =
     needs (is_text type && is_some (bounds_of value)) E13 span (Passes (Gives Int (core.Length value site)))
 length_typed (AStruct number place) site span = breaks E13 span
 
+-- what `strlen` takes
+abbrev pub text_pointer : CType
+text_pointer = Pointer modes.Checked kinds.Nt Char
+
 abbrev first_length : List (Typed × Span) → Site → Span → Verdict Called
 first_length [] site span = breaks E14 span
-first_length (argument ∷ arguments) site span = length_typed argument.0 site span
+first_length (argument ∷ arguments) site span = converted argument.0 text_pointer argument.1 (λ v. length_typed argument.0 site span)
 
+-- its argument converts to a text, at the argument, and has bounds, at the call (E13)
 abbrev pub measures : List (Typed × Span) → Site → Span → Verdict Called
 measures arguments site span = needs (length arguments == 1) E14 span (first_length arguments site span)
 
@@ -805,14 +827,14 @@ abbrev pub allocation : Scope → CType → core.Expression → Site → Span �
 allocation s t count site span =
     needs (nat_lt 0 (size_of s.structs t)) E13 span
     (plain (Pointer modes.Checked kinds.Array t)
-    (core.Allocate count (cells_with s.structs t (pos 0)) false (row_counted s.structs t false (term s.locals count) site)))
+    (core.Allocate count (cells_with s.structs t (pos 0)) terminators.Absent (row_counted s.structs t false (term s.locals count) site)))
 
--- ended-are-numbers: new memory of so many numbers, and a zero behind them (E13)
-abbrev pub ended_allocation : Scope → CType → core.Expression → Site → Span → Verdict Typed
-ended_allocation s t count site span =
+-- ended-are-numbers: new memory of so many numbers that a zero ends, and how many stand before it (E13)
+abbrev pub ended_allocation : Scope → CType → core.Expression → Terminator → (before : Option Term) → Site → Span → Verdict Typed
+ended_allocation s t count terminator before site span =
     needs (is_number t) E13 span
     (plain (Pointer modes.Checked kinds.Nt t)
-    (core.Allocate count (cells_with s.structs t (pos 0)) true (row_counted s.structs t true (term s.locals count) site)))
+    (core.Allocate count (cells_with s.structs t (pos 0)) terminator (row_counted s.structs t true before site)))
 
 abbrev pub allocation_if : Scope → CType → Option core.Expression → Site → Span → Verdict Typed
 allocation_if s t None site span = breaks E13 span
@@ -826,9 +848,10 @@ allocated_in s t size a site span = number_of a span (λ value. allocation_if s 
 abbrev pub allocated_of : Scope → CType → Typed → Expression → Site → Span → Verdict Typed
 allocated_of s t a size site span = number_of a span (λ count. needs (is_size s t size) E13 span (allocation s t count site span))
 
--- the same of what a zero ends
+-- the same with a zero behind them
 abbrev pub ended_of : Scope → CType → Typed → Expression → Site → Span → Verdict Typed
-ended_of s t a size site span = number_of a span (λ count. needs (is_size s t size) E13 span (ended_allocation s t count site span))
+ended_of s t a size site span =
+    number_of a span (λ count. needs (is_size s t size) E13 span (ended_allocation s t count terminators.Behind (term s.locals count) site span))
 
 -- what gives tainted memory isn't a form of which rules speak here
 abbrev pub malloc_typed : MallocWord → Scope → CType → Expression → Typed → Site → Span → Verdict Typed
@@ -895,12 +918,11 @@ abbrev pub constant_typed : ℕ → Bool → Span → Verdict Typed
 constant_typed value zero span = needs (nat_lt value (2 ^ 31)) E04 span (Passes (Value Int zero (core.Number (pos value)) ForNothing))
 
 abbrev mutual
-  -- an expression: its children from left to right, and then its own rules. Strings aren't a form of which rules speak here: no tree that is
-  -- built has them
+  -- an expression: its children from left to right, and then its own rules
   pub typed : Places → Scope → Expression → Verdict Typed
   typed at s (e.Number value span) = constant_typed value (value == 0) span
   typed at s (e.Character value span) = constant_typed value false span
-  typed at s (e.Text bytes span) = breaks E13 span
+  typed at s (e.Text bytes span) = text_typed s.structs (text_at s.strings span.from) (site_at at span) span
   typed at s (e.Name name) = bounded s (site_at at name.span) (passing (named s name.number) (λ n. Passes (name_typed s n (site_at at name.span))))
   typed at s (e.Call callee arguments span) = passing (all_typed at s arguments)
       (λ ts. passing (called s (function_named s.functions callee.number) callee.number ts (site_at at span) span) (λ c. with_result c span))

@@ -24,6 +24,7 @@ use Rattle.ckc_tree.specs.declared.stmt.SignedConstant.{SignedConstant}
 use Rattle.ckc_tree.specs.Items as i
 use Rattle.ckc_tree.specs.Items.{ResultForm, Parameters, Item}
 use Rattle.flat_bytes.specs.Blocks.{rounded_up}
+use Rattle.ckc_tree_texts.specs.Texts.{Text, initializer_texts, body_texts}
 use Rattle.bounds_exprs.specs.declared.term.Bounds.{Bounds}
 use Rattle.bounds_exprs.specs.Changes.{is_named}
 use Rattle.bounds_flow.specs.Pointers.{same_bounds}
@@ -40,6 +41,7 @@ use Rattle.region_typing_rules.specs.Scopes.{Scope, Signature, Visible, WrittenB
 use Rattle.region_typing_rules.specs.Types.{base_type, without_stars, type_named, is_scalar}
 use Rattle.region_typing_rules.specs.Cells.{is_length, cells_with}
 use Rattle.region_typing_rules.specs.Expressions.{Places, Typed, Value, AStruct, is_tainted, typed}
+use Rattle.region_typing_rules.specs.Strings.{texts_size}
 use Rattle.region_typing_rules.specs.DeclaredBounds.{declared_bounds}
 use Rattle.region_typing_rules.specs.KeptParameters.{all_changed}
 use Rattle.region_typing_rules.specs.Knowing.{all_declared, knowing}
@@ -237,16 +239,20 @@ written_size g (CharType span) zero = Passes (size_of g.structs Char)
 written_size g (StructType tag span) zero = passing (meant (struct_named g tag.number)) (λ number. Passes (size_of g.structs (Struct number)))
 written_size g (PointerType word element starred span) zero = Passes 4
 
--- few-static-bytes: at most 32,768 with the gap behind each block (E08, at the item)
-abbrev pub few_bytes : ℕ → Span → Verdict ℕ
-few_bytes taken span = needs (nat_le taken 32768) E08 span (Passes taken)
+-- the strings of a part, which is walked when variables take so many bytes
+abbrev pub with_texts : (taken : ℕ) → List Text → Scope → Scope
+with_texts taken texts g = record g { strings = record g.strings { texts = g.strings.texts ++ texts; taken = taken } }
+
+-- few-static-bytes: at most 32,768 of variables and strings with the gap behind each block (E08, at the item)
+abbrev pub few_bytes : Scope → (taken : ℕ) → Span → Verdict ℕ
+few_bytes g taken span = needs (nat_le (taken + texts_size g.strings.texts) 32768) E08 span (Passes taken)
 
 -- few-variables: at most 4,096 (E08, at the item). The bytes that are taken with one variable more, where an array has a length
 abbrev pub room_for : Walk → TypeTree → Span → Declarator → Verdict ℕ
 room_for w base span d =
     needs (nat_lt (length w.scope.variables) 4096) E08 span
     (passing (written_size w.scope base d.stars) (λ size.
-    needs (is_length (length_of d)) E08 span (few_bytes (w.taken + (rounded_up (count_of (length_of d) * size) + 16)) span)))
+    needs (is_length (length_of d)) E08 span (few_bytes w.scope (w.taken + (rounded_up (count_of (length_of d) * size) + 16)) span)))
 
 -- what bounds of a variable are for: an array is no pointer
 abbrev pub bounded_type : Option ℕ → CType → CType
@@ -275,6 +281,11 @@ pub record WalkedVariable : Type 0 where
   pub bounds : WrittenBounds
   pub initial : Walked
 
+-- a variable more, which is visible in what it is initialised with
+abbrev pub variable_scope : (taken : ℕ) → Declarator → CType → WrittenBounds → Scope → Scope
+variable_scope taken d t bounds g =
+    with_texts taken (initializer_texts d.initializer) (with_variable d.name.number t (length_of d) (is_ended_array d) bounds g)
+
 abbrev pub variables : Places → Walk → TypeTree → CType → Span → List Declarator → List WalkedVariable → Verdict (Walk × List WalkedVariable)
 variables at w base type span [] done = Passes (w, done)
 variables at w base type span (d ∷ ds) done =
@@ -282,8 +293,8 @@ variables at w base type span (d ∷ ds) done =
     passing (without_stars base d.stars type) (λ t.
     array_element (is_ended_array d) t base
     (passing (object_bounds w.scope d t) (λ bounds.
-    passing (initializer at (with_variable d.name.number t (length_of d) (is_ended_array d) bounds w.scope) d.initializer) (λ initial.
-    variables at (record w { scope = with_variable d.name.number t (length_of d) (is_ended_array d) bounds w.scope; taken = taken }) base type span ds (done
+    passing (initializer at (variable_scope taken d t bounds w.scope) d.initializer) (λ initial.
+    variables at (record w { scope = variable_scope taken d t bounds w.scope; taken = taken }) base type span ds (done
     ++ record { type = t; length = length_of d; ended = is_ended_array d; bounds = bounds; initial = initial } ∷ []))))))
 
 -- whether there is room for the first variable is asked before the type that all share is walked
@@ -466,12 +477,17 @@ inside f parameters body g =
 abbrev pub core_function : Signature → List Parameter → core.Statements → Scope → core.Function
 core_function f parameters body g = record { name = f.text; parameters = length parameters; locals = g.locals; result = f.result; body = body }
 
--- the body of a function; its locals are gone behind it
+-- a body's strings are known before it is walked
+abbrev pub body_scope : Walk → i.Body → Scope
+body_scope w body = with_texts w.taken (body_texts body) w.scope
+
+-- the body of a function; its locals are gone behind it, and its strings stay
 abbrev pub function_body : Places → Walk → Signature → List Parameter → Option i.Body → Verdict Walk
 function_body at w f parameters None = Passes w
 function_body at w f parameters (Some body) =
-    passing (statements at (inside f parameters body.statements w.scope) body.statements) (λ x.
+    passing (statements at (inside f parameters body.statements (body_scope w body)) body.statements) (λ x.
     is_checked w.scope body.mark body.span (Passes (record w {
+      scope = body_scope w body;
       bodies = w.bodies
           ++ record { name = f.name; function = core_function f parameters x.0 x.1 } ∷ [];
     })))
@@ -537,6 +553,14 @@ function at all w d =
 
 -- ---- the whole program
 
+-- how many file-level variables items declare
+abbrev pub variables_declared : List Item → ℕ
+variables_declared [] = 0
+variables_declared (i.GlobalItem g ∷ items) = length g.declarators + variables_declared items
+variables_declared (i.RegionItem region span ∷ items) = variables_declared items
+variables_declared (i.StructureItem structure ∷ items) = variables_declared items
+variables_declared (i.FunctionItem f ∷ items) = variables_declared items
+
 abbrev pub is_off : Region → Bool
 is_off regions.On = false
 is_off regions.Off = true
@@ -551,14 +575,15 @@ abbrev pub items : Places → List Item → Walk → List Item → Verdict Walk
 items at all w [] = Passes w
 items at all w (x ∷ xs) = passing (item at all w x) (λ v. items at all v xs)
 
-abbrev pub nothing_known : Given → Scope
-nothing_known given = record {
+abbrev pub nothing_known : Given → (variables : ℕ) → Scope
+nothing_known given variables = record {
   given = given;
   tags = [];
   members = [];
   structs = [];
   functions = [];
   variables = [];
+  strings = record { texts = []; variables = variables; taken = 0 };
   locals = [];
   arrays = [];
   visible = [];
@@ -572,9 +597,10 @@ nothing_known given = record {
   continues = None;
 }
 
-abbrev pub start : Given → Walk
-start given = record { scope = nothing_known given; objects = []; taken = 0; bodies = [] }
+-- more variables than a program may have aren't counted
+abbrev pub start : Given → (variables : ℕ) → Walk
+start given variables = record { scope = nothing_known given (limited 4096 variables); objects = []; taken = 0; bodies = [] }
 
 -- what is known behind a named program, or the first rule that it breaks
 abbrev pub walked : Places → NamedTree → Verdict Walk
-walked at n = items at n.tree.items (start (given_in n.names)) n.tree.items
+walked at n = items at n.tree.items (start (given_in n.names) (variables_declared n.tree.items)) n.tree.items

@@ -62,7 +62,7 @@ abbrev given : Given
 given = record { null = 100; next_input = 101; print_int = 102; putchar = 103; strlen = 105; main = 104 }
 
 abbrev scope : Scope
-scope = record (nothing_known given) {
+scope = record (nothing_known given 0) {
   locals = Int ∷ Int ∷ [];
   visible = record { name = 1; local = 1 } ∷ record { name = 0; local = 0 } ∷ [];
   result = Some Int;

@@ -1,5 +1,6 @@
 pub mod Verdicts
 pub mod Scopes
+pub mod Strings
 pub mod Types
 pub mod Cells
 pub mod Expressions
@@ -24,3 +25,4 @@ pub mod KeptExamples
 pub mod MemoryExamples
 pub mod FileLevelExamples
 pub mod EndedExamples
+pub mod StringExamples

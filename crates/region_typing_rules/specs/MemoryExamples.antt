@@ -22,6 +22,7 @@ use Rattle.bounds_flow.specs.Flows.{at_entry}
 use Rattle.act_words.specs.declared.operator.Operator.TheVariants as operators
 use Rattle.act_words.specs.declared.operator.ArithmeticOperator.TheVariants as arithmetics
 use Rattle.ckc_core.specs.declared.program.PointerBounds.{PointerBounds}
+use Rattle.ckc_core.specs.declared.program.Terminator.TheVariants as terminators
 use Rattle.ckc_core.specs.declared.program.Site.{Site}
 use Rattle.ckc_core.specs.Core as core
 use Rattle.region_typing_rules.specs.Verdicts.{Verdict, Passes, passing, breaks}
@@ -41,7 +42,7 @@ abbrev given : Given
 given = record { null = 100; next_input = 101; print_int = 102; putchar = 103; strlen = 105; main = 104 }
 
 abbrev pub scope : Scope
-scope = record (nothing_known given) {
+scope = record (nothing_known given 0) {
   locals = Int ∷ Pointer modes.Checked kinds.Array Int ∷ [];
   visible = record { name = 1; local = 1 } ∷ record { name = 0; local = 0 } ∷ [];
   flow = at_entry 2;
@@ -161,7 +162,7 @@ becomes d = passing (declarator (λ byte. record { line = 1; col = 1 }) with_one
 -- null, and then new memory of so many elements
 abbrev three_made : core.Statement
 three_made =
-    let memory = core.Allocate (number 3) (record { type = Int; stride = 4; number = pos 0 } ∷ []) false (at_node three) in
+    let memory = core.Allocate (number 3) (record { type = Int; stride = 4; number = pos 0 } ∷ []) terminators.Absent (at_node three) in
     both (core.SetLocal 2 core.Null) (core.SetLocal 2 memory)
 
 -- an array has a length that isn't too large, and neither bounds nor a value of its own. Its name stands for no place

@@ -67,7 +67,7 @@ term types (core.Call callee arguments bounds) = None
 term types core.NextInput = None
 term types (core.Sum pointer direction number site bounds) = None
 term types (core.Order comparison left right site) = None
-term types (core.Allocate count element terminated bounds) = None
+term types (core.Allocate count element terminator bounds) = None
 term types (core.Length pointer site) = None
 term types (core.Cast pointer bounds) = None
 

@@ -7,6 +7,7 @@ use Rattle.ckc_names_rules.specs.declared.given.Given.{Given}
 use Rattle.bounds_exprs.specs.declared.term.Bounds.{Bounds}
 use Rattle.bounds_flow.specs.Flows.{Knowledge}
 use Rattle.region_typing_rules.specs.Verdicts.{Verdict, meant, picked}
+use Rattle.region_typing_rules.specs.Strings.{Strings}
 
 -- what is written for bounds: nothing, that they are unknown, or bounds
 abbrev pub WrittenBounds : Type 0
@@ -51,6 +52,7 @@ pub record Scope : Type 0 where
   -- functions in the order in which their names are first declared
   pub functions : List Signature
   pub variables : List FileVariable
+  pub strings : Strings
   -- the types of all locals of the function so far, those of them that are arrays, and those that are visible, the innermost first
   pub locals : List CType
   pub arrays : List ℕ

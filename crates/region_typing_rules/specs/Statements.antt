@@ -24,8 +24,10 @@ use Rattle.pointer_modes.specs.Types.{CType, Int, Char, Struct, Pointer}
 use Rattle.ckc_core.specs.declared.program.Site.{Site}
 use Rattle.act_words.specs.declared.operator.Operator.{Operator}
 use Rattle.bounds_exprs.specs.declared.term.Bounds.{Bounds}
+use Rattle.bounds_exprs.specs.Normal.{constant}
 use Rattle.ckc_core.specs.declared.program.Direction.{Direction}
 use Rattle.ckc_core.specs.declared.program.Direction.TheVariants as directions
+use Rattle.ckc_core.specs.declared.program.Terminator.TheVariants as terminators
 use Rattle.ckc_core.specs.Core as core
 use Rattle.ckc_core.specs.Steps.{is_char}
 use Rattle.region_typing_rules.specs.Verdicts.{Verdict, Passes, passing, needs, breaks}
@@ -231,7 +233,8 @@ array_element ended t base next = needs (may_lead_to (array_kind ended) t) E13 (
 -- new memory for an array
 abbrev pub array_memory : Scope → (ended : Bool) → CType → ℕ → Site → Span → Verdict Typed
 array_memory g false t count site span = allocation g t (core.Number (pos count)) site span
-array_memory g true t count site span = ended_allocation g t (core.Number (pos (count - 1))) site span
+array_memory g true t count site span =
+    ended_allocation g t (core.Number (pos count)) terminators.Last (Some (constant (pos (before_end true count)))) site span
 
 -- bounds-on-pointer: an array has no others than those of its elements (E16, at the bounds)
 abbrev pub array_bounds : Scope → Option e.Bounds → Verdict (Option Bounds)

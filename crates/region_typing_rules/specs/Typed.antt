@@ -12,6 +12,7 @@ use Rattle.pointer_modes.specs.Types.{CType, Int, Char, Struct, Pointer, Structu
 use Rattle.pointer_modes.specs.Layout.{size_of}
 use Rattle.bounds_exprs.specs.declared.term.Bounds.{Bounds}
 use Rattle.bounds_exprs.specs.declared.term.Term.{Term}
+use Rattle.bounds_exprs.specs.Normal.{constant as constant_term}
 use Rattle.bounds_exprs.specs.Changes.{ends_filled_in, moved_by}
 use Rattle.bounds_flow_meaning.specs.Holding.{AreInts, IsValid, HasSize, at_node, target_size, types_of, is_ended}
 use Rattle.bounds_flow_meaning.specs.Sums.{counted}
@@ -26,10 +27,12 @@ use Rattle.ckc_core.specs.Programs.{Initial, Variable, Import}
 use Rattle.ckc_core.specs.Core as core
 use Rattle.ckc_core.specs.Core.{Parted, Function, Expression, Arguments, Place, Statement, Statements}
 use Rattle.ckc_core.specs.declared.program.Direction.{Direction}
+use Rattle.ckc_core.specs.declared.program.Terminator.{Terminator}
+use Rattle.ckc_core.specs.declared.program.Terminator.TheVariants as terminators
 use Rattle.ckc_core.specs.States.{Value, Number, Null, At, Local, State, Shape, shape, type_at, has_type, initial_value, object_block}
 use Rattle.ckc_core.specs.Meaning.{bounds_of}
 use Rattle.ckc_core.specs.Steps.{is_char, is_zero}
-use Rattle.ckc_core.specs.Pointers.{element_size}
+use Rattle.ckc_core.specs.Pointers.{element_size, is_terminated}
 use Rattle.region_typing_rules.specs.Types.{Counts, is_number, is_scalar}
 use Rattle.region_typing_rules.specs.Scopes.{Scope}
 use Rattle.region_typing_rules.specs.Knowing.{when}
@@ -249,11 +252,19 @@ pub record IsNewNumber (structs : List Structure) (t : CType) (element : List In
   pub initial : AllByRecursion (IsInitial structs) element
   pub roomy : AllByRecursion IsRoomy element
 
--- The bounds of new memory: they are unknown, or those of as many elements as the term of their number.
-pub data AreNewBounds (structs : List Structure) (types : List CType) (count : Expression) (kind : Kind) (t : CType) : Option PointerBounds → Type 0 where
-  uncounted : AreNewBounds structs types count kind t None
-  by_term : {n : Term} {site : Site} → term types count ≡ Some n
-      → AreNewBounds structs types count kind t (Some (at_node (counted n) (size_of structs t) (is_ended (Pointer modes.Checked kind t)) site))
+-- as many elements as a term comes to stand before the zero, where one ends as many as are counted: the term is that of their number, or, where the
+-- zero is the last one of them, one less
+pub data IsBeforeZero (types : List CType) : Terminator → Expression → Term → Type 0 where
+  all_of : {count : Expression} {n : Term} → term types count ≡ Some n → IsBeforeZero types terminators.Absent count n
+  all_before : {count : Expression} {n : Term} → term types count ≡ Some n → IsBeforeZero types terminators.Behind count n
+  all_but_last : {n : ℕ} → n < 2 ^ 31 → IsBeforeZero types terminators.Last (core.Number (pos (suc n))) (constant_term (pos n))
+
+-- The bounds of new memory: they are unknown, or those of as many elements as a term comes to.
+pub data AreNewBounds (structs : List Structure) (types : List CType) (terminator : Terminator) (count : Expression) (t : CType) :
+    Option PointerBounds → Type 0 where
+  uncounted : AreNewBounds structs types terminator count t None
+  by_term : {n : Term} {site : Site} → IsBeforeZero types terminator count n
+      → AreNewBounds structs types terminator count t (Some (at_node (counted n) (size_of structs t) (is_terminated terminator) site))
 
 -- bounds name `int` locals, and count from a local or from none
 pub record AreNamed (types : List CType) (b : Bounds) : Type 0 where
@@ -320,9 +331,9 @@ mutual
     array : {here : Scope} {object n : ℕ} {t : CType} {p : PointerBounds} {v : Variable} → slice_get g.program.objects object ≡ Some v
         → 0 < n → n ≤ 8192 → AreRows g.structs (shape (object_block v)) t n → p.bounds ≡ row_of n → IsNodeOf g.structs (Pointer modes.Checked kinds.Array t) p
         → HasType g locals here (core.AddressOf (core.Direct object 0) (Some p)) (Pointer modes.Checked kinds.Array t)
-    -- a string, or an array that a zero ends, of at most 8,191 elements before it
+    -- a string, or an array that a zero ends
     ended_array : {here : Scope} {object n : ℕ} {t : CType} {p : PointerBounds} {v : Variable} → slice_get g.program.objects object ≡ Some v
-        → n ≤ 8191 → IsEndedRow g.structs (shape (object_block v)) t n → p.bounds ≡ row_of n → IsNodeOf g.structs (Pointer modes.Checked kinds.Nt t) p
+        → n ≤ 32768 → IsEndedRow g.structs (shape (object_block v)) t n → p.bounds ≡ row_of n → IsNodeOf g.structs (Pointer modes.Checked kinds.Nt t) p
         → HasType g locals here (core.AddressOf (core.Direct object 0) (Some p)) (Pointer modes.Checked kinds.Nt t)
     sum : {here : Scope} {e i : Expression} {mode : Mode} {kind : Kind} {t : CType} {direction : Direction} {site : Site} {p : PointerBounds} {b : Option PointerBounds}
         → Counts kind → HasType g locals here e (Pointer mode kind t) → HasElements g.structs e (Pointer mode kind t) p → HasType g locals here i Int
@@ -354,12 +365,13 @@ mutual
     next_input : {here : Scope} → HasType g locals here core.NextInput Int
     -- new memory, or null
     allocate : {here : Scope} {count : Expression} {t : CType} {element : List Initial} {b : Option PointerBounds} → HasType g locals here count Int
-        → IsNewElement g.structs t element → AreNewBounds g.structs here.locals count kinds.Array t b
-        → HasType g locals here (core.Allocate count element false b) (Pointer modes.Checked kinds.Array t)
-    -- the same with a zero behind it
-    allocate_ended : {here : Scope} {count : Expression} {t : CType} {element : List Initial} {b : Option PointerBounds} → HasType g locals here count Int
-        → IsNewNumber g.structs t element → AreNewBounds g.structs here.locals count kinds.Nt t b
-        → HasType g locals here (core.Allocate count element true b) (Pointer modes.Checked kinds.Nt t)
+        → IsNewElement g.structs t element → AreNewBounds g.structs here.locals terminators.Absent count t b
+        → HasType g locals here (core.Allocate count element terminators.Absent b) (Pointer modes.Checked kinds.Array t)
+    -- the same with a zero at its end
+    allocate_ended : {here : Scope} {count : Expression} {terminator : Terminator} {t : CType} {element : List Initial} {b : Option PointerBounds}
+        → HasType g locals here count Int → is_terminated terminator ≡ true → IsNewNumber g.structs t element
+        → AreNewBounds g.structs here.locals terminator count t b
+        → HasType g locals here (core.Allocate count element terminator b) (Pointer modes.Checked kinds.Nt t)
     -- how many bytes stand before the first zero
     byte_count : {here : Scope} {mode : Mode} {e : Expression} {p : PointerBounds} {site : Site} → HasType g locals here e (Pointer mode kinds.Nt Char)
         → HasElements g.structs e (Pointer mode kinds.Nt Char) p → HasType g locals here (core.Length e site) Int

@@ -26,6 +26,7 @@ ghost use Rattle.region_typing_rules.specs.KeptExamples as kept;
 ghost use Rattle.region_typing_rules.specs.MemoryExamples as memory;
 ghost use Rattle.region_typing_rules.specs.FileLevelExamples as file_level;
 ghost use Rattle.region_typing_rules.specs.EndedExamples as ended;
+ghost use Rattle.region_typing_rules.specs.StringExamples as strings;
 
 /// Programs and what they become, worked out from the rules.
 pub fn examples()
@@ -98,6 +99,15 @@ pub fn null_terminated()
     ensures lengths { ended.lengths }
     ensures unwritten { ended.unwritten }
     ensures memory { ended.memory }
+{}
+
+/// Strings and their blocks.
+pub fn strings()
+    ensures strings { strings.strings }
+    ensures blocks { strings.blocks }
+    ensures limits { strings.limits }
+    ensures in_bounds { strings.in_bounds }
+    ensures standing { strings.standing }
 {}
 
 /// Bounds that are declared for a local or a parameter are formed: they are of a pointer to elements that have bytes, their ends speak of `int` locals, their

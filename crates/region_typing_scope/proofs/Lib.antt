@@ -10,3 +10,4 @@ pub mod Settled
 pub mod Entailing
 pub mod Declaring
 mod Cells
+pub mod TextSearch

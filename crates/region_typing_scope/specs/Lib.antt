@@ -4,6 +4,7 @@ pub mod Errors
 pub mod Names
 pub mod Signatures
 pub mod Tables
+pub mod Strings
 pub mod Views
 pub mod Searches
 pub mod Locals

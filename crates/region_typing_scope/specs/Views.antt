@@ -7,6 +7,7 @@ use Rattle.region_typing_rules.specs.Scopes.{FileVariable, Named, Scope, object_
 use Rattle.region_typing_scope.specs.declared.scope as code
 use Rattle.region_typing_scope.specs.declared.lookups as lookups_code
 pub use Rattle.region_typing_scope.specs.Signatures.{signature}
+pub use Rattle.region_typing_scope.specs.Strings.{strings}
 pub use Rattle.region_typing_scope.specs.Visibles.{visible}
 
 abbrev pub variable : code.Variable.Variable → FileVariable
@@ -24,6 +25,7 @@ scope s = record {
   structs = s.structs;
   functions = map signature s.functions.items;
   variables = map variable s.variables.items;
+  strings = strings s.strings;
   locals = map ctype s.locals.items;
   arrays = reverse s.arrays.items;
   visible = reverse (map visible s.visible.items);

@@ -187,12 +187,12 @@ fn noted(value: Expr, bounds: Option<PointerBounds>) -> Expr
         Expr::Allocate {
             count,
             element,
-            terminated,
+            terminator,
             ..
         } => Expr::Allocate {
             count,
             element,
-            terminated,
+            terminator,
             bounds,
         },
         Expr::Cast { pointer, .. } => Expr::Cast { pointer, bounds },

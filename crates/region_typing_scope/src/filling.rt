@@ -20,6 +20,7 @@ use crate::refusals::CheckError;
 use crate::scope::{Scope, Variable};
 use crate::sides::is_import;
 use crate::signature::Signature;
+use crate::strings::Strings;
 use bounds_exprs::term::Bounds;
 use bounds_flow::flow::Flow;
 use ckc_names_rules::given::Given;
@@ -38,9 +39,10 @@ fn with_tainted(f: &Signature, number: u32) -> u32
 }
 
 impl Scope {
-    /// Nothing known.
-    pub fn new(context: &Context, given: Given) -> Result<Scope, NoMemory>
-        ensures { IfOk result (λ scope. scope_of scope ≡ nothing_known given) }
+    /// Nothing known, in a program with so many file-level variables, of which no more than 4,096 are counted.
+    pub fn new(context: &Context, given: Given, variables: u32) -> Result<Scope, NoMemory>
+        requires { variables ≤ 4096 }
+        ensures { IfOk result (λ scope. scope_of scope ≡ nothing_known given variables) }
     {
         let alloc = context.alloc();
         Ok(Scope {
@@ -50,6 +52,7 @@ impl Scope {
             structs: Structs::new(alloc),
             functions: Vec::new(alloc),
             variables: Vec::new(alloc),
+            strings: Strings::new(alloc, variables),
             locals: Vec::new(alloc),
             arrays: Vec::new(alloc),
             visible: Vec::new(alloc),

@@ -10,6 +10,7 @@ ghost use Rattle.region_typing_scope.specs.Tracked.{HasVars};
 
 use crate::number_table::NumberTable;
 use crate::signature::Signature;
+use crate::strings::Strings;
 use crate::visible::Visible;
 use bounds_exprs::term::Bounds;
 use bounds_flow::flow::Flow;
@@ -56,6 +57,7 @@ pub struct Scope {
     pub structs: Structs,
     pub functions: Vec<Signature>,
     pub variables: Vec<Variable>,
+    pub strings: Strings,
     pub locals: Vec<CType>,
     /// The locals of the function that are arrays.
     pub arrays: Vec<u32>,

@@ -14,10 +14,9 @@ ghost use Rattle.region_typing_scope.specs.DeclaredViews.{bounded as bounded_vie
 use crate::context::Context;
 use crate::names::{Bounded, name_form};
 use crate::place::Place;
-use crate::refusals::{CheckError, refusal};
+use crate::refusals::CheckError;
 use crate::types::{same_type, type_named};
 use bounds_exprs::form::SumForm;
-use ckc_text::code::Code;
 use ckc_text::fault::NoMemory;
 use ckc_tree::expr::{BinaryOperator, BoundsText, Expr};
 use ckc_tree::type_form::TypeName;
@@ -94,7 +93,7 @@ pub fn sum_form(
     match e {
         Expr::Number { value, .. } => Ok(SumForm::Number(*value as i64)),
         Expr::Character { value, .. } => Ok(SumForm::Number(*value as i64)),
-        Expr::Text { span, .. } => Err(refusal(Code::E13, *span)),
+        Expr::Text { .. } => Ok(SumForm::Other),
         Expr::Name { name } => Ok(name_form(place, p, name.number)),
         Expr::Call { arguments, .. } => all_forms(context, place, p, arguments.as_slice()),
         Expr::SizeOf { type_name, .. } => size_form(context, place, p, type_name),

@@ -6,6 +6,7 @@ ghost use Rattle.ckc_text.specs.Places.{place_at};
 ghost use Rattle.ckc_tree.specs.Types.{type_tree};
 ghost use Rattle.ckc_tree.specs.Expressions.{expression as expression_tree, bounds as bounds_tree};
 ghost use Rattle.ckc_tree.specs.Statements.{Value, initializer as initializer_tree, declarator as declarator_tree};
+ghost use Rattle.bounds_exprs.specs.Normal.{constant};
 ghost use Rattle.pointer_modes.specs.Types.{ctype as ctype_of};
 ghost use Rattle.ckc_core.specs.Core.{Number};
 ghost use Rattle.region_typing_rules.specs.Verdicts.{Passes};
@@ -18,8 +19,9 @@ ghost use Rattle.region_typing_statements.specs.Walks.{Walks};
 
 use crate::core_forms::both;
 use crate::zero_values::set_to_zero;
-use bounds_exprs::term::Bounds;
-use ckc_core::program::{Expr, Stmt};
+use bounds_exprs::expression::constant as constant_term;
+use bounds_exprs::term::{Bounds, Term};
+use ckc_core::program::{Expr, Stmt, Terminator};
 use ckc_text::code::Code;
 use ckc_text::fault::NoMemory;
 use ckc_text::place::Span;
@@ -137,6 +139,13 @@ fn number_of(context: &Context, elements: u32) -> Result<Box<Expr>, NoMemory>
     context.boxed(Expr::Number(elements as i32))
 }
 
+// The same as a term.
+fn term_of(elements: u32) -> Term
+    ensures { result ≡ constant (pos elements) }
+{
+    constant_term(elements as i64)
+}
+
 // New memory for an array of so many elements, of which the last one may be the zero that ends it.
 fn array_memory(
     context: &Context,
@@ -149,11 +158,19 @@ fn array_memory(
     requires { count ≤ 8192 }
     ensures { Answers typed_on_heap (array_memory_of (scope_of scope.now) ended (ctype_of t) count (site_at (place_at context.now) span) span) result }
 {
+    let number = number_of(context, count)?;
     if ended {
-        let number = number_of(context, before_end(true, count))?;
-        ended_allocation(context, scope, t, number, span)
+        let before = term_of(before_end(true, count));
+        ended_allocation(
+            context,
+            scope,
+            t,
+            number,
+            Terminator::Last,
+            Some(before),
+            span,
+        )
     } else {
-        let number = number_of(context, count)?;
         allocation(context, scope, t, number, span)
     }
 }

@@ -1,4 +1,4 @@
-use Rattle.std.proofs.Common.{◌≡◌, true, ap, ◌∙◌}
+use Rattle.std.proofs.Common.{ap, ◌∙◌}
 use Rattle.ckc_text.specs.declared.code.Code.TheVariants.{E13}
 use Rattle.ckc_text.specs.Places.{place_at}
 use Rattle.ckc_tree.specs.Types.{type_tree}
@@ -39,18 +39,17 @@ returns-in_err-bounds c =
 pub returns-in_err-initial : goal.returns-in_err-initial
 returns-in_err-initial c =
     let leads = tested _ E13 _ (rw c.is_ended_array-ended.ensures at c.in_ok-array_element.ensures) in
-    let known = rw (c.length_of-count.ensures, c.is_ended_array-ended.ensures) at c.in_ok-add_variable.ensures in
     refused_by c.from_residual-in_err-initial.result c.from_residual-in_err-initial.ensures.1
-    (λ stop breaks. variable_unmade (place_at c.args.context.now) (type_tree c.args.base.now) c.args.span (declarator c.args.d.now) (ctype c.args.t.now) c.in_ok-taken.taken (walk c.args.walk.now) c.in_ok-taken.ensures.room.so (tested _ _ _ c.in_ok-needs.ensures) c.in_ok-bounds.bounds (walk c.add_variable.new.walk) known leads c.in_ok-bounds.ensures.so stop breaks)
+    (λ stop breaks. variable_unmade (place_at c.args.context.now) (type_tree c.args.base.now) c.args.span (declarator c.args.d.now) (ctype c.args.t.now) c.in_ok-taken.taken (walk c.args.walk.now) c.in_ok-taken.ensures.room.so (tested _ _ _ c.in_ok-needs.ensures) c.in_ok-bounds.bounds (walk c.add_variable.new.walk) c.in_ok-add_variable.ensures leads c.in_ok-bounds.ensures.so stop breaks)
     c.in_err-initial.ensures
 
 pub returns : goal.returns
 returns c =
     let leads = tested _ E13 _ (rw c.is_ended_array-ended.ensures at c.in_ok-array_element.ensures) in
-    let known = rw (c.length_of-count.ensures, c.is_ended_array-ended.ensures) at c.in_ok-add_variable.ensures in
     let b = c.in_ok-bounds.bounds in
     let j = c.in_ok-initial.initial in
-    let count = c.length_of-count.result in
-    let made : WalkedVariable = record { count = count; ended = c.is_ended_array-ended.result; bounds = b; initial = j } in
-    let same = ap (λ n. record { count = n; ended = c.is_ended_array-ended.result; bounds = b; initial = j }) c.length_of-count.ensures ∙ ap (λ e. record { count = length_of (declarator c.args.d.now); ended = e; bounds = b; initial = j }) c.is_ended_array-ended.ensures in
-    record { so = one_more_variable (place_at c.args.context.now) (type_tree c.args.base.now) c.args.span (declarator c.args.d.now) (ctype c.args.t.now) c.in_ok-taken.taken (walk c.args.walk.now) c.in_ok-taken.ensures.room.so (tested _ _ _ c.in_ok-needs.ensures) b (walk c.add_variable.new.walk) known leads c.in_ok-bounds.ensures.so made j same c.in_ok-initial.ensures.so }
+    let ended = c.is_ended_array-ended.result in
+    let made : WalkedVariable = record { count = c.length_of.result; ended = ended; bounds = b; initial = j } in
+    let same = ap (λ n. record { count = n; ended = ended; bounds = b; initial = j }) c.length_of.ensures
+    ∙ ap (λ e. record { count = length_of (declarator c.args.d.now); ended = e; bounds = b; initial = j }) c.is_ended_array-ended.ensures in
+    record { so = one_more_variable (place_at c.args.context.now) (type_tree c.args.base.now) c.args.span (declarator c.args.d.now) (ctype c.args.t.now) c.in_ok-taken.taken (walk c.args.walk.now) c.in_ok-taken.ensures.room.so (tested _ _ _ c.in_ok-needs.ensures) b (walk c.add_variable.new.walk) c.in_ok-add_variable.ensures leads c.in_ok-bounds.ensures.so made j same c.in_ok-initial.ensures.so }
