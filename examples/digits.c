@@ -1,9 +1,6 @@
 // Writes positive numbers in another base, each on a line. The input has the base, from 2 to 16, and then the numbers; a 0
 // ends them. A number with more than sixteen digits ends the run.
-int digit(int value) {
-  if (value < 10) return '0' + value;
-  return 'a' + (value - 10);
-}
+char digit(int value) { return "0123456789abcdef"[value]; }
 
 // The digits come from the last one on, so they wait in an array until all are there.
 void write(int n, int base) {

@@ -1,8 +1,5 @@
 // A small printf. In a format %s stands for a text, %d for a number, and % before any other byte for this byte. The input has
 // two numbers. Prints each with its name, and returns how many places of the format were filled.
-char format _Nt_checked[10] = {'%', 's', ':', ' ', '%', 'd', '%', '%', '\n'};
-char disk _Nt_checked[5] = {'d', 'i', 's', 'k'};
-char memory _Nt_checked[7] = {'m', 'e', 'm', 'o', 'r', 'y'};
 
 void write_text(nt_array_ptr<char> text) {
   for (; *text; text++) putchar(*text);
@@ -39,6 +36,6 @@ int write_formatted(nt_array_ptr<char> format, int number, nt_array_ptr<char> te
 }
 
 int main(void) {
-  int places = write_formatted(format, next_input(), disk);
-  return places + write_formatted(format, next_input(), memory);
+  int places = write_formatted("%s: %d%%\n", next_input(), "disk");
+  return places + write_formatted("%s: %d%%\n", next_input(), "memory");
 }

@@ -1,7 +1,5 @@
 // Values of a configuration, which has a line `key=value` for each key. The input has its bytes, at most 255, and a 0 behind
 // them. Prints the value of `port` and that of `user`, with a dash for one that isn't there, and returns how many there are.
-char port _Nt_checked[5] = {'p', 'o', 'r', 't'};
-char user _Nt_checked[5] = {'u', 's', 'e', 'r'};
 
 // Reads bytes up to a 0, or as many as there is room for. What stands behind them stays 0.
 void read_text(nt_array_ptr<char> to : count(room), int room) {
@@ -52,5 +50,5 @@ int show(nt_array_ptr<char> value) {
 int main(void) {
   char text _Nt_checked[256];
   read_text(text, 255);
-  return show(value_of(text, port)) + show(value_of(text, user));
+  return show(value_of(text, "port")) + show(value_of(text, "user"));
 }

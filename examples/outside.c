@@ -1,4 +1,6 @@
+// The bounds of a member can't be run yet.
+struct row { int n; array_ptr<int> cells : count(n); };
+
 int main(void) {
-  nt_array_ptr<char> word = "abc";
-  return word[0];
+  return sizeof(struct row);
 }

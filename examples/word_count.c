@@ -1,5 +1,6 @@
 // Counts the lines, the words and the bytes of a text. The input has how many bytes there are at most, and then these; a 0 ends
-// them before. Prints the three numbers, and returns the length of the longest word, or -1 where there is no room for the text.
+// them before. Prints the three numbers with their names, and returns the length of the longest word, or -1 where there is no
+// room for the text.
 
 int is_blank(char c) { return c == ' ' || c == '\t' || c == '\n'; }
 
@@ -44,12 +45,17 @@ nt_array_ptr<char> read_text(int n) : count(n) {
   return text;
 }
 
+void show(nt_array_ptr<char> name, int number) {
+  for (; *name; name++) putchar(*name);
+  print_int(number);
+}
+
 int main(void) {
   int n = next_input();
   nt_array_ptr<char> text : count(n) = read_text(n);
   if (n < 0 || !text) return -1;
-  print_int(count_lines(text));
-  print_int(count_words(text));
-  print_int(strlen(text));
+  show("lines: ", count_lines(text));
+  show("words: ", count_words(text));
+  show("bytes: ", strlen(text));
   return longest_word(text);
 }

@@ -1,1 +1,1 @@
-int main(void) { nt_array_ptr<char> s = "abc"; return 0; }
+int main(void) { int n = 1; _Bundled { n = 2; } return n; }
