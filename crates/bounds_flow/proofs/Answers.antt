@@ -25,10 +25,10 @@ entailed t shows fact among =
     let about : IsAbout t.vars fact = All-contains (IsAbout t.vars) t.facts fact shows.about among in
     record { about = about; entailed = (shows.same fact about).1 (λ v meets. All-contains (Holds v) t.facts fact meets among) }
 
-pub answers_by : (t : Table) (held : List Held) (assigned : List Bool) (a b : Term) (answer : Answer) → Shows t.vars t.facts t.table → AnswersTerms t a b answer
-    → AnswersBy (record { vars = t.vars; facts = t.table; held = held; assigned = assigned }) a b answer
-answers_by t held assigned a b (Yes path) shows h = (All-weaker (Contains t.facts) (IsEntailed t.vars t.table) (entailed t shows) path.facts.items h.0, h.1, h.2)
-answers_by t held assigned a b (No v) shows h = (λ fact about e. (shows.same fact about).0 e (numbers_of v.values.items) h.0, h.1, h.2)
+pub answers_by : (t : Table) (held : List Held) (assigned : List Bool) (bundled : Bool) (a b : Term) (answer : Answer) → Shows t.vars t.facts t.table → AnswersTerms t a b answer
+    → AnswersBy (record { vars = t.vars; facts = t.table; held = held; assigned = assigned; bundled = bundled }) a b answer
+answers_by t held assigned bundled a b (Yes path) shows h = (All-weaker (Contains t.facts) (IsEntailed t.vars t.table) (entailed t shows) path.facts.items h.0, h.1, h.2)
+answers_by t held assigned bundled a b (No v) shows h = (λ fact about e. (shows.same fact about).0 e (numbers_of v.values.items) h.0, h.1, h.2)
 
 -- ---- settlings
 
@@ -66,8 +66,8 @@ first_answers vars t held p (Unproved q v) meet lt n h =
 
 -- ---- an int variable was assigned
 
-pub number_made : (vars after : ℕ) (t made : ClosedTable) (held moved : List Held) (assigned : List Bool) (x : ℕ) (to : Option Term) → after ≡ vars → made ≡ number_facts vars x to t
+pub number_made : (vars after : ℕ) (t made : ClosedTable) (held moved : List Held) (assigned : List Bool) (bundled : Bool) (x : ℕ) (to : Option Term) → after ≡ vars → made ≡ number_facts vars x to t
     → moved ≡ number_held x to (set assigned x true) held
-    → record { vars = after; facts = made; held = moved; assigned = set assigned x true }
-    ≡ number_assigned x to (record { vars = vars; facts = t; held = held; assigned = assigned })
-number_made vars after t made held moved assigned x to e f h = cc
+    → record { vars = after; facts = made; held = moved; assigned = set assigned x true; bundled = bundled }
+    ≡ number_assigned x to (record { vars = vars; facts = t; held = held; assigned = assigned; bundled = bundled })
+number_made vars after t made held moved assigned bundled x to e f h = cc

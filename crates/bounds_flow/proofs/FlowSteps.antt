@@ -1,13 +1,13 @@
 -- Each step from a flow gives a flow.
 use Rattle.std.specs.Prelude.{◌&&◌, ◌+ℤ◌, is_none, pos}
-use Rattle.std.proofs.Common.{ℕ, ◌<◌, ◌≤◌, Bool, true, false, cond, Option, None, Some, List, [], ◌∷◌, fold, set, subst}
+use Rattle.std.proofs.Common.{ℕ, ◌<◌, ◌≤◌, ◌≡◌, Bool, true, false, cond, Option, None, Some, List, [], ◌∷◌, fold, set, subst}
 use Rattle.std.proofs.lemmas.List.{length-map, length-replicate, length-set}
 use Rattle.std.proofs.lemmas.List.Elements.{All-replicate}
 use Rattle.bounds_exprs.specs.declared.term.Term.{Term}
 use Rattle.bounds_exprs.specs.declared.term.Bounds.{Bounds}
 use Rattle.bounds_exprs.specs.Terms.{is_var, is_within, term_limit}
 use Rattle.subsumption.specs.Facts.{IsBelow, fact_of}
-use Rattle.subsumption.specs.ClosedTables.{ClosedTable, entails_terms, with_fact, without}
+use Rattle.subsumption.specs.ClosedTables.{ClosedTable, entails_terms, joined, with_fact, without}
 use Rattle.subsumption.specs.TableLaws.{IsTable}
 use Rattle.subsumption.proofs.TableSteps.{entails_terms_exactly, give_tables}
 use Rattle.bounds_flow.specs.declared.held.Held.{Held}
@@ -21,7 +21,7 @@ use Rattle.bounds_flow.specs.Flows.{Knowledge, are_equal, at_entry, measured, me
 use Rattle.bounds_flow.specs.Conditions.{AreBoundsBelow, AreOfVariables, IsFlow, IsHeldBelow, IsTermBelow, IsTestWithin}
 use Rattle.bounds_flow.specs.Laws.{AreKept, FlowsEntailExactly, GivesFlows}
 use Rattle.bounds_flow.proofs.Pointers.{assigned_below, fresh_below}
-use Rattle.bounds_flow.proofs.Variables.{forgotten, held_below, known, mapped, met_of, none_below, placed, renumbered}
+use Rattle.bounds_flow.proofs.Variables.{forgotten, held_below, known, mapped, met_of, none_below, placed, rejoined_of, renumbered}
 
 -- ---- facts
 
@@ -118,15 +118,23 @@ measured_is x p f is lt =
       variables = placed f.vars f.held f.assigned p _ is.variables (measured_below f.vars x facts (held_at f.held p).bounds (held_at f.held p) lt h.bounds h);
     }
 
-length_is : (test : Bool) (f g : Knowledge) → IsFlow f → IsFlow g → IsFlow (cond test f g)
-length_is true f g h k = h
-length_is false f g h k = k
+either_is : (test : Bool) (f g : Knowledge) → IsFlow f → IsFlow g → IsFlow (cond test f g)
+either_is true f g h k = h
+either_is false f g h k = k
 
 assigned_is : (f : Knowledge) (x : ℕ) (to : Option Term) → IsFlow f → x < f.vars → IsTermBelow f.vars to → IsFlow (number_assigned x to f)
 assigned_is f x to is lt below = record {
   few = is.few;
   facts = number_table f.vars x to f.facts lt below is.facts;
   variables = renumbered f.vars _ f.assigned (set f.assigned x true) (number_pointers f.vars x to f.held f.assigned (set f.assigned x true) is.variables) (length-set f.assigned x true);
+}
+
+joined_is : (f g : Knowledge) (held : List Held) → AreOfVariables f.vars held f.assigned → IsFlow f → IsFlow g → g.vars ≡ f.vars
+    → IsFlow (record f { facts = joined f.vars f.facts g.facts; held = held })
+joined_is f g held now is other e = record {
+  few = is.few;
+  facts = (give_tables f.vars).join f.facts g.facts is.facts (subst (λ n. IsTable n g.facts) e other.facts);
+  variables = now;
 }
 
 gives_flows : (f : Knowledge) → IsFlow f → GivesFlows f
@@ -150,18 +158,18 @@ gives_flows f is = record {
     variables = placed f.vars f.held f.assigned p _ is.variables
         (let h = held_below f.vars f.held p is.variables.below in bounded_below f.vars _ (held_at f.held p) (wider_below f.vars index f.facts (held_at f.held p).bounds h.bounds) h);
   };
-  strlen = λ x p lt. (let after = assigned_is f x None is lt tt in length_is (is_own (held_at f.held p).bounds) _ _ (measured_is x p (number_assigned x None f) after lt) after);
+  strlen = λ x p lt. (let after = assigned_is f x None is lt tt in either_is (is_own (held_at f.held p).bounds) _ _ (measured_is x p (number_assigned x None f) after lt) after);
   enter_loop = λ changed. record {
     few = is.few;
     facts = killed_table f.vars f.facts changed is.facts;
     variables = forgotten f.vars _ f.assigned changed (mapped f.vars f.held f.assigned f.assigned Head is.variables);
   };
   cut = record { few = is.few; facts = tt; variables = is.variables };
-  join = λ g other e. record {
-    few = is.few;
-    facts = (give_tables f.vars).join f.facts g.facts is.facts (subst (λ n. IsTable n g.facts) e other.facts);
-    variables = met_of f.vars f.held g.held f.assigned is.variables;
-  };
+  join = λ g other e. joined_is f g _ (met_of f.vars f.held g.held f.assigned is.variables) is other e;
+  rejoin = λ before g was same other e. either_is before.bundled _ _
+      (joined_is f g _ (rejoined_of f.vars before.held f.held g.held before.assigned f.assigned (subst (λ n. AreOfVariables n before.held before.assigned) same was.variables) is.variables) is other e)
+      (joined_is f g _ (met_of f.vars f.held g.held f.assigned is.variables) is other e);
+  bundle = record { few = is.few; facts = is.facts; variables = is.variables };
   settle = record {
     few = is.few;
     facts = is.facts;

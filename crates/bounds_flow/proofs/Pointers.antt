@@ -10,7 +10,7 @@ use Rattle.bounds_flow.specs.declared.changes.Change.{Change}
 use Rattle.bounds_flow.specs.declared.changes.Change.TheVariants.{Shift, Number, Base, Leave, Head, Settle}
 use Rattle.bounds_flow.specs.declared.steps.Source.{Source}
 use Rattle.bounds_flow.specs.declared.steps.Source.TheVariants as sources
-use Rattle.bounds_flow.specs.Pointers.{assigned_from, bounds_from, dropped, fresh, is_settled, joined_with, lost, moved_off, moved_to, same_bounds, speaks_of, where_bounds, with_declared}
+use Rattle.bounds_flow.specs.Pointers.{assigned_from, bounds_from, dropped, fresh, is_settled, joined_over, lost, moved_off, moved_to, same_bounds, speaks_of, where_bounds, with_declared}
 use Rattle.bounds_flow.specs.Conditions.{AreBoundsBelow, AreEndsBelow, IsHeldBelow, IsSourceBelow, IsTermBelow}
 use Rattle.bounds_flow.specs.Changes.{changed}
 
@@ -78,5 +78,5 @@ pub assigned_below : (vars p : ℕ) (from : Source) (moved : Option ℤ) (not_nu
     → IsHeldBelow vars (assigned_from p from moved not_null h)
 assigned_below vars p from moved not_null h is e = record { declared = is.declared; bounds = from_below vars p moved from e }
 
-pub joined_below : (vars : ℕ) (h k : Held) → IsHeldBelow vars h → IsHeldBelow vars (joined_with h k)
-joined_below vars h k is = record { declared = is.declared; bounds = either_bounds vars (same_bounds h.bounds k.bounds) h.bounds h.declared is.bounds is.declared }
+pub joined_below : (vars : ℕ) (other : Option Bounds) (h k : Held) → AreBoundsBelow vars other → IsHeldBelow vars h → IsHeldBelow vars (joined_over other h k)
+joined_below vars other h k below is = record { declared = is.declared; bounds = either_bounds vars (same_bounds h.bounds k.bounds) h.bounds other is.bounds below }

@@ -8,8 +8,8 @@ use Rattle.std.specs.declared.vec.Vec.{Vec}
 use Rattle.std.proofs.lemmas.List.Elements.{All-cons, All-head, All-tail, All-get_or, All-map, All-set, All-weaker}
 use Rattle.bounds_flow.specs.declared.held.Held.{Held}
 use Rattle.bounds_flow.specs.declared.changes.Change.{Change}
-use Rattle.bounds_flow.specs.Pointers.{joined_with, known_not_null, maybe_null, no_pointer}
-use Rattle.bounds_flow.specs.Flows.{change_at, held_at, joined_held}
+use Rattle.bounds_flow.specs.Pointers.{joined_over, joined_with, known_not_null, maybe_null, no_pointer}
+use Rattle.bounds_flow.specs.Flows.{change_at, held_at, joined_held, rejoined_held}
 use Rattle.bounds_flow.specs.Conditions.{AreOfVariables, IsHeldBelow}
 use Rattle.bounds_flow.specs.Changes.{changed}
 use Rattle.bounds_flow.proofs.Pointers.{changed_below, joined_below}
@@ -59,7 +59,8 @@ joined_all : (vars : ℕ) (held others : List Held) → All (IsHeldBelow vars) h
 joined_all vars [] others all = all
 joined_all vars (h ∷ held) [] all = all
 joined_all vars (h ∷ held) (k ∷ others) all =
-    All-cons (IsHeldBelow vars) _ _ (joined_below vars h k (All-head (IsHeldBelow vars) h held all)) (joined_all vars held others (All-tail (IsHeldBelow vars) h held all))
+    let first = All-head (IsHeldBelow vars) h held all in
+    All-cons (IsHeldBelow vars) _ _ (joined_below vars h.declared h k first.declared first) (joined_all vars held others (All-tail (IsHeldBelow vars) h held all))
 
 length-joined : (held others : List Held) → length (joined_held held others) ≡ length held
 length-joined [] others = refl
@@ -68,6 +69,29 @@ length-joined (h ∷ held) (k ∷ others) = ap suc (length-joined held others)
 
 pub met_of : (vars : ℕ) (held others : List Held) (assigned : List Bool) → AreOfVariables vars held assigned → AreOfVariables vars (joined_held held others) assigned
 met_of vars held others assigned is = record { pointers = length-joined held others ∙ is.pointers; numbers = is.numbers; below = joined_all vars held others is.below }
+
+rejoined_all : (vars : ℕ) (before held others : List Held) → All (IsHeldBelow vars) before → All (IsHeldBelow vars) held → All (IsHeldBelow vars) (rejoined_held before held others)
+rejoined_all vars [] held others was all = was
+rejoined_all vars (b ∷ before) [] others was all = all
+rejoined_all vars (b ∷ before) (h ∷ held) [] was all = all
+rejoined_all vars (b ∷ before) (h ∷ held) (k ∷ others) was all =
+    let P = IsHeldBelow vars in
+    let first = joined_below vars b.bounds h k (All-head P b before was).bounds (All-head P h held all) in
+    All-cons P _ _ first (rejoined_all vars before held others (All-tail P b before was) (All-tail P h held all))
+
+length-rejoined : (before held others : List Held) → length before ≡ length held → length (rejoined_held before held others) ≡ length held
+length-rejoined [] held others e = e
+length-rejoined (b ∷ before) [] others e = refl
+length-rejoined (b ∷ before) (h ∷ held) [] e = refl
+length-rejoined (b ∷ before) (h ∷ held) (k ∷ others) e = ap suc (length-rejoined before held others (omega (arith, e)))
+
+pub rejoined_of : (vars : ℕ) (before held others : List Held) (since assigned : List Bool) → AreOfVariables vars before since → AreOfVariables vars held assigned
+    → AreOfVariables vars (rejoined_held before held others) assigned
+rejoined_of vars before held others since assigned was is = record {
+  pointers = length-rejoined before held others (was.pointers ∙ sym is.pointers) ∙ is.pointers;
+  numbers = is.numbers;
+  below = rejoined_all vars before held others was.below is.below;
+}
 
 -- ---- loops
 
@@ -78,6 +102,17 @@ join_more i [] others lt lu = absurd (omega arith)
 join_more i (h ∷ held) [] lt lu = absurd (omega arith)
 join_more zero (h ∷ held) (k ∷ others) lt lu = refl
 join_more (suc i) (h ∷ held) (k ∷ others) lt lu = ap (λ l. joined_with h k ∷ l) (join_more i held others (omega arith) (omega arith))
+
+pub rejoin_more : (i : ℕ) (before held others : List Held) → i < length before → i < length held → i < length others
+    → set (rejoined_held (take i before) (take i held) (take i others) ++ drop i held) i
+    (joined_over (get_or before i no_pointer).bounds (get_or (rejoined_held (take i before) (take i held) (take i others) ++ drop i held) i no_pointer) (get_or others i no_pointer))
+    ≡ rejoined_held (take (suc i) before) (take (suc i) held) (take (suc i) others) ++ drop (suc i) held
+rejoin_more i [] held others lb lt lu = absurd (omega arith)
+rejoin_more i (b ∷ before) [] others lb lt lu = absurd (omega arith)
+rejoin_more i (b ∷ before) (h ∷ held) [] lb lt lu = absurd (omega arith)
+rejoin_more zero (b ∷ before) (h ∷ held) (k ∷ others) lb lt lu = refl
+rejoin_more (suc i) (b ∷ before) (h ∷ held) (k ∷ others) lb lt lu =
+    ap (λ l. joined_over b.bounds h k ∷ l) (rejoin_more i before held others (omega arith) (omega arith) (omega arith))
 
 -- an item is the same wherever the list doesn't end before it
 pub read_again : {X : Type 0} (xs : List X) (i : ℕ) (d : X) → get_or xs i d ≡ get_or xs i (get_or xs i d)

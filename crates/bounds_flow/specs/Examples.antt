@@ -10,7 +10,7 @@ use Rattle.bounds_flow.specs.declared.steps.How.{How}
 use Rattle.bounds_flow.specs.declared.steps.How.TheVariants.{Lt, Ge, Eq, Ne}
 use Rattle.bounds_flow.specs.declared.steps.Test.TheVariants.{NotNull, Compare}
 use Rattle.bounds_flow.specs.Pointers.{no_pointer}
-use Rattle.bounds_flow.specs.Flows.{Knowledge, held_at, at_entry, entered, left, number_assigned, pointer_assigned, assumed, at_head, cut_off, met, settled}
+use Rattle.bounds_flow.specs.Flows.{Knowledge, held_at, at_entry, entered, left, number_assigned, pointer_assigned, assumed, at_head, cut_off, in_bundle, met, rejoined, settled}
 use Rattle.bounds_flow.specs.Flows.{widened, wider, length_assigned}
 use Rattle.bounds_flow.specs.Settling.{Finding, Meets, WasLost, Falls, finding}
 
@@ -150,6 +150,23 @@ WaysMeet = let three = number_assigned 0 (Some (number (pos 3))) start_narrow in
     (bounds_in (met start_narrow (start count_n)) 2 ≡ Some count_n) × (bounds_in (met start_narrow start_narrow) 2 ≡ Some count_x)
     × ((met three (start count_n)).facts ≡ no_facts 4) × ((met (cut_off (start count_n)) three).facts ≡ three.facts)
     × (entails_terms (number (pos 1)) (number (pos 0)) (cut_off (start count_n)).facts ≡ true)
+
+-- where two ways through one expression know different bounds, they are those from before in a bundle, and else the declared ones; equal ones are kept
+abbrev pub WaysMeetAgain : Type 0
+WaysMeetAgain = let inside = in_bundle start_narrow in
+    let once = widened 2 (plus 1 (pos 0)) inside in
+    (bounds_in (rejoined inside inside once) 2 ≡ Some count_x) × (bounds_in (rejoined inside once inside) 2 ≡ Some count_x)
+    × (bounds_in (rejoined inside once once) 2 ≡ Some (from_itself (number (pos 0)) (plus 1 (pos 1))))
+    × (bounds_in (rejoined once once inside) 2 ≡ Some (from_itself (number (pos 0)) (plus 1 (pos 1))))
+    × (bounds_in (rejoined start_narrow start_narrow (widened 2 (plus 1 (pos 0)) start_narrow)) 2 ≡ Some count_n)
+
+-- `_Bundled { n = 5; p = q; }` with 0 to 5 in force for q: p meets its declared bounds at its end, and not before; it is a bundle from its beginning to
+-- its settling
+abbrev pub BundlesEnd : Type 0
+BundlesEnd = let number_first = number_assigned 0 (Some (number (pos 5))) (in_bundle (start count_n)) in
+    let both = pointer_assigned 2 (sources.Known (from_itself (number (pos 0)) (number (pos 5)))) None false number_first in
+    (finding_in number_first 2 ≡ WasLost) × (finding_in both 2 ≡ Meets) × (bounds_in (settled both) 2 ≡ Some count_n)
+    × ((start count_n).bundled ≡ false) × (both.bundled ≡ true) × ((settled both).bundled ≡ false)
 
 -- Where p has the bounds 0 to x: its element at x raises the end to x + 1, and then that at x + 1 to x + 2; its first one raises it where x is 0, and
 -- no other one. Behind an assignment to p the bounds are those that it gives, and behind one to x the declared ones

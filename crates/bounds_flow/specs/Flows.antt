@@ -14,15 +14,16 @@ use Rattle.bounds_flow.specs.declared.steps.How.TheVariants.{Lt, Le, Gt, Ge, Eq,
 use Rattle.bounds_flow.specs.declared.steps.Test.{Test}
 use Rattle.bounds_flow.specs.declared.steps.Test.TheVariants.{NotNull, Compare}
 use Rattle.bounds_flow.specs.Pointers.{no_pointer, fresh, with_declared, maybe_null, known_not_null, after_shift, after_number, after_base, assigned_from}
-use Rattle.bounds_flow.specs.Pointers.{joined_with, after_leaving, settled_pointer, is_own, one_further, with_bounds}
+use Rattle.bounds_flow.specs.Pointers.{joined_over, joined_with, after_leaving, settled_pointer, is_own, one_further, with_bounds}
 
--- the number of variables, the facts, what is known of each variable as a pointer, and which int variables were assigned
--- since the last settling
+-- the number of variables, the facts, what is known of each variable as a pointer, which int variables were assigned since the last settling,
+-- and whether it stands in a bundle, at whose end alone it is settled
 pub record Knowledge : Type 0 where
   pub vars : ℕ
   pub facts : ClosedTable
   pub held : List Held
   pub assigned : List Bool
+  pub bundled : Bool
 
 -- what is known of a variable
 abbrev pub held_at : List Held → ℕ → Held
@@ -36,7 +37,8 @@ change_at x change held = slice_set held x (change (held_at held x))
 
 -- where nothing is in scope yet
 abbrev pub at_entry : ℕ → Knowledge
-at_entry vars = record { vars = vars; facts = no_facts vars; held = replicate vars no_pointer; assigned = replicate vars false }
+at_entry vars =
+    record { vars = vars; facts = no_facts vars; held = replicate vars no_pointer; assigned = replicate vars false; bundled = false }
 
 -- the variable comes into scope
 abbrev pub entered : ℕ → Option Bounds → Knowledge → Knowledge
@@ -173,9 +175,28 @@ joined_held (h ∷ held) (k ∷ others) = joined_with h k ∷ joined_held held o
 abbrev pub met : Knowledge → Knowledge → Knowledge
 met f g = record f { facts = joined f.vars f.facts g.facts; held = joined_held f.held g.held }
 
--- after a settling that all pointers meet
+-- each pointer with that of the second way; where their bounds differ, it has those from before both
+abbrev pub rejoined_held : (before held others : List Held) → List Held
+rejoined_held [] held others = []
+rejoined_held (b ∷ before) [] others = []
+rejoined_held (b ∷ before) (h ∷ held) [] = h ∷ held
+rejoined_held (b ∷ before) (h ∷ held) (k ∷ others) = joined_over b.bounds h k ∷ rejoined_held before held others
+
+-- two ways through one expression meet, before which so much was known. In a bundle declared bounds needn't hold, so what the ways differ in is
+-- there as it was before the expression
+abbrev pub rejoined : (before f g : Knowledge) → Knowledge
+rejoined before f g =
+    cond before.bundled (record f { facts = joined f.vars f.facts g.facts; held = rejoined_held before.held f.held g.held }) (met f g)
+
+-- ---- bundles
+
+-- where a bundle begins
+abbrev pub in_bundle : Knowledge → Knowledge
+in_bundle f = record f { bundled = true }
+
+-- after a settling that all pointers meet, which ends a bundle
 abbrev pub settled : Knowledge → Knowledge
-settled f = record f { held = map settled_pointer f.held; assigned = map (λ was. false) f.assigned }
+settled f = record f { held = map settled_pointer f.held; assigned = map (λ was. false) f.assigned; bundled = false }
 
 -- ---- steps that find no memory
 
@@ -184,3 +205,4 @@ pub record KeepsPointers (before after : Knowledge) : Type 0 where
   pub vars : after.vars ≡ before.vars
   pub held : after.held ≡ before.held
   pub assigned : after.assigned ≡ before.assigned
+  pub bundled : after.bundled ≡ before.bundled

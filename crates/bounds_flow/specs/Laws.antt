@@ -7,7 +7,7 @@ use Rattle.subsumption.specs.ClosedTables.{entails_terms}
 use Rattle.subsumption.specs.TableLaws.{MeetsTable}
 use Rattle.bounds_flow.specs.declared.steps.Source.{Source}
 use Rattle.bounds_flow.specs.declared.steps.Test.{Test}
-use Rattle.bounds_flow.specs.Flows.{Knowledge, at_entry, entered, left, number_assigned, pointer_assigned, assumed, at_head, cut_off, met, settled}
+use Rattle.bounds_flow.specs.Flows.{Knowledge, at_entry, entered, left, number_assigned, pointer_assigned, assumed, at_head, cut_off, in_bundle, met, rejoined, settled}
 use Rattle.bounds_flow.specs.Flows.{widened, length_assigned}
 use Rattle.bounds_flow.specs.Conditions.{AreBoundsBelow, IsFlow, IsSourceBelow, IsTermBelow, IsTestWithin}
 
@@ -24,6 +24,8 @@ pub record GivesFlows (f : Knowledge) : Type 0 where
   pub enter_loop : (changed : List ℕ) → IsFlow (at_head changed f)
   pub cut : IsFlow (cut_off f)
   pub join : (g : Knowledge) → IsFlow g → g.vars ≡ f.vars → IsFlow (met f g)
+  pub rejoin : (before g : Knowledge) → IsFlow before → before.vars ≡ f.vars → IsFlow g → g.vars ≡ f.vars → IsFlow (rejoined before f g)
+  pub bundle : IsFlow (in_bundle f)
   pub settle : IsFlow (settled f)
 
 -- flows begin at an entry, and stay flows

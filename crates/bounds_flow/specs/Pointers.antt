@@ -139,9 +139,13 @@ same_bounds None (Some b) = false
 same_bounds (Some a) None = false
 same_bounds (Some a) (Some b) = is_same a.base b.base && (same_term a.lo b.lo && same_term a.hi b.hi)
 
--- equal bounds are kept, others become the declared ones; it isn't null where it isn't on both ways
+-- equal bounds are kept, others become these; it isn't null where it isn't on both ways
+abbrev pub joined_over : Option Bounds → Held → Held → Held
+joined_over other h k = record h { bounds = cond (same_bounds h.bounds k.bounds) h.bounds other; known = h.known && k.known }
+
+-- others become the declared ones
 abbrev pub joined_with : Held → Held → Held
-joined_with h k = record h { bounds = cond (same_bounds h.bounds k.bounds) h.bounds h.declared; known = h.known && k.known }
+joined_with h k = joined_over h.declared h k
 
 -- the bounds speak of the variable
 abbrev pub speaks_of : ℕ → Bounds → Bool

@@ -4,10 +4,10 @@ ghost use Rattle.std.specs.Prelude.{◌≡◌, ◌<◌, Bool, List, false, fold,
 ghost use Rattle.std.specs.List.{All};
 ghost use Rattle.bounds_flow.specs.declared.held.Held.{Held};
 ghost use Rattle.bounds_flow.specs.Pointers.{maybe_null};
-ghost use Rattle.bounds_flow.specs.Flows.{change_at, joined_held, number_held};
+ghost use Rattle.bounds_flow.specs.Flows.{change_at, joined_held, number_held, rejoined_held};
 ghost use Rattle.bounds_flow.specs.Changes.{IsChangeSmall, changed};
 
-use crate::effects::{join, leave, replace_base, replace_number, reset, settle, shift};
+use crate::effects::{join, join_over, leave, replace_base, replace_number, reset, settle, shift};
 use crate::held::Held;
 use bounds_exprs::term::Term;
 
@@ -87,6 +87,17 @@ pub fn join_all(held: &mut [Held], others: &[Held])
 {
     for i in 0..held.len() {
         held[i] = join(&held[i], &others[i]);
+    }
+}
+
+/// All pointers where two ways through one expression meet, with those from before it.
+pub fn rejoin_all(held: &mut [Held], others: &[Held], before: &[Held])
+    requires others { length others.now ≡ length held.old }
+    requires before { length before.now ≡ length held.old }
+    ensures { held.new ≡ rejoined_held before.now held.old others.now }
+{
+    for i in 0..held.len() {
+        held[i] = join_over(before[i].bounds, &held[i], &others[i]);
     }
 }
 

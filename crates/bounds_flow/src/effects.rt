@@ -1,7 +1,7 @@
 // What becomes of one pointer.
 
 ghost use Rattle.std.specs.Prelude.{◌≡◌};
-ghost use Rattle.bounds_flow.specs.Pointers.{after_base, after_leaving, after_number, after_shift, assigned_from, bounds_from, dropped, fresh, is_assigned, is_settled, joined_with, lost, mark_from, moved_off, moved_to, no_pointer, same_bounds, same_term, settled_pointer, speaks_of, stays_true, with_declared};
+ghost use Rattle.bounds_flow.specs.Pointers.{after_base, after_leaving, after_number, after_shift, assigned_from, bounds_from, dropped, fresh, is_assigned, is_settled, joined_over, joined_with, lost, mark_from, moved_off, moved_to, no_pointer, same_bounds, same_term, settled_pointer, speaks_of, stays_true, with_declared};
 ghost use Rattle.bounds_flow.specs.Conditions.{IsSmall};
 
 use crate::held::{Held, Mark};
@@ -232,20 +232,27 @@ fn are_same(a: &Option<Bounds>, b: &Option<Bounds>) -> bool
     }
 }
 
-/// The pointer where two ways meet.
-pub fn join(h: &Held, other: &Held) -> Held
-    ensures { result ≡ joined_with h.now other.now }
+/// The pointer where two ways meet, which has other bounds where those of the two ways differ.
+pub fn join_over(bounds: Option<Bounds>, h: &Held, other: &Held) -> Held
+    ensures { result ≡ joined_over bounds h.now other.now }
 {
     let bounds = if are_same(&h.bounds, &other.bounds) {
         h.bounds
     } else {
-        h.declared
+        bounds
     };
     Held {
         bounds,
         known: h.known && other.known,
         ..*h
     }
+}
+
+/// The pointer where two ways meet.
+pub fn join(h: &Held, other: &Held) -> Held
+    ensures { result ≡ joined_with h.now other.now }
+{
+    join_over(h.declared, h, other)
 }
 
 fn speak_of(b: &Bounds, var: u32) -> bool

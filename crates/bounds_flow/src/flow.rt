@@ -5,11 +5,11 @@ ghost use Rattle.std.specs.List.{All};
 ghost use Rattle.subsumption.specs.Facts.{IsBelow};
 ghost use Rattle.subsumption.specs.ClosedTables.{entails_terms};
 ghost use Rattle.subsumption.specs.ShownTables.{is_yes};
-ghost use Rattle.bounds_flow.specs.Flows.{KeepsPointers, assumed, at_entry, at_head, cut_off, entered, held_at, left, length_assigned, measured_by, met, number_assigned, pointer_assigned, widened, wider};
+ghost use Rattle.bounds_flow.specs.Flows.{KeepsPointers, assumed, at_entry, at_head, cut_off, entered, held_at, left, length_assigned, measured_by, met, number_assigned, in_bundle, pointer_assigned, rejoined, widened, wider};
 ghost use Rattle.bounds_flow.specs.Settling.{Answers, settled_by};
 ghost use Rattle.bounds_flow.specs.Conditions.{AnswersBy, AreBoundsBelow, IsFlow, IsSmall, IsSourceBelow, IsTermBelow, IsTestWithin};
 
-use crate::changes::{Change, change_all, clear, forget_all, join_all, number_change};
+use crate::changes::{Change, change_all, clear, forget_all, join_all, number_change, rejoin_all};
 use crate::effects::{assign, declare, nothing};
 use crate::held::Held;
 use crate::lengths::{counts_from_itself, measure, variable_term, widen, with_bounds};
@@ -33,6 +33,8 @@ pub struct Flow {
     held: Vec<Held>,
     /// Which `int` variables were assigned since the last settling.
     assigned: Vec<bool>,
+    /// Whether it stands in a bundle.
+    bundled: bool,
 }
 
 impl Model for Flow {
@@ -41,7 +43,7 @@ impl Model for Flow {
 
     ghost Value = { Knowledge };
 
-    ghost view = { λ f. record { vars = f.facts.vars; facts = f.facts.table; held = f.held.items; assigned = f.assigned.items } };
+    ghost view = { λ f. record { vars = f.facts.vars; facts = f.facts.table; held = f.held.items; assigned = f.assigned.items; bundled = f.bundled } };
 
     ghost invariant = { λ f. AreOfVariables f.facts.vars f.held.items f.assigned.items };
 }
@@ -60,6 +62,7 @@ impl Flow {
             facts,
             held,
             assigned,
+            bundled: false,
         })
     }
 
@@ -75,6 +78,7 @@ impl Flow {
             facts,
             held,
             assigned,
+            bundled: self.bundled,
         })
     }
 
@@ -278,8 +282,39 @@ impl Flow {
         Ok(())
     }
 
+    /// Two ways through one expression meet, before which so much was known. In a bundle, pointers of which the two know
+    /// different bounds have those from before, and else their declared ones, as where two ways meet between statements.
+    pub fn rejoin(&mut self, other: &Flow, before: &Flow) -> Result<(), NoMemory>
+        requires other { other.now.vars ≡ self.old.vars }
+        requires before { before.now.vars ≡ self.old.vars }
+        ensures ok { OnOk result (self.new ≡ rejoined before.now self.old other.now) }
+        ensures err { OnErr result (self.new ≡ self.old) }
+    {
+        if !before.bundled {
+            return self.join(other);
+        }
+        self.facts.join(&other.facts)?;
+        rejoin_all(&mut self.held, &other.held, &before.held);
+        Ok(())
+    }
+
+    /// A bundle begins: its end alone settles.
+    pub fn begin_bundle(&mut self)
+        ensures { self.new ≡ in_bundle self.old }
+    {
+        self.bundled = true;
+    }
+
+    /// Whether it stands in a bundle.
+    pub fn is_bundled(&self) -> bool
+        ensures { result ≡ self.now.bundled }
+    {
+        self.bundled
+    }
+
     /// Whether all pointers meet their declared bounds, in order. Where they do, those that were assigned, moved or lost
-    /// have their declared bounds afterwards, and no variable is assigned any more. Else the flow is as before.
+    /// have their declared bounds afterwards, no variable is assigned any more, and a bundle has ended. Else the flow is as
+    /// before.
     pub fn settle(&mut self) -> Result<Settled, NoMemory>
         ensures answers { IfOk result (Answers self.old.vars self.old.facts self.old.held) }
         ensures after { IfOk result (λ answer. self.new ≡ settled_by answer self.old) }
@@ -290,6 +325,7 @@ impl Flow {
         if let Settled::Kept = answer {
             change_all(&mut self.held, &Change::Settle, &self.assigned);
             clear(&mut self.assigned);
+            self.bundled = false;
         }
         Ok(answer)
     }

@@ -1,7 +1,7 @@
 // What flows know: each function proves what its contract says, and does nothing.
 
 ghost use Rattle.bounds_flow.specs.Laws.{AreKept, FlowsEntailExactly};
-ghost use Rattle.bounds_flow.specs.Examples.{AtEntry, BasesMove, CountsAreLowered, CountsAreRaised, CountsAreReplaced, DeclaredBoundsComeBack, EndsAreAskedInOrder, LengthsAreBounds, LoopsForget, LostLengthsComeBack, NullMeetsAll, ScopesEnd, ShiftsAreLimited, ShiftsByNothingCount, TestsForNull, TestsTellTwoWays, TestsWiden, WaysMeet, WideningIsLimited};
+ghost use Rattle.bounds_flow.specs.Examples.{AtEntry, BasesMove, BundlesEnd, CountsAreLowered, CountsAreRaised, CountsAreReplaced, DeclaredBoundsComeBack, EndsAreAskedInOrder, LengthsAreBounds, LoopsForget, LostLengthsComeBack, NullMeetsAll, ScopesEnd, ShiftsAreLimited, ShiftsByNothingCount, TestsForNull, TestsTellTwoWays, TestsWiden, WaysMeet, WaysMeetAgain, WideningIsLimited};
 
 /// Entry, scopes and ways.
 pub fn ways()
@@ -9,6 +9,8 @@ pub fn ways()
     ensures scopes { ScopesEnd }
     ensures loops { LoopsForget }
     ensures joins { WaysMeet }
+    ensures expressions { WaysMeetAgain }
+    ensures bundles { BundlesEnd }
 {}
 
 /// Assignments to `int` variables.

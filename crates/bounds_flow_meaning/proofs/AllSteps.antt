@@ -3,6 +3,7 @@ use Rattle.bounds_flow_meaning.specs.Laws.{FlowsHold}
 use Rattle.bounds_flow_meaning.proofs.Steps.{forgotten_one, enter_fits, enter_holds, enter_valid_holds, grow_but, grow_fits, grow_holds, number_holds, pointer_holds}
 use Rattle.bounds_flow.proofs.Variables.{held_below}
 use Rattle.bounds_flow_meaning.proofs.Lengths.{length_holds}
+use Rattle.bounds_flow_meaning.proofs.Rejoined.{again_first, again_second, bundle_fits}
 use Rattle.bounds_flow_meaning.proofs.Widening.{widen_fits, widen_holds}
 use Rattle.bounds_flow_meaning.proofs.Ways.{assume_fits, assume_holds, entail_holds, first_fits, first_holds, head_fits, leave_fits, narrow_valid, second_fits, second_holds, settle_fits}
 
@@ -15,6 +16,7 @@ flows_hold structs f flow = record {
   assign_int = λ x to s old z lt below there has is h. number_holds structs f flow s x old z lt there has h to below is;
   forget = forgotten_one structs f;
   assign_pointer = pointer_holds structs f;
+  bundle = bundle_fits structs f;
   settle = λ s. settle_fits structs f flow s;
   assume = λ test truth s. assume_holds structs f flow s test truth;
   assume_between = λ test truth s. assume_fits structs f flow s test truth;
@@ -25,6 +27,8 @@ flows_hold structs f flow = record {
   join_second = λ g s other beside. second_fits structs f g flow other beside.vars s beside;
   tested_first = λ g s other tested. first_holds structs f g flow other tested.vars s tested;
   tested_second = λ g s other tested. second_holds structs f g flow other tested.vars s tested;
+  rejoin_first = λ before g s start other to_f to_g was. again_first structs before f g start flow other to_f to_g s was;
+  rejoin_second = λ before g s start other to_f to_g was. again_second structs before f g start flow other to_f to_g s was;
   enter_loop = λ changed s t. head_fits structs f flow changed s t;
   grow = λ s t grows same. grow_holds structs s t grows same f;
   grow_but = λ p s t grows same. grow_but structs s t grows same f p;

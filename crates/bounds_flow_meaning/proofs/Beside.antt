@@ -128,28 +128,30 @@ abbrev Rests : ℕ → Held → Type 0
 Rests q k = k.mark ≡ marks.Settled
 
 assumed_settled : (f : Knowledge) (test : Test) (truth : Bool) → IsSettled f → IsSettled (assumed test truth f)
-assumed_settled f (NotNull x) true settled = record { marks = each_put Rests f.held x (known_not_null (held_at f.held x)) (settled.marks x) settled.marks; assigned = settled.assigned }
+assumed_settled f (NotNull x) true settled = record { marks = each_put Rests f.held x (known_not_null (held_at f.held x)) (settled.marks x) settled.marks; assigned = settled.assigned; apart = settled.apart }
 assumed_settled f (NotNull x) false settled = settled
-assumed_settled f (Compare how a b) truth settled = record { marks = settled.marks; assigned = settled.assigned }
+assumed_settled f (Compare how a b) truth settled = record { marks = settled.marks; assigned = settled.assigned; apart = settled.apart }
 
 stay_settled : (f : Knowledge) → StepsStaySettled f
 stay_settled f = record {
-  settle = record { marks = each_map Rests settled_pointer refl f.held (λ q. refl); assigned = none_assigned f.assigned };
-  enter = λ x declared settled. record { marks = each_put Rests f.held x (fresh declared) refl settled.marks; assigned = settled.assigned };
+  settle = record { marks = each_map Rests settled_pointer refl f.held (λ q. refl); assigned = none_assigned f.assigned; apart = refl };
+  enter = λ x declared settled. record { marks = each_put Rests f.held x (fresh declared) refl settled.marks; assigned = settled.assigned; apart = settled.apart };
   leave = λ x settled. record {
     marks = each_put Rests (map (after_leaving x) f.held) x no_pointer refl
         (each_map Rests (after_leaving x) refl f.held (λ q. leaving (λ k. k.mark ≡ marks.Settled) (held_at f.held q) x (settled.marks q) (settled.marks q)));
     assigned = λ y. false_set f.assigned x y (settled.assigned y);
+    apart = settled.apart;
   };
   assume = assumed_settled f;
   widen = λ p index settled. record {
     marks = each_put Rests f.held p (with_bounds (wider index f.facts (held_at f.held p).bounds) (held_at f.held p))
         (bounds_marked (wider index f.facts (held_at f.held p).bounds) (held_at f.held p) ∙ settled.marks p) settled.marks;
     assigned = settled.assigned;
+    apart = settled.apart;
   };
-  enter_loop = λ changed settled. record { marks = λ p. (head_at changed f p).mark ∙ settled.marks p; assigned = settled.assigned };
-  cut = λ settled. record { marks = settled.marks; assigned = settled.assigned };
-  join = λ g e settled. record { marks = λ p. ap (λ (h : Held). h.mark) (joined_at f.held g.held (sym e) p) ∙ settled.marks p; assigned = settled.assigned };
+  enter_loop = λ changed settled. record { marks = λ p. (head_at changed f p).mark ∙ settled.marks p; assigned = settled.assigned; apart = settled.apart };
+  cut = λ settled. record { marks = settled.marks; assigned = settled.assigned; apart = settled.apart };
+  join = λ g e settled. record { marks = λ p. ap (λ (h : Held). h.mark) (joined_at f.held g.held (sym e) p) ∙ settled.marks p; assigned = settled.assigned; apart = settled.apart };
 }
 
 -- ---- flows between which there are tests

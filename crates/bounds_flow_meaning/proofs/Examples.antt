@@ -96,7 +96,7 @@ three_fit : (w : World) → Fits [] (start count_n) (three_ints w (pos 3))
 three_fit w = start_fits (three_ints w (pos 3)) (three_types w) (may_count w (pos 3)) (λ l e. subst (λ l. IsValid [] (Some count_n) l (three_ints w (pos 3))) (same_Some (holding ints (At 0 0)) l e) (record { passes = λ site. refl; leads = three_leads w }))
 
 four_dont : (w : World) → Fits [] (start count_n) (three_ints w (pos 4)) → ⊥
-four_dont w h = let valid = (h.declared 2 (holding ints (At 0 0)) refl).passes (record { place = record { line = 0; col = 0 } }) in cc
+four_dont w h = let valid = (h.declared refl 2 (holding ints (At 0 0)) refl).passes (record { place = record { line = 0; col = 0 } }) in cc
 
 abbrev lowered : Knowledge
 lowered = number_assigned 0 (Some (plus 0 (negsuc 0))) (start count_n)

@@ -6,6 +6,7 @@ pub mod Formed
 pub mod Pointers
 pub mod Steps
 pub mod Ways
+pub mod Rejoined
 pub mod AllSteps
 pub mod Beside
 pub mod Sums

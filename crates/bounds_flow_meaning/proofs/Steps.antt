@@ -106,8 +106,8 @@ entries_fit structs vars s types = record {
     };
     pointers = λ p l e. subst (λ h. IsHeld structs (replicate vars false) h l s) (sym (none_at vars p)) (none_held structs (replicate vars false) l s);
   };
-  settled = record { marks = λ p. ap (λ (h : Held). h.mark) (none_at vars p); assigned = false_at vars };
-  declared = λ p l e. subst (λ (h : Held). IsValid structs h.declared l s) (sym (none_at vars p)) tt;
+  settled = λ _. record { marks = λ p. ap (λ (h : Held). h.mark) (none_at vars p); assigned = false_at vars; apart = refl };
+  declared = λ _ p l e. subst (λ (h : Held). IsValid structs h.declared l s) (sym (none_at vars p)) tt;
 }
 
 module _ (structs : List Structure) (f : Knowledge) where
@@ -141,8 +141,10 @@ module _ (structs : List Structure) (f : Knowledge) where
     pub enter_fits : Fits structs f s → Fits structs (entered x declared f) s
     enter_fits h = record {
       holds = enter_valid_holds h.holds;
-      settled = record { marks = each_set (λ q h. h.mark ≡ marks.Settled) f.held x (fresh declared) refl refl (λ q ne. h.settled.marks q); assigned = h.settled.assigned };
-      declared = each_set (λ q h. (l : Local) → slice_get s.locals q ≡ Some l → IsValid structs h.declared l s) f.held x (fresh declared) valid (λ l e. tt) (λ q ne. h.declared q);
+      settled = λ apart. (
+          let settled = h.settled apart in
+          record { marks = each_set (λ q h. h.mark ≡ marks.Settled) f.held x (fresh declared) refl refl (λ q ne. settled.marks q); assigned = settled.assigned; apart = apart });
+      declared = λ apart. each_set (λ q h. (l : Local) → slice_get s.locals q ≡ Some l → IsValid structs h.declared l s) f.held x (fresh declared) valid (λ l e. tt) (λ q ne. h.declared apart q);
     }
 
 -- ---- x = e
@@ -301,5 +303,5 @@ module _ (structs : List Structure) (s t : State) (grows : Grows (shapes s.block
     grow_fits h = record {
       holds = grow_holds h.holds;
       settled = h.settled;
-      declared = λ q l e. grown_valid structs (held_at f.held q).declared l s t grows same (h.declared q l (before q l e));
+      declared = λ apart q l e. grown_valid structs (held_at f.held q).declared l s t grows same (h.declared apart q l (before q l e));
     }

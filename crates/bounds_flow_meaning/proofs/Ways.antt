@@ -108,14 +108,17 @@ module _ (structs : List Structure) (f : Knowledge) (flow : IsFlow f) (s : State
   pub assume_fits : (test : Test) (truth : Bool) → IsTestWithin f.vars test → CameOut test truth s → Fits structs f s → Fits structs (assumed test truth f) s
   assume_fits (NotNull p) true within out h = record {
     holds = assume_holds (NotNull p) true within out h.holds;
-    settled = record {
-      marks = each_set (λ q h. h.mark ≡ marks.Settled) f.held p (known_not_null (held_at f.held p)) (h.settled.marks p) refl (λ q ne. h.settled.marks q);
-      assigned = h.settled.assigned;
-    };
-    declared = each_set (λ q h. (l : Local) → slice_get s.locals q ≡ Some l → IsValid structs h.declared l s) f.held p (known_not_null (held_at f.held p)) (h.declared p) (λ l e. tt) (λ q ne. h.declared q);
+    settled = λ apart. (
+        let settled = h.settled apart in
+        record {
+          marks = each_set (λ q h. h.mark ≡ marks.Settled) f.held p (known_not_null (held_at f.held p)) (settled.marks p) refl (λ q ne. settled.marks q);
+          assigned = settled.assigned;
+          apart = apart;
+        });
+    declared = λ apart. each_set (λ q h. (l : Local) → slice_get s.locals q ≡ Some l → IsValid structs h.declared l s) f.held p (known_not_null (held_at f.held p)) (h.declared apart p) (λ l e. tt) (λ q ne. h.declared apart q);
   }
   assume_fits (NotNull p) false within out h = h
-  assume_fits (Compare how a b) truth within out h = record { holds = assume_holds (Compare how a b) truth within out h.holds; settled = record { marks = h.settled.marks; assigned = h.settled.assigned }; declared = h.declared }
+  assume_fits (Compare how a b) truth within out h = record { holds = assume_holds (Compare how a b) truth within out h.holds; settled = λ apart. record { marks = (h.settled apart).marks; assigned = (h.settled apart).assigned; apart = apart }; declared = h.declared }
 
 -- ---- the end of a scope
 
@@ -142,8 +145,8 @@ held_declared : (structs : List Structure) (assigned since : List Bool) (h : Hel
 held_declared structs assigned since h l s declared held = record { valid = declared; known = held.known; null = held.null; declared = λ e f. declared; start = λ e. one_start h.declared }
 
 module _ (structs : List Structure) (f : Knowledge) (flow : IsFlow f) (s : State) (x : ℕ) where
-  pub leave_fits : x < f.vars → Fits structs f s → Fits structs (left x f) s
-  leave_fits lt h = record {
+  pub leave_fits : x < f.vars → IsSettled f → Fits structs f s → Fits structs (left x f) s
+  leave_fits lt settled h = record {
     holds = record {
       met = record {
         types = h.holds.met.types;
@@ -153,15 +156,16 @@ module _ (structs : List Structure) (f : Knowledge) (flow : IsFlow f) (s : State
       };
       pointers = every (λ q k. (l : Local) → slice_get s.locals q ≡ Some l → IsHeld structs (set f.assigned x false) k l s) (λ l e. none_held structs (set f.assigned x false) l s)
           (λ q. leaving (λ k. (l : Local) → slice_get s.locals q ≡ Some l → IsHeld structs (set f.assigned x false) k l s) (held_at f.held q) x
-          (λ l e. held_again structs f.assigned (set f.assigned x false) (held_at f.held q) l s (h.declared q l e) (h.holds.pointers q l e))
-          (λ l e. held_declared structs f.assigned (set f.assigned x false) (held_at f.held q) l s (h.declared q l e) (h.holds.pointers q l e)));
+          (λ l e. held_again structs f.assigned (set f.assigned x false) (held_at f.held q) l s (h.declared settled.apart q l e) (h.holds.pointers q l e))
+          (λ l e. held_declared structs f.assigned (set f.assigned x false) (held_at f.held q) l s (h.declared settled.apart q l e) (h.holds.pointers q l e)));
     };
-    settled = record {
-      marks = every (λ q k. k.mark ≡ marks.Settled) refl (λ q. leaving (λ k. k.mark ≡ marks.Settled) (held_at f.held q) x (h.settled.marks q) (h.settled.marks q));
-      assigned = λ y. false_set f.assigned x y (h.settled.assigned y);
+    settled = λ apart. record {
+      marks = every (λ q k. k.mark ≡ marks.Settled) refl (λ q. leaving (λ k. k.mark ≡ marks.Settled) (held_at f.held q) x (settled.marks q) (settled.marks q));
+      assigned = λ y. false_set f.assigned x y (settled.assigned y);
+      apart = apart;
     };
-    declared = every (λ q k. (l : Local) → slice_get s.locals q ≡ Some l → IsValid structs k.declared l s) (λ l e. tt)
-        (λ q. leaving (λ k. (l : Local) → slice_get s.locals q ≡ Some l → IsValid structs k.declared l s) (held_at f.held q) x (h.declared q) (h.declared q));
+    declared = λ apart. every (λ q k. (l : Local) → slice_get s.locals q ≡ Some l → IsValid structs k.declared l s) (λ l e. tt)
+        (λ q. leaving (λ k. (l : Local) → slice_get s.locals q ≡ Some l → IsValid structs k.declared l s) (held_at f.held q) x (h.declared apart q) (h.declared apart q));
   }
     where
       every : (P : ℕ → Held → Type 0) → P x no_pointer → ((q : ℕ) → P q (after_leaving x (held_at f.held q))) → (q : ℕ) → P q (held_at (set (map (after_leaving x) f.held) x no_pointer) q)
@@ -188,7 +192,7 @@ term_same a b h =
 term_self : (t : Term) → same_term t t ≡ true
 term_self t = and_from (is_same t.var t.var) (int_eq t.plus t.plus) (option_self t.var) ((Decides-int_eq t.plus t.plus).1 refl)
 
-bounds_same : (a b : Option Bounds) → same_bounds a b ≡ true → a ≡ b
+pub bounds_same : (a b : Option Bounds) → same_bounds a b ≡ true → a ≡ b
 bounds_same None None h = refl
 bounds_same None (Some b) h = absurd (cc)
 bounds_same (Some a) None h = absurd (cc)
@@ -264,8 +268,8 @@ module _ (structs : List Structure) (f : Knowledge) (flow : IsFlow f) (s : State
       pointers = each_map (λ q k. (l : Local) → slice_get s.locals q ≡ Some l → IsHeld structs (map (λ was. false) f.assigned) k l s) settled_pointer refl f.held
           (λ q l e. settled_by structs f flow s h.met (held_at f.held q) l (h.pointers q l e) (is_settled (held_at f.held q).mark) refl (valid q l e));
     };
-    settled = record { marks = each_map (λ q k. k.mark ≡ marks.Settled) settled_pointer refl f.held (λ q. refl); assigned = none_assigned f.assigned };
-    declared = each_map (λ q k. (l : Local) → slice_get s.locals q ≡ Some l → IsValid structs k.declared l s) settled_pointer refl f.held valid;
+    settled = λ _. record { marks = each_map (λ q k. k.mark ≡ marks.Settled) settled_pointer refl f.held (λ q. refl); assigned = none_assigned f.assigned; apart = refl };
+    declared = λ _. each_map (λ q k. (l : Local) → slice_get s.locals q ≡ Some l → IsValid structs k.declared l s) settled_pointer refl f.held valid;
   }
     where
       found_at : (q : ℕ) → finding f.facts (held_at f.held q) ≡ Meets
@@ -367,30 +371,30 @@ module _ (structs : List Structure) (f g : Knowledge) (flow : IsFlow f) (other :
   knows_second : (q : ℕ) → known_at q ≡ true → (held_at g.held q).known ≡ true
   knows_second q e = (both_true (held_at f.held q).known (held_at g.held q).known e).1
 
-  pub first_fits : Fits structs f s → Fits structs (met f g) s
-  first_fits h = record {
+  pub first_fits : IsSettled f → Fits structs f s → Fits structs (met f g) s
+  first_fits settled h = record {
     holds = record {
       met = first_met h.holds.met;
       pointers = each_first (λ q k. (l : Local) → slice_get s.locals q ≡ Some l → IsHeld structs f.assigned k l s)
-          (λ q l e. fallen_held structs f.assigned f.assigned (held_at f.held q) l s (known_at q) (knows_first q) (h.holds.pointers q l e) (test_at q) (h.declared q l e));
+          (λ q l e. fallen_held structs f.assigned f.assigned (held_at f.held q) l s (known_at q) (knows_first q) (h.holds.pointers q l e) (test_at q) (h.declared settled.apart q l e));
     };
-    settled = record { marks = each_first (λ q k. k.mark ≡ marks.Settled) h.settled.marks; assigned = h.settled.assigned };
-    declared = each_first (λ q k. (l : Local) → slice_get s.locals q ≡ Some l → IsValid structs k.declared l s) h.declared;
+    settled = λ apart. record { marks = each_first (λ q k. k.mark ≡ marks.Settled) settled.marks; assigned = settled.assigned; apart = apart };
+    declared = λ apart. each_first (λ q k. (l : Local) → slice_get s.locals q ≡ Some l → IsValid structs k.declared l s) (h.declared apart);
   }
 
-  pub second_fits : AreBeside f g → IsSettled f → Fits structs g s → Fits structs (met f g) s
-  second_fits beside settled h = record {
+  pub second_fits : AreBeside f g → IsSettled f → IsSettled g → Fits structs g s → Fits structs (met f g) s
+  second_fits beside settled other_settled h = record {
     holds = record {
       met = second_met beside.declared mark h.holds.met;
       pointers = each_second (λ q k. (l : Local) → slice_get s.locals q ≡ Some l → IsHeld structs f.assigned k l s) beside.declared mark
-          (λ q l e. fallen_held structs g.assigned f.assigned (held_at g.held q) l s (known_at q) (knows_second q) (h.holds.pointers q l e) (test_at q) (h.declared q l e));
+          (λ q l e. fallen_held structs g.assigned f.assigned (held_at g.held q) l s (known_at q) (knows_second q) (h.holds.pointers q l e) (test_at q) (h.declared other_settled.apart q l e));
     };
-    settled = record { marks = each_first (λ q k. k.mark ≡ marks.Settled) settled.marks; assigned = settled.assigned };
-    declared = each_second (λ q k. (l : Local) → slice_get s.locals q ≡ Some l → IsValid structs k.declared l s) beside.declared mark h.declared;
+    settled = λ apart. record { marks = each_first (λ q k. k.mark ≡ marks.Settled) settled.marks; assigned = settled.assigned; apart = apart };
+    declared = λ _. each_second (λ q k. (l : Local) → slice_get s.locals q ≡ Some l → IsValid structs k.declared l s) beside.declared mark (h.declared other_settled.apart);
   }
     where
       mark : (p : ℕ) → (held_at g.held p).mark ≡ (held_at f.held p).mark
-      mark p = h.settled.marks p ∙ sym (settled.marks p)
+      mark p = other_settled.marks p ∙ sym (settled.marks p)
 
   module _ (tested : AreTested f g) where
     alike_at : (q : ℕ) → test_at q ≡ true
@@ -492,8 +496,8 @@ module _ (structs : List Structure) (f : Knowledge) (flow : IsFlow f) (changed :
   number_kept : ChangesOnly changed s t → (x : ℕ) → (IsAmong changed x → ⊥) → numbers_in t.locals x ≡ numbers_in s.locals x
   number_kept only x not = ap number_held (only.others x not)
 
-  pub head_fits : All (λ x. x < f.vars) changed → ChangesOnly changed s t → AreDeclared structs f.held t → Fits structs f s → Fits structs (at_head changed f) t
-  head_fits below only valid h = record {
+  pub head_fits : All (λ x. x < f.vars) changed → ChangesOnly changed s t → AreDeclared structs f.held t → IsSettled f → Fits structs f s → Fits structs (at_head changed f) t
+  head_fits below only valid settled h = record {
     holds = record {
       met = record {
         types = only.types;
@@ -518,12 +522,12 @@ module _ (structs : List Structure) (f : Knowledge) (flow : IsFlow f) (changed :
             start = λ q. start_at p;
           });
     };
-    settled = record { marks = marks_at; assigned = h.settled.assigned };
-    declared = declared_at;
+    settled = λ apart. record { marks = marks_at; assigned = settled.assigned; apart = apart };
+    declared = λ _. declared_at;
   }
     where
       marks_at : (p : ℕ) → (held_at (at_head changed f).held p).mark ≡ marks.Settled
-      marks_at p = (head_at changed f p).mark ∙ h.settled.marks p
+      marks_at p = (head_at changed f p).mark ∙ settled.marks p
 
       start_at : (p : ℕ) → HaveOneStart (held_at (at_head changed f).held p).bounds (held_at (at_head changed f).held p).declared
       start_at p =

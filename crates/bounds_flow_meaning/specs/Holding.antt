@@ -143,17 +143,19 @@ pub record HoldsBut (structs : List Structure) (p : ℕ) (f : Knowledge) (s : St
   pub met : IsMet structs f s
   pub others : (q : ℕ) (l : Local) → q ≢ p → slice_get s.locals q ≡ Some l → IsHeld structs f.assigned (held_at f.held q) l s
 
--- nothing became of pointers and of variables since the last settling
+-- nothing became of pointers and of variables since the last settling, and it stands in no bundle
 pub record IsSettled (f : Knowledge) : Type 0 where
   pub marks : (p : ℕ) → (held_at f.held p).mark ≡ Settled
   pub assigned : (x : ℕ) → slice_index_or f.assigned x false ≡ false
+  pub apart : f.bundled ≡ false
 
 -- each pointer is valid with its declared bounds
 abbrev pub AreDeclared : List Structure → List Held → State → Type 0
 AreDeclared structs held s = (p : ℕ) (l : Local) → slice_get s.locals p ≡ Some l → IsValid structs (held_at held p).declared l s
 
--- between two statements: what the flow says is so, nothing became of pointers, and declared bounds hold
+-- where an expression stands: what the flow says is so, and between two statements, in no bundle, nothing became of pointers, and declared bounds
+-- hold. In a bundle the declared bounds of a pointer that nothing became of hold as `IsHeld` says
 pub record Fits (structs : List Structure) (f : Knowledge) (s : State) : Type 0 where
   pub holds : Holds structs f s
-  pub settled : IsSettled f
-  pub declared : AreDeclared structs f.held s
+  pub settled : f.bundled ≡ false → IsSettled f
+  pub declared : f.bundled ≡ false → AreDeclared structs f.held s

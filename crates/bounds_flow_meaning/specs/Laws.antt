@@ -14,7 +14,7 @@ use Rattle.bounds_flow.specs.declared.steps.How.TheVariants.{Lt, Le, Gt, Ge, Eq,
 use Rattle.bounds_flow.specs.declared.steps.Test.{Test}
 use Rattle.bounds_flow.specs.declared.steps.Test.TheVariants.{NotNull, Compare}
 use Rattle.bounds_flow.specs.Pointers.{no_pointer}
-use Rattle.bounds_flow.specs.Flows.{Knowledge, held_at, at_entry, entered, left, number_assigned, pointer_assigned, assumed, at_head, cut_off, met, settled, widened, length_assigned}
+use Rattle.bounds_flow.specs.Flows.{Knowledge, held_at, at_entry, entered, left, number_assigned, pointer_assigned, assumed, at_head, cut_off, in_bundle, met, rejoined, settled, widened, length_assigned}
 use Rattle.bounds_flow.specs.Settling.{MeetBelow, Meets, ends_find}
 use Rattle.bounds_flow.specs.Conditions.{AreEndsBelow, IsFlow, IsTermBelow, IsTestWithin}
 use Rattle.ckc_core.specs.States.{Value, Number, Null, At, Local, State, Grows, shapes, has_type}
@@ -94,7 +94,15 @@ pub record AreBeside (f g : Knowledge) : Type 0 where
   pub vars : g.vars ≡ f.vars
   pub declared : (p : ℕ) → (held_at g.held p).declared ≡ (held_at f.held p).declared
 
--- two flows between which there are only tests
+-- two flows between which there are only tests, which may have moved the ends of bounds
+pub record AreTold (f g : Knowledge) : Type 0 where
+  pub vars : g.vars ≡ f.vars
+  pub assigned : g.assigned ≡ f.assigned
+  pub bundled : g.bundled ≡ f.bundled
+  pub declared : (p : ℕ) → (held_at g.held p).declared ≡ (held_at f.held p).declared
+  pub marks : (p : ℕ) → (held_at g.held p).mark ≡ (held_at f.held p).mark
+
+-- two flows between which there are only tests that leave bounds as they are
 pub record AreTested (f g : Knowledge) : Type 0 where
   pub vars : g.vars ≡ f.vars
   pub assigned : g.assigned ≡ f.assigned
@@ -131,7 +139,7 @@ pub record StepsHold (structs : List Structure) (f : Knowledge) : Type 0 where
       → ((l : Local) → slice_get s.locals x ≡ Some l → IsValid structs declared l s) → Holds structs f s → Holds structs (entered x declared f) s
   pub enter_between : (x : ℕ) (declared : Option Bounds) (s : State) → MayDeclare structs (types_of s.locals) x declared
       → ((l : Local) → slice_get s.locals x ≡ Some l → IsValid structs declared l s) → Fits structs f s → Fits structs (entered x declared f) s
-  pub leave : (x : ℕ) (s : State) → x < f.vars → Fits structs f s → Fits structs (left x f) s
+  pub leave : (x : ℕ) (s : State) → x < f.vars → IsSettled f → Fits structs f s → Fits structs (left x f) s
   -- a number is assigned to a variable that holds one
   pub assign_int : (x : ℕ) (to : Option Term) (s : State) (old : Local) (z : ℤ) → x < f.vars → IsTermBelow f.vars to
       → slice_get s.locals x ≡ Some old → has_type old.type (Number z) ≡ true → IsTermOf to s.locals z → Holds structs f s
@@ -142,6 +150,8 @@ pub record StepsHold (structs : List Structure) (f : Knowledge) : Type 0 where
       → slice_get s.locals p ≡ Some old → IsPointer v → has_type old.type v ≡ true → IsGiven structs from (record old { value = v }) s
       → IsMovedBy structs moved old v → (not_null ≡ true → v ≢ Null) → HoldsBut structs p f s
       → Holds structs (pointer_assigned p from moved not_null f) (with_local p old v s)
+  -- a bundle begins
+  pub bundle : (s : State) → Fits structs f s → Fits structs (in_bundle f) s
   -- all pointers meet their declared bounds
   pub settle : (s : State) → MeetBelow f.facts f.held (length f.held) → Holds structs f s → Fits structs (settled f) s
   -- a test came out so
@@ -161,13 +171,18 @@ pub record StepsHold (structs : List Structure) (f : Knowledge) : Type 0 where
       → has_type old.type (Number (pos count)) ≡ true → ((l : Local) → slice_get s.locals p ≡ Some l → HasCounted structs (held_at f.held p).bounds count l s)
       → Holds structs f s → Holds structs (length_assigned x p f) (with_local x old (Number (pos count)) s)
   -- two ways meet, of which the run took the one or the other: between statements, and inside a condition
-  pub join_first : (g : Knowledge) (s : State) → IsFlow g → AreBeside f g → Fits structs f s → Fits structs (met f g) s
-  pub join_second : (g : Knowledge) (s : State) → IsFlow g → AreBeside f g → IsSettled f → Fits structs g s → Fits structs (met f g) s
+  pub join_first : (g : Knowledge) (s : State) → IsFlow g → AreBeside f g → IsSettled f → Fits structs f s → Fits structs (met f g) s
+  pub join_second : (g : Knowledge) (s : State) → IsFlow g → AreBeside f g → IsSettled f → IsSettled g → Fits structs g s → Fits structs (met f g) s
   pub tested_first : (g : Knowledge) (s : State) → IsFlow g → AreTested f g → Holds structs f s → Holds structs (met f g) s
   pub tested_second : (g : Knowledge) (s : State) → IsFlow g → AreTested f g → Holds structs g s → Holds structs (met f g) s
+  -- two ways through one expression meet: what was known before it is so still
+  pub rejoin_first : (before g : Knowledge) (s : State) → IsFlow before → IsFlow g → AreTold before f → AreTold before g → Fits structs before s
+      → Fits structs f s → Fits structs (rejoined before f g) s
+  pub rejoin_second : (before g : Knowledge) (s : State) → IsFlow before → IsFlow g → AreTold before f → AreTold before g → Fits structs before s
+      → Fits structs g s → Fits structs (rejoined before f g) s
   -- a turn of a loop begins in a later state
   pub enter_loop : (changed : List ℕ) (s t : State) → All (λ x. x < f.vars) changed → ChangesOnly changed s t
-      → AreDeclared structs f.held t → Fits structs f s → Fits structs (at_head changed f) t
+      → AreDeclared structs f.held t → IsSettled f → Fits structs f s → Fits structs (at_head changed f) t
   -- blocks are added, or cells have other values
   pub grow : (s t : State) → Grows (shapes s.blocks) (shapes t.blocks) → t.locals ≡ s.locals → Holds structs f s → Holds structs f t
   pub grow_but : (p : ℕ) (s t : State) → Grows (shapes s.blocks) (shapes t.blocks) → t.locals ≡ s.locals → HoldsBut structs p f s

@@ -26,5 +26,5 @@ returns-clause-ok c =
     c.change_all.ensures ∙ ap (λ l. map (changed since c.number_change.result) l) c.deref_mut.ensures.value in
     let held = refilled_is vars flow.held c.change_all.new.held assigned c.self.invariant is
     ∙ (made ∙ (sym (c.number_change.ensures.change since flow.held.items) ∙ ap (λ s. number_held c.args.var c.args.to s flow.held.items) c.deref.ensures.value)) in
-    number_made vars _ flow.facts.table _ flow.held.items _ assigned c.args.var c.args.to c.in_ok-assign_number.ensures.vars c.in_ok-assign_number.ensures.table held
+    number_made vars _ flow.facts.table _ flow.held.items _ assigned flow.bundled c.args.var c.args.to c.in_ok-assign_number.ensures.vars c.in_ok-assign_number.ensures.table held
     ∙ ap (λ (f : Knowledge). number_assigned c.args.var c.args.to f) c.self.view_is

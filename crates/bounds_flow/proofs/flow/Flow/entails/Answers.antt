@@ -8,4 +8,4 @@ pub returns-clause-answers : goal.returns-clause-answers
 returns-clause-answers c =
     let flow = c.self.inside in
     let P : Knowledge → Type 0 = λ f. AnswersBy f c.args.a.now c.args.b.now c.in_ok-answer.answer in
-    subst P c.self.view_is (answers_by flow.facts flow.held.items flow.assigned.items c.args.a.now c.args.b.now c.in_ok-answer.answer c.is_narrow.ensures.shows c.in_ok-answer.ensures.answers)
+    subst P c.self.view_is (answers_by flow.facts flow.held.items flow.assigned.items flow.bundled c.args.a.now c.args.b.now c.in_ok-answer.answer c.is_narrow.ensures.shows c.in_ok-answer.ensures.answers)
