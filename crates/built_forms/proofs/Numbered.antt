@@ -78,6 +78,10 @@ module _ (of : Numbers) where
   assignment_same (s.Store operator target value span) = rw (expression_same target, expression_same value) refl
   assignment_same (s.Step operator side target span) = rw (expression_same target) refl
 
+  assignments_same : (xs : List Assignment) → list_all built_assignment (map (number_assignment of) xs) ≡ list_all built_assignment xs
+  assignments_same [] = refl
+  assignments_same (a ∷ xs) = rw (assignment_same a, assignments_same xs) refl
+
   optional_assignment_same : (o : Option Assignment) → optional built_assignment (option_map (number_assignment of) o) ≡ optional built_assignment o
   optional_assignment_same None = refl
   optional_assignment_same (Some a) = assignment_same a
@@ -90,7 +94,7 @@ module _ (of : Numbers) where
   mutual
     statement_same : (x : Statement) → built_statement (number_statement of x) ≡ built_statement x
     statement_same (s.Block mark inner span) = rw (statements_same inner) refl
-    statement_same (s.Bundle assignments span) = refl
+    statement_same (s.Bundle assignments span) = assignments_same assignments
     statement_same (s.Declare d span) = declaration_same d
     statement_same (s.Assign a span) = assignment_same a
     statement_same (s.CallAlone call span) = rw (expression_same call) refl

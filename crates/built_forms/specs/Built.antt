@@ -98,10 +98,9 @@ built_initial (s.Declares d) = built_declaration d
 built_initial (s.Assigns a) = built_assignment a
 
 abbrev mutual
-  -- bundles aren't built
   pub built_statement : Statement → Bool
   built_statement (s.Block mark inner span) = built_statements inner
-  built_statement (s.Bundle assignments span) = false
+  built_statement (s.Bundle assignments span) = list_all built_assignment assignments
   built_statement (s.Declare d span) = built_declaration d
   built_statement (s.Assign a span) = built_assignment a
   built_statement (s.CallAlone call span) = built_expression call

@@ -70,6 +70,12 @@ fn built_assignment(written: &Assignment) -> bool
     }
 }
 
+fn built_assignments(written: &[Assignment]) -> bool
+    ensures { result ≡ list_all (λ a. built.built_assignment (assignment a)) written.now }
+{
+    written.iter().all(|a| built_assignment(a))
+}
+
 fn built_initial(written: &ForInitial) -> bool
     ensures { result ≡ built.built_initial (for_initial written.now) }
 {
@@ -113,7 +119,7 @@ pub fn built_statement(written: &Stmt) -> bool
 {
     match written {
         Stmt::Block { statements, .. } => built_block(statements.as_slice()),
-        Stmt::Bundle { .. } => false,
+        Stmt::Bundle { assignments, .. } => built_assignments(assignments.as_slice()),
         Stmt::Declare { declaration, .. } => built_declaration(declaration),
         Stmt::Assign { assignment, .. } => built_assignment(assignment),
         Stmt::Call { call, .. } => built_expression(call),

@@ -19,7 +19,8 @@ use Rattle.ckc_core.specs.declared.program.Stmt.{Stmt}
 use Rattle.ckc_core.specs.Core as core
 use Rattle.region_typing_rules.specs.Verdicts.{Stop, Broken, Nameless, Verdict, Passes, Stops, passing, needs, picked}
 use Rattle.region_typing_rules.specs.Scopes.{Scope, Signature, Visible, WrittenBounds, bounds_in, function_named}
-use Rattle.region_typing_rules.specs.Expressions.{Places, is_tainted}
+use Rattle.region_typing_rules.specs.Operands.{Places}
+use Rattle.region_typing_rules.specs.Calls.{is_tainted}
 use Rattle.region_typing_rules.specs.Statements.{statements, is_unchecked, with_local}
 use Rattle.bounds_flow.specs.Flows.{Knowledge, at_entry}
 use Rattle.region_typing_rules.specs.Knowing.{all_declared, knowing}

@@ -6,7 +6,7 @@ use Rattle.ckc_names_rules.specs.declared.given.Given.{Given}
 use Rattle.ckc_names_rules.specs.Given.{number_in}
 use Rattle.ckc_names_rules.specs.Naming.{NamedTree, names_of, IsNamed}
 use Rattle.region_typing_rules.specs.Verdicts.{Unnamed}
-use Rattle.region_typing_rules.specs.Expressions.{Places}
+use Rattle.region_typing_rules.specs.Operands.{Places}
 use Rattle.region_typing_rules.specs.Items.{Walk, start}
 use Rattle.region_typing_rules.specs.Cores.{checked}
 use Rattle.region_typing.specs.Items.{Outside}

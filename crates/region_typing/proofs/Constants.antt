@@ -12,7 +12,7 @@ use Rattle.pointer_modes.specs.Types.{CType, Int, Char, Struct, Pointer, Structu
 use Rattle.ckc_core.specs.Programs.{Initial}
 use Rattle.ckc_core.specs.Steps.{low_byte}
 use Rattle.region_typing_rules.specs.Verdicts.{Stop, Verdict, Passes, Stops, passing, needs, breaks, picked}
-use Rattle.region_typing_rules.specs.Expressions.{Places, Typed}
+use Rattle.region_typing_rules.specs.Operands.{Places, Typed}
 use Rattle.region_typing_rules.specs.Scopes.{Scope}
 use Rattle.ckc_tree.specs.Statements as s
 use Rattle.region_typing.specs.Items.{judged_initializer}

@@ -3,7 +3,7 @@ use Rattle.std.proofs.Common.{◌≡◌, ℕ, false, ◌+◌, ◌<◌, ◌≤◌
 use Rattle.ckc_core.specs.Programs.{Definition, Variable}
 use Rattle.ckc_core.specs.Core as core
 use Rattle.region_typing_rules.specs.Verdicts.{Passes}
-use Rattle.region_typing_rules.specs.Expressions.{side_number}
+use Rattle.region_typing_rules.specs.Calls.{side_number}
 use Rattle.region_typing_rules.specs.Strings.{text_object}
 use Rattle.region_typing_rules.specs.Items.{Walk}
 use Rattle.region_typing_rules.specs.Cores.{definition_of, definitions_of, core_of}

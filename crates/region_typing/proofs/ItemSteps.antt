@@ -12,7 +12,7 @@ use Rattle.pointer_modes.specs.Types.{CType}
 use Rattle.region_typing_rules.specs.Verdicts.{Stop, Verdict, Passes, Stops, passing, needs}
 use Rattle.region_typing_rules.specs.Scopes.{Scope}
 use Rattle.region_typing_rules.specs.Types.{type_named}
-use Rattle.region_typing_rules.specs.Expressions.{Places}
+use Rattle.region_typing_rules.specs.Operands.{Places}
 use Rattle.region_typing_rules.specs.DeclaredBounds.{declared_bounds}
 use Rattle.region_typing_rules.specs.Items.{Parameter, Walk, is_struct, member_types, among_parameters, declared_as, parameter_types, scalar_members, item, items}
 use Rattle.region_typing.specs.declared.globals.WalkedVariable as code

@@ -11,7 +11,7 @@ use Rattle.ckc_core.specs.Programs.{Initial}
 use Rattle.region_typing_rules.specs.Verdicts.{Stop, Broken, Verdict, Passes, Stops, passing, needs}
 use Rattle.region_typing_rules.specs.Scopes.{WrittenBounds}
 use Rattle.region_typing_rules.specs.Types.{base_type, may_lead_to, without_stars}
-use Rattle.region_typing_rules.specs.Expressions.{Places}
+use Rattle.region_typing_rules.specs.Operands.{Places}
 use Rattle.ckc_names_rules.specs.declared.given.Given.{Given}
 use Rattle.region_typing_rules.specs.Statements.{length_of, is_ended_array, array_kind, array_element}
 use Rattle.region_typing_rules.specs.Items as rules

@@ -13,7 +13,8 @@ use Rattle.ckc_core.specs.Programs.{Initial}
 use Rattle.region_typing_rules.specs.Verdicts.{Verdict, Passes, picked}
 use Rattle.region_typing_rules.specs.Scopes.{Scope, Signature, WrittenBounds, function_named}
 use Rattle.region_typing_rules.specs.Types.{base_type, may_lead_to, without_stars}
-use Rattle.region_typing_rules.specs.Expressions.{Places, is_tainted}
+use Rattle.region_typing_rules.specs.Operands.{Places}
+use Rattle.region_typing_rules.specs.Calls.{is_tainted}
 use Rattle.region_typing_rules.specs.Statements.{length_of, is_ended_array, array_kind, is_unchecked, statements}
 use Rattle.region_typing_rules.specs.Items.{Parameter, Walk, WalkedVariable, is_struct, member_types, scalar_members, with_struct, member_names, structure, object_bounds, variable_of, variable_scope, room_for, room_for_first, initializer, variables, object_cells, with_objects, global, listed, parameter_types, result_type, agrees, all_scalar, scalar_result, with_function, inside, with_texts, body_scope, function_body, is_defined, function_rules, signature_of, function, is_off, item, bounds_of_result, first_changed_in, without_change}
 use Rattle.region_typing_rules.proofs.Verdicts.{Promises, passing_promises, needs_promises, anything_promised}

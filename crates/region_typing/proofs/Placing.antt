@@ -7,7 +7,7 @@ use Rattle.std.proofs.lemmas.Bool.{eqb-true}
 use Rattle.ckc_core.specs.Programs.{Trusted}
 use Rattle.region_typing_rules.specs.Verdicts.{picked}
 use Rattle.region_typing_rules.specs.Scopes.{Signature, function_named}
-use Rattle.region_typing_rules.specs.Expressions.{is_import}
+use Rattle.region_typing_rules.specs.Calls.{is_import}
 use Rattle.region_typing_rules.specs.Items.{Defined}
 use Rattle.region_typing_rules.specs.Cores.{definition_of, definitions_of}
 use Rattle.region_typing_scope.specs.declared.signature.Signature as code

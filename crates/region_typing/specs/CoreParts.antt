@@ -3,7 +3,7 @@ use Rattle.std.specs.Prelude.{ℕ, suc, ◌==◌, List, [], ◌∷◌, Option, S
 use Rattle.std.specs.Option.{option_map}
 use Rattle.region_typing_rules.specs.Verdicts.{picked}
 use Rattle.region_typing_rules.specs.Scopes.{Signature}
-use Rattle.region_typing_rules.specs.Expressions.{is_import}
+use Rattle.region_typing_rules.specs.Calls.{is_import}
 
 -- the place of a trusted function among all
 abbrev pub trusted_place : List Signature → ℕ → Option ℕ

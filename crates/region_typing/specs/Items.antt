@@ -14,7 +14,8 @@ use Rattle.ckc_core.specs.Core.{object, function}
 use Rattle.region_typing_rules.specs.Verdicts.{Verdict, Passes, passing, needs, picked}
 use Rattle.region_typing_rules.specs.Scopes.{Scope, Signature, WrittenBounds, bounds_in, function_named}
 use Rattle.region_typing_rules.specs.Types.{type_named, without_stars}
-use Rattle.region_typing_rules.specs.Expressions.{Places, is_tainted}
+use Rattle.region_typing_rules.specs.Operands.{Places}
+use Rattle.region_typing_rules.specs.Calls.{is_tainted}
 use Rattle.region_typing_rules.specs.DeclaredBounds.{declared_bounds}
 use Rattle.region_typing_rules.specs.Statements.{length_of, is_ended_array, array_element, statements, is_unchecked}
 use Rattle.region_typing_rules.specs.Items.{Parameter, Defined, Walk, among_parameters, declared_as, object_bounds, variable_of, variable_scope}

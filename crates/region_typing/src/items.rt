@@ -4,7 +4,7 @@ ghost use Rattle.std.specs.Prelude.{◌≡◌, ◌<◌, ◌&&◌, ◌||◌, nat_
 ghost use Rattle.ckc_text.specs.Places.{place_at};
 ghost use Rattle.ckc_tree.specs.Items.{function as function_tree, item as item_tree};
 ghost use Rattle.region_typing_rules.specs.Verdicts.{picked};
-ghost use Rattle.region_typing_rules.specs.Expressions.{is_tainted as tainted_kind};
+ghost use Rattle.region_typing_rules.specs.Calls.{is_tainted as tainted_kind};
 ghost use Rattle.region_typing_rules.specs.Scopes.{function_named};
 ghost use Rattle.region_typing_rules.specs.Items.{is_defined as defined_in, is_off as is_off_of, agrees as agrees_of, all_scalar, scalar_result, function as function_of, item as item_of, items as items_of};
 ghost use Rattle.region_typing_scope.specs.Answering.{Answers};

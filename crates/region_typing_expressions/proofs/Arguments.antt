@@ -9,7 +9,9 @@ use Rattle.ckc_tree.specs.declared.expr.Expr.TheVariants as exprs
 use Rattle.ckc_tree.specs.Expressions.{Expressions, Call, Then, expression, expressions, expression_span}
 use Rattle.region_typing_rules.specs.Verdicts.{Stop, Verdict, Passes, Stops, passing}
 use Rattle.region_typing_rules.specs.Scopes.{Scope}
-use Rattle.region_typing_rules.specs.Expressions.{Places, Typed, typed, all_typed, with_result}
+use Rattle.region_typing_rules.specs.Operands.{Places, Typed}
+use Rattle.region_typing_rules.specs.Calls.{with_result}
+use Rattle.region_typing_rules.specs.Expressions.{typed, all_typed}
 use Rattle.region_typing_expressions.specs.declared.calls.Argument as code
 use Rattle.region_typing_scope.specs.OnHeap.{typed as typed_view}
 use Rattle.region_typing_expressions.specs.Calls.{argument, called_with}

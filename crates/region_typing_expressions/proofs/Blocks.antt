@@ -7,7 +7,7 @@ use Rattle.pointer_modes.specs.Types.{Structure}
 use Rattle.ckc_core.specs.declared.program.Site.{Site}
 use Rattle.region_typing_rules.specs.Verdicts.{Passes, passing, needs}
 use Rattle.region_typing_rules.specs.Strings.{FoundText}
-use Rattle.region_typing_rules.specs.Expressions.{text_typed, text_value}
+use Rattle.region_typing_rules.specs.Operands.{text_typed, text_value}
 use Rattle.region_typing_scope.specs.Strings.{block_verdict}
 use Rattle.region_typing_expressions.specs.Unbounded.{block_value}
 

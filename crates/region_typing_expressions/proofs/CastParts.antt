@@ -9,7 +9,9 @@ use Rattle.ckc_core.specs.Core as core
 use Rattle.ckc_core.specs.Meaning.{bounds_of}
 use Rattle.region_typing_rules.specs.Verdicts.{Verdict, Passes, passing, needs}
 use Rattle.region_typing_rules.specs.Scopes.{Scope, WrittenBounds, bounds_in}
-use Rattle.region_typing_rules.specs.Expressions.{Typed, Value, AStruct, plain, casts_to, takes, has_base, base_in, call_bounds, cast_checked}
+use Rattle.region_typing_rules.specs.Operands.{Typed, Value, AStruct, plain}
+use Rattle.region_typing_rules.specs.Calls.{call_bounds}
+use Rattle.region_typing_rules.specs.NewMemory.{casts_to, takes, has_base, base_in, cast_checked}
 use Rattle.region_typing_scope.specs.Operands.{Operand, operand_of}
 
 -- a cast of an operand

@@ -10,8 +10,8 @@ use Rattle.pointer_modes.specs.Types.{CType, Int, Char, Struct, Pointer}
 use Rattle.region_typing_rules.specs.Types.{is_number, is_pointer, are_comparable}
 use Rattle.region_typing_rules.specs.Scopes.{Scope}
 use Rattle.region_typing_rules.specs.Verdicts.{Verdict, Passes, Stops, passing, needs, breaks, picked}
-use Rattle.region_typing_rules.specs.Expressions.{Typed, Value, AStruct, equated, equated_values, scalar_of, two_numbers, number, ordered, indexed, element_at, summed, arithmetic, operator_along, is_ended_element, zero_test}
-use Rattle.region_typing_rules.specs.Expressions.{is_single_value, lacks_bounds, without_ptr}
+use Rattle.region_typing_rules.specs.Operands.{Typed, Value, AStruct, equated, equated_values, scalar_of, two_numbers, number, ordered, indexed, element_at, summed, arithmetic, operator_along, is_ended_element, zero_test}
+use Rattle.region_typing_rules.specs.Operands.{is_single_value, lacks_bounds, without_ptr}
 use Rattle.region_typing_expressions.specs.declared.equality.Equality.{Equality}
 use Rattle.region_typing_expressions.specs.declared.equality.Equality.TheVariants.{Numbers, Pointers, RightNull, LeftNull}
 use Rattle.region_typing_expressions.specs.Comparing.{is_number_value, is_pointer_value, is_zero_test, are_comparable_values, compared, related}

@@ -15,8 +15,10 @@ use Rattle.ckc_core.specs.declared.program.Direction.{Direction}
 use Rattle.region_typing_rules.specs.Verdicts.{Verdict, Passes, Stops, passing, needs, picked}
 use Rattle.region_typing_rules.specs.Scopes.{Scope, Signature, WrittenBounds, bounds_in}
 use Rattle.region_typing_rules.specs.Types.{converts, is_number, is_single, is_row}
-use Rattle.region_typing_rules.specs.Expressions.{Places, Typed, Value, AStruct, ForNothing, ForArray, For, Gives, GivesNothing, number_of, converted, site_at, first_of, writes, is_text, text_pointer, length_typed}
-use Rattle.region_typing_rules.specs.Expressions.{is_single_value, lacks_bounds, argument_meets, arguments_as, arguments_met, call_of, declared_callee, pointers_for, terms_for}
+use Rattle.region_typing_rules.specs.Operands.{Places, Typed, Value, AStruct, ForNothing, ForArray, For, Gives, GivesNothing, number_of, converted, site_at}
+use Rattle.region_typing_rules.specs.Calls.{first_of, writes, is_text, text_pointer, length_typed}
+use Rattle.region_typing_rules.specs.Operands.{is_single_value, lacks_bounds}
+use Rattle.region_typing_rules.specs.Calls.{argument_meets, arguments_as, arguments_met, call_of, declared_callee, pointers_for, terms_for}
 use Rattle.region_typing_rules.specs.Statements.{declared_for, updated, set_to, store}
 use Rattle.region_typing_expressions.specs.ArgumentBounds.{first_unmet, first_unmet_of, result_bounds_of, unless_unmet}
 use Rattle.region_typing_expressions.specs.Calls.{only_number, converted_call}

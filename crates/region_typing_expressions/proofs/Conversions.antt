@@ -10,7 +10,8 @@ use Rattle.ckc_core.specs.Core.{expression, arguments_of}
 use Rattle.ckc_text.specs.declared.place.Span.{Span}
 use Rattle.ckc_text.specs.declared.code.Code.TheVariants.{E14}
 use Rattle.region_typing_rules.specs.Verdicts.{Stop, Broken, Verdict, Passes, Stops, passing, needs}
-use Rattle.region_typing_rules.specs.Expressions.{arguments_as, converted}
+use Rattle.region_typing_rules.specs.Operands.{converted}
+use Rattle.region_typing_rules.specs.Calls.{arguments_as}
 use Rattle.region_typing_expressions.specs.declared.calls.Argument as code
 use Rattle.region_typing_scope.specs.OnHeap.{typed}
 use Rattle.region_typing_expressions.specs.Calls.{argument, only_number}

@@ -5,7 +5,8 @@ use Rattle.ckc_text.specs.declared.code.Code.TheVariants.{E24}
 use Rattle.ckc_core.specs.declared.program.Site.{Site}
 use Rattle.region_typing_rules.specs.Scopes.{Scope, Signature}
 use Rattle.region_typing_rules.specs.Verdicts.{Verdict, Passes, passing, needs}
-use Rattle.region_typing_rules.specs.Expressions.{Typed, is_checked_argument, without_checked, crossing, is_import, declared_call}
+use Rattle.region_typing_rules.specs.Operands.{Typed}
+use Rattle.region_typing_rules.specs.Calls.{is_checked_argument, without_checked, crossing, is_import, declared_call}
 use Rattle.region_typing_expressions.specs.Calls.{converted_call}
 
 abbrev pub one_crosses : Typed × Span → Unit {0} → Verdict (Unit {0})

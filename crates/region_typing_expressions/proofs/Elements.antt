@@ -7,7 +7,7 @@ use Rattle.act_words.specs.declared.operator.Operator.TheVariants as operators
 use Rattle.act_words.specs.declared.operator.ArithmeticOperator.TheVariants as arithmetics
 use Rattle.ckc_core.specs.Core as core
 use Rattle.region_typing_rules.specs.Scopes.{Scope}
-use Rattle.region_typing_rules.specs.Expressions.{first_factor, factor_beside, elements_in}
+use Rattle.region_typing_rules.specs.NewMemory.{first_factor, factor_beside, elements_in}
 use Rattle.region_typing_expressions.specs.declared.allocations.Factor.{Factor}
 use Rattle.region_typing_expressions.specs.declared.allocations.Factor.TheVariants as factors
 use Rattle.region_typing_expressions.specs.Allocations.{factor_of, alone_in}

@@ -10,7 +10,8 @@ use Rattle.ckc_core.specs.declared.program.Site.{Site}
 use Rattle.ckc_core.specs.Core as core
 use Rattle.ckc_core.specs.Meaning.{bounds_of}
 use Rattle.region_typing_rules.specs.Verdicts.{Verdict, Passes, Stops, passing}
-use Rattle.region_typing_rules.specs.Expressions.{Places, Typed, Value, AStruct, at_place, dereferenced, pointed_at, first_element, first_or_end, site_at, typed}
+use Rattle.region_typing_rules.specs.Operands.{Places, Typed, Value, AStruct, at_place, dereferenced, pointed_at, first_element, first_or_end, site_at}
+use Rattle.region_typing_rules.specs.Expressions.{typed}
 use Rattle.region_typing_rules.specs.Scopes.{Scope}
 use Rattle.ckc_tree.specs.Expressions.{Expression, Index}
 use Rattle.region_typing_expressions.specs.Unbounded.{element_verdict}

@@ -14,7 +14,7 @@ use Rattle.ckc_core.specs.Core as core
 use Rattle.region_typing_rules.specs.Verdicts.{Passes, breaks}
 use Rattle.region_typing_rules.specs.Scopes.{Scope, members_named}
 use Rattle.region_typing_rules.specs.Types.{is_scalar}
-use Rattle.region_typing_rules.specs.Expressions.{Value, For, OfCell, at_place, member_from, member_at, member_place, offset_among}
+use Rattle.region_typing_rules.specs.Operands.{Value, For, OfCell, at_place, member_from, member_at, member_place, offset_among}
 use Rattle.region_typing_scope.specs.Searches.{member_at as member_found_at}
 use Rattle.region_typing_scope.proofs.Searches.{place_found, member_found}
 

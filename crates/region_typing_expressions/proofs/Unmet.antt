@@ -8,7 +8,7 @@ use Rattle.pointer_modes.specs.declared.ctype.CType as code_type
 use Rattle.pointer_modes.specs.Types.{ctype}
 use Rattle.region_typing_rules.specs.Verdicts.{picked}
 use Rattle.region_typing_rules.specs.Scopes.{WrittenBounds, bounds_in}
-use Rattle.region_typing_rules.specs.Expressions.{argument_meets}
+use Rattle.region_typing_rules.specs.Calls.{argument_meets}
 use Rattle.region_typing_scope.specs.OnHeap.{typed}
 use Rattle.region_typing_scope.proofs.Steps.{parts_at}
 use Rattle.region_typing_expressions.specs.declared.calls.Argument as code

@@ -10,7 +10,8 @@ use Rattle.bounds_flow.specs.Flows.{Knowledge}
 use Rattle.ckc_core.specs.declared.program.Site.{Site}
 use Rattle.region_typing_rules.specs.Scopes.{Scope}
 use Rattle.region_typing_rules.specs.DeclaredBounds.{Bounded, sum_written, all_written, parts_written, how_written, bounded_of}
-use Rattle.region_typing_rules.specs.Expressions.{Typed, calloc_typed, cast_bounds}
+use Rattle.region_typing_rules.specs.Operands.{Typed}
+use Rattle.region_typing_rules.specs.NewMemory.{calloc_typed, cast_bounds}
 use Rattle.region_typing_rules.specs.Knowing.{knowing}
 
 module _ (f : Knowledge) (s : Scope) (p : Bounded) where

@@ -11,7 +11,8 @@ use Rattle.ckc_core.specs.Steps.{is_char}
 use Rattle.region_typing_rules.specs.Verdicts.{picked}
 use Rattle.region_typing_rules.specs.Scopes.{Scope}
 use Rattle.region_typing_rules.specs.Cells.{cells_with}
-use Rattle.region_typing_rules.specs.Expressions.{Typed, Value, ForNothing, is_size, first_factor, second_factor}
+use Rattle.region_typing_rules.specs.Operands.{Typed, Value, ForNothing}
+use Rattle.region_typing_rules.specs.NewMemory.{is_size, first_factor, second_factor}
 use Rattle.region_typing_expressions.specs.declared.allocations.Factor.{Factor}
 use Rattle.region_typing_expressions.specs.declared.allocations.Factor.TheVariants as factors
 

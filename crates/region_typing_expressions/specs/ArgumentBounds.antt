@@ -9,7 +9,8 @@ use Rattle.pointer_modes.specs.Types.{CType, Int, Char, Struct, Pointer}
 use Rattle.region_typing_rules.specs.Verdicts.{Verdict, Passes, breaks, picked}
 use Rattle.region_typing_rules.specs.Scopes.{Scope, Signature, WrittenBounds, bounds_in}
 use Rattle.region_typing_rules.specs.Readings.{pointer_local, term}
-use Rattle.region_typing_rules.specs.Expressions.{Typed, Value, AStruct, argument_meets, pointers_for, result_at, terms_for}
+use Rattle.region_typing_rules.specs.Operands.{Typed, Value, AStruct}
+use Rattle.region_typing_rules.specs.Calls.{argument_meets, pointers_for, result_at, terms_for}
 
 -- the term of an argument, and that of one for a parameter of a type
 abbrev pub term_of : List CType → Typed → Option Term

@@ -9,8 +9,11 @@ use Rattle.region_typing_rules.specs.Scopes.{Scope, Signature, function_named}
 use Rattle.ckc_tree.specs.Expressions.{Expressions}
 use Rattle.pointer_modes.specs.Types.{Int, ctype}
 use Rattle.ckc_core.specs.Core.{expression, statement}
-use Rattle.region_typing_rules.specs.Expressions.{Places, Typed, Called, Gives, GivesNothing, converted, arguments_as, arguments_met, pointers_for, terms_for}
-use Rattle.region_typing_rules.specs.Expressions.{declared_callee, call_of, all_typed, called as called_in, site_at}
+use Rattle.region_typing_rules.specs.Operands.{Places, Typed, Called, Gives, GivesNothing, converted}
+use Rattle.region_typing_rules.specs.Calls.{arguments_as, arguments_met, pointers_for, terms_for}
+use Rattle.region_typing_rules.specs.Operands.{site_at}
+use Rattle.region_typing_rules.specs.Calls.{declared_callee, call_of, called as called_in}
+use Rattle.region_typing_rules.specs.Expressions.{all_typed}
 use Rattle.region_typing_expressions.specs.ArgumentBounds.{result_bounds_of}
 use Rattle.region_typing_expressions.specs.declared.calls.Called as code
 use Rattle.region_typing_expressions.specs.declared.calls.Called.TheVariants as calls

@@ -10,7 +10,7 @@ use Rattle.act_words.specs.declared.operator.Comparison.{Comparison}
 use Rattle.region_typing_rules.specs.Types.{is_number, is_pointer, is_row, are_comparable}
 use Rattle.region_typing_rules.specs.Verdicts.{Verdict, needs}
 use Rattle.region_typing_rules.specs.Readings.{based_bounds}
-use Rattle.region_typing_rules.specs.Expressions.{Typed, Value, AStruct, number, two_scalars, have_one_base, is_ended_element}
+use Rattle.region_typing_rules.specs.Operands.{Typed, Value, AStruct, number, two_scalars, have_one_base, is_ended_element}
 use Rattle.region_typing_rules.specs.Items.{is_zero}
 
 abbrev pub is_number_value : Typed → Bool

@@ -5,7 +5,7 @@ use Rattle.ckc_text.specs.declared.code.Code.TheVariants.{E13}
 use Rattle.act_words.specs.declared.operator.Comparison.TheVariants as comparisons
 use Rattle.ckc_core.specs.Core as core
 use Rattle.region_typing_rules.specs.Verdicts.{Verdict, Passes, needs, picked}
-use Rattle.region_typing_rules.specs.Expressions.{Typed}
+use Rattle.region_typing_rules.specs.Operands.{Typed}
 use Rattle.region_typing_rules.specs.Items.{is_zero}
 use Rattle.region_typing_expressions.specs.declared.equality.Equality.{Equality}
 use Rattle.region_typing_expressions.specs.declared.equality.Equality.TheVariants.{Numbers, Pointers, RightNull, LeftNull}

@@ -9,7 +9,7 @@ use Rattle.ckc_core.specs.declared.program.Direction.{Direction}
 use Rattle.ckc_core.specs.Core as core
 use Rattle.region_typing_rules.specs.Verdicts.{Verdict, Passes}
 use Rattle.region_typing_rules.specs.Scopes.{Scope}
-use Rattle.region_typing_rules.specs.Expressions.{Typed, at_place, number_of, plain, sum_node, with_elements, first_element, first_or_end}
+use Rattle.region_typing_rules.specs.Operands.{Typed, at_place, number_of, plain, sum_node, with_elements, first_element, first_or_end}
 use Rattle.region_typing_scope.specs.Operands.{Operand}
 
 -- a pointer that is moved by a number (E13)

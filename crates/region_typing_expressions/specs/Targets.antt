@@ -15,8 +15,8 @@ use Rattle.ckc_core.specs.Core.{place}
 use Rattle.region_typing_rules.specs.Verdicts.{Verdict, Passes, passing, needs, breaks, picked}
 use Rattle.region_typing_rules.specs.Scopes.{Scope}
 use Rattle.region_typing_rules.specs.Types.{is_scalar, is_pointer, is_single, is_row}
-use Rattle.region_typing_rules.specs.Expressions.{Typed, Value, AStruct, ForNothing, ForArray, For, Lvalue, OfLocal, OfCell, OfBounded, OfUnknown, number_of}
-use Rattle.region_typing_rules.specs.Expressions.{is_single_value, lacks_bounds, meets, operator_along, sum_node}
+use Rattle.region_typing_rules.specs.Operands.{Typed, Value, AStruct, ForNothing, ForArray, For, Lvalue, OfLocal, OfCell, OfBounded, OfUnknown, number_of}
+use Rattle.region_typing_rules.specs.Operands.{is_single_value, lacks_bounds, meets, operator_along, sum_node}
 use Rattle.region_typing_rules.specs.DeclaredBounds.{unwritten_bounds}
 use Rattle.region_typing_rules.specs.Statements.{update, moved}
 use Rattle.region_typing_expressions.specs.declared.assignments.Lvalue as code

@@ -7,7 +7,8 @@ use Rattle.ckc_core.specs.declared.program.Site.{Site}
 use Rattle.ckc_tree.specs.Expressions.{Expression}
 use Rattle.region_typing_rules.specs.Verdicts.{Verdict, Passes, passing}
 use Rattle.region_typing_rules.specs.Scopes.{Scope, named}
-use Rattle.region_typing_rules.specs.Expressions.{Places, Typed, site_at, text_value, name_typed, in_cell, indexed, dotted, arrowed, unary_typed, typed}
+use Rattle.region_typing_rules.specs.Operands.{Places, Typed, site_at, text_value, name_typed, in_cell, indexed, dotted, arrowed, unary_typed}
+use Rattle.region_typing_rules.specs.Expressions.{typed}
 
 -- a string whose block has this number and so many characters
 abbrev pub block_value : List Structure → Site → ℕ × ℕ → Typed

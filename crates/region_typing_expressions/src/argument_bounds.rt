@@ -2,7 +2,7 @@
 
 ghost use Rattle.std.specs.Prelude.{◌≡◌, None, length, map, slice_index_or, IfOk};
 ghost use Rattle.pointer_modes.specs.Types.{ctype as ctype_of};
-ghost use Rattle.region_typing_rules.specs.Expressions.{argument_meets as argument_meets_in, at_call as at_call_in, pointers_for as pointers_in, result_at as result_at_in, terms_for as terms_in};
+ghost use Rattle.region_typing_rules.specs.Calls.{argument_meets as argument_meets_in, at_call as at_call_in, pointers_for as pointers_in, result_at as result_at_in, terms_for as terms_in};
 ghost use Rattle.region_typing_scope.specs.Answering.{Answers};
 ghost use Rattle.region_typing_scope.specs.Typed.{typed as inline_typed};
 ghost use Rattle.region_typing_scope.specs.Points.{point as point_of};

@@ -7,7 +7,8 @@ ghost use Rattle.ckc_tree.specs.Expressions.{expression as expression_of, bounds
 ghost use Rattle.pointer_modes.specs.Types.{Int};
 ghost use Rattle.ckc_core.specs.Core.{Number};
 ghost use Rattle.region_typing_rules.specs.Verdicts.{Passes};
-ghost use Rattle.region_typing_rules.specs.Expressions.{beside, constant_typed, Value, ForNothing, site_at, typed as typed_of, name_typed, text_typed, all_typed as all_typed_of, call_typed as call_typed_of};
+ghost use Rattle.region_typing_rules.specs.Operands.{beside, Value, ForNothing, site_at, name_typed, text_typed};
+ghost use Rattle.region_typing_rules.specs.Expressions.{constant_typed, typed as typed_of, all_typed as all_typed_of, call_typed as call_typed_of};
 ghost use Rattle.region_typing_rules.specs.Strings.{text_at};
 ghost use Rattle.region_typing_scope.specs.Answering.{Answers};
 ghost use Rattle.region_typing_scope.specs.Strings.{block as block_of};

@@ -4,7 +4,7 @@ ghost use Rattle.std.specs.Prelude.{◌≡◌, ◌<◌, ◌==◌, length, map, p
 ghost use Rattle.pointer_modes.specs.declared.ctype.Mode.{Mode};
 ghost use Rattle.pointer_modes.specs.Types.{Pointer, Struct, ctype as ctype_of, member as member_of};
 ghost use Rattle.ckc_core.specs.Core.{expression, place as place_of};
-ghost use Rattle.region_typing_rules.specs.Expressions.{member_from, member_at as member_in, member_place as place_in, struct_place as cell_of_struct, first_element as first_element_of, dotted as dotted_in, pointed_by as pointed_by_in, arrowed as arrowed_in};
+ghost use Rattle.region_typing_rules.specs.Operands.{member_from, member_at as member_in, member_place as place_in, struct_place as cell_of_struct, first_element as first_element_of, dotted as dotted_in, pointed_by as pointed_by_in, arrowed as arrowed_in};
 ghost use Rattle.region_typing_scope.specs.Answering.{Answers};
 ghost use Rattle.region_typing_scope.specs.Searches.{member_at as member_found_at};
 ghost use Rattle.region_typing_scope.specs.Views.{scope as scope_of};

@@ -5,7 +5,7 @@ ghost use Rattle.pointer_modes.specs.Types.{ctype as ctype_of};
 ghost use Rattle.ckc_core.specs.Core.{expression, place as place_of};
 ghost use Rattle.region_typing_rules.specs.Verdicts.{Passes};
 ghost use Rattle.region_typing_rules.specs.Types.{is_single as single_type, is_row as row_type};
-ghost use Rattle.region_typing_rules.specs.Expressions.{have_one_base as one_base, is_ended_element as ended_element, is_single_value as single_value, lacks_bounds as lacking_bounds, without_ptr as without_ptr_in};
+ghost use Rattle.region_typing_rules.specs.Operands.{have_one_base as one_base, is_ended_element as ended_element, is_single_value as single_value, lacks_bounds as lacking_bounds, without_ptr as without_ptr_in};
 ghost use Rattle.region_typing_scope.specs.Answering.{Answers};
 ghost use Rattle.region_typing_scope.specs.Typed.{typed};
 ghost use Rattle.region_typing_expressions.specs.Comparing.{is_number_value as number_value_of, is_pointer_value as pointer_value_of, is_comparable_value, are_comparable_values as comparable_values, is_row_value as row_value, based_value as based_value_of, are_related_values as related_values, is_ended_place as ended_place, is_ended_value as ended_value, is_zero_test as zero_test_of};

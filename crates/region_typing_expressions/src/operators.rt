@@ -5,7 +5,7 @@ ghost use Rattle.ckc_text.specs.Places.{place_at};
 ghost use Rattle.act_words.specs.declared.operator.Operator.TheVariants as operators;
 ghost use Rattle.ckc_core.specs.Core.{expression, Not, Sum};
 ghost use Rattle.region_typing_rules.specs.Verdicts.{passing};
-ghost use Rattle.region_typing_rules.specs.Expressions.{site_at, sum_node as sum_node_of, number as number_typed, unary_typed as unary_of, binary_typed as binary_of, two_numbers, two_scalars, arithmetic as arithmetic_of, operator_along as operator_in, summed as summed_in, sum_typed, equated as equated_in, ordered as ordered_in, zero_test};
+ghost use Rattle.region_typing_rules.specs.Operands.{site_at, sum_node as sum_node_of, number as number_typed, unary_typed as unary_of, binary_typed as binary_of, two_numbers, two_scalars, arithmetic as arithmetic_of, operator_along as operator_in, summed as summed_in, sum_typed, equated as equated_in, ordered as ordered_in, zero_test};
 ghost use Rattle.region_typing_scope.specs.Answering.{Answers};
 ghost use Rattle.region_typing_scope.specs.OnHeap.{typed};
 ghost use Rattle.region_typing_scope.specs.Operands.{and_also, or_else, operand as operand_view};

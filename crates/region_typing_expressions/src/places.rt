@@ -3,7 +3,7 @@
 ghost use Rattle.std.specs.Prelude.{◌≡◌, IfOk};
 ghost use Rattle.pointer_modes.specs.Types.{ctype as ctype_of};
 ghost use Rattle.ckc_core.specs.Core.{expression, index as index_of, place as place_of};
-ghost use Rattle.region_typing_rules.specs.Expressions.{dereferenced, element_at as element_at_in, first_or_end as first_or_end_of, indexed as indexed_in, address as address_of, pointer_to as pointer_at, checked_at as checked_at_of, below_end as below_end_of};
+ghost use Rattle.region_typing_rules.specs.Operands.{dereferenced, element_at as element_at_in, first_or_end as first_or_end_of, indexed as indexed_in, address as address_of, pointer_to as pointer_at, checked_at as checked_at_of, below_end as below_end_of};
 ghost use Rattle.region_typing_scope.specs.Answering.{Answers};
 ghost use Rattle.region_typing_scope.specs.OnHeap.{typed};
 ghost use Rattle.region_typing_scope.specs.Typed.{base_place};

@@ -1,9 +1,9 @@
 // What conditions tell.
 
-ghost use Rattle.std.specs.Prelude.{◌≡◌, ◌<◌, ◌≤◌, Bool, Option, Some, length, map, not, slice_get, OnOk};
+ghost use Rattle.std.specs.Prelude.{◌≡◌, ◌<◌, ◌≤◌, Bool, Option, Some, length, map, not, slice_get, IfOk, OnOk};
 ghost use Rattle.bounds_exprs.specs.declared.term.Term.{Term as TermTree};
 ghost use Rattle.bounds_flow.specs.declared.steps.Test.TheVariants.{Compare};
-ghost use Rattle.bounds_flow.specs.Flows.{Knowledge, assumed, met};
+ghost use Rattle.bounds_flow.specs.Flows.{Knowledge, assumed, rejoined};
 ghost use Rattle.pointer_modes.specs.Types.{ctype as ctype_of};
 ghost use Rattle.ckc_core.specs.declared.program.Direction.TheVariants.{Forward};
 ghost use Rattle.ckc_core.specs.declared.program.PointerBounds.{PointerBounds};
@@ -210,7 +210,31 @@ fn both(
     told(locals, right, truth, flow)
 }
 
-// One of two conditions came out so: the first, or the second where the first came out otherwise.
+// The way on which the first of two conditions came out so; gives the one on which the second did, where the first came out
+// otherwise.
+#[cycle(told)]
+fn parted(
+    locals: &[CType],
+    left: &Expr,
+    right: &Expr,
+    truth: bool,
+    flow: &mut Flow,
+) -> Result<Flow, NoMemory>
+    requires { length locals.now ≤ flow.old.vars }
+    ensures first { OnOk result (flow.new ≡ told_of (map ctype_of locals.now) (expression_of left.now) truth flow.old) }
+    ensures second { IfOk result (λ second. second ≡ told_of (map ctype_of locals.now) (expression_of right.now) truth (told_of (map ctype_of locals.now) (expression_of left.now) (not truth) flow.old)) }
+    ensures second_vars { IfOk result (λ second. second.vars ≡ flow.old.vars) }
+    ensures vars { flow.new.vars ≡ flow.old.vars }
+{
+    let mut second = flow.copy()?;
+    told(locals, left, !truth, &mut second)?;
+    told(locals, right, truth, &mut second)?;
+    told(locals, left, truth, flow)?;
+    Ok(second)
+}
+
+// One of two conditions came out so: the first, or the second where the first came out otherwise. What was known before is
+// kept only in bundles, where it is asked for.
 #[cycle(told)]
 fn either(
     locals: &[CType],
@@ -220,14 +244,16 @@ fn either(
     flow: &mut Flow,
 ) -> Result<(), NoMemory>
     requires { length locals.now ≤ flow.old.vars }
-    ensures ok { OnOk result (flow.new ≡ met (told_of (map ctype_of locals.now) (expression_of left.now) truth flow.old) (told_of (map ctype_of locals.now) (expression_of right.now) truth (told_of (map ctype_of locals.now) (expression_of left.now) (not truth) flow.old))) }
+    ensures ok { OnOk result (flow.new ≡ rejoined flow.old (told_of (map ctype_of locals.now) (expression_of left.now) truth flow.old) (told_of (map ctype_of locals.now) (expression_of right.now) truth (told_of (map ctype_of locals.now) (expression_of left.now) (not truth) flow.old))) }
     ensures vars { flow.new.vars ≡ flow.old.vars }
 {
-    let mut second = flow.copy()?;
-    told(locals, left, !truth, &mut second)?;
-    told(locals, right, truth, &mut second)?;
-    told(locals, left, truth, flow)?;
-    flow.join(&second)
+    if !flow.is_bundled() {
+        let second = parted(locals, left, right, truth, flow)?;
+        return flow.join(&second);
+    }
+    let before = flow.copy()?;
+    let second = parted(locals, left, right, truth, flow)?;
+    flow.rejoin(&second, &before)
 }
 
 /// What a flow becomes by a condition that came out so. Where no memory is found, it has as many variables as before.

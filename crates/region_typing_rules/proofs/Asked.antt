@@ -18,7 +18,8 @@ use Rattle.bounds_flow_meaning.proofs.Validity.{between_parts}
 use Rattle.ckc_core.specs.Core as core
 use Rattle.region_typing_rules.specs.Scopes.{Scope}
 use Rattle.region_typing_rules.specs.Readings.{based_bounds, is_null, own_bounds}
-use Rattle.region_typing_rules.specs.Expressions.{AStruct, Typed, Value, at_call, is_met, meets, meets_all, term_for, terms_for}
+use Rattle.region_typing_rules.specs.Operands.{AStruct, Typed, Value, is_met, meets}
+use Rattle.region_typing_rules.specs.Calls.{at_call, meets_all, term_for, terms_for}
 use Rattle.region_typing_rules.specs.KnownIsSo.{AreLimited}
 use Rattle.region_typing_rules.specs.Typed as typed
 use Rattle.region_typing_rules.specs.Typed.{IsAsked, IsAskedAt, LeadsTo}

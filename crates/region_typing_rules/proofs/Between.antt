@@ -21,7 +21,7 @@ use Rattle.bounds_flow.specs.declared.held.Mark.TheVariants as marks
 use Rattle.bounds_flow.specs.declared.steps.Source.{Source}
 use Rattle.bounds_flow.specs.declared.steps.Source.TheVariants as sources
 use Rattle.bounds_flow.specs.Pointers.{after_base, after_leaving, after_number, after_shift, assigned_from, dropped, fresh, is_settled, lost, moved_off, moved_to, no_pointer, same_bounds, settled_pointer, up_to, where_bounds, with_declared, is_own}
-use Rattle.bounds_flow.specs.Flows.{Knowledge, held_at, entered, left, at_head, cut_off, length_assigned, measured, measured_by, met, number_assigned, number_held, pointer_assigned, settled, variable}
+use Rattle.bounds_flow.specs.Flows.{Knowledge, held_at, entered, left, at_head, cut_off, in_bundle, length_assigned, measured, measured_by, met, number_assigned, number_held, pointer_assigned, settled, variable}
 use Rattle.bounds_flow.specs.Settling.{Finding, Meets, WasLost, Falls, MeetBelow, finding}
 use Rattle.bounds_flow.specs.Conditions.{AreBoundsBelow, AreEndsBelow, IsFlow, IsTermBelow, IsSourceBelow}
 use Rattle.bounds_flow.proofs.FlowSteps.{are_kept}
@@ -38,7 +38,7 @@ use Rattle.region_typing_rules.specs.Knowing.{is_below, are_below, given_bounds,
 use Rattle.region_typing_rules.specs.KnownIsSo.{AreLimited, declared_at, IsDeclared, IsOutside}
 use Rattle.region_typing_rules.proofs.Verdicts.{Promises, Extends}
 use Rattle.region_typing_rules.proofs.Terms.{term_formed, formed_below}
-use Rattle.region_typing_rules.proofs.InForce.{AreSo, IsSoOf, StaysSo, bounds_told}
+use Rattle.region_typing_rules.proofs.InForce.{AreSo, IsPointing, IsSoOf, StaysSo, bounds_told}
 use Rattle.region_typing_rules.proofs.Told.{told_beside as tests_beside, told_here, told_is, told_settled}
 
 -- ---- bounds that may stand
@@ -78,6 +78,17 @@ declared_extends structs ts us p b more d = record {
   own = more p (Pointer d.mode d.kind d.element) d.own;
   ints = record { lo = int_more ts us more b.lo.var d.ints.lo; hi = int_more ts us more b.hi.var d.ints.hi };
   base = λ q e. let it = d.base q e in (it.0, more q (Pointer d.mode it.0 d.element) it.1);
+}
+
+pub stands_pointing : (structs : List Structure) (types : List CType) (p : ℕ) (b : Bounds) → MayStand structs types p b → IsPointing types p b
+stands_pointing structs types p b h = record {
+  mode = h.0.mode;
+  kind = h.0.kind;
+  counts = h.0.counts;
+  element = h.0.element;
+  own = h.0.own;
+  limited = h.1;
+  named = record { ints = h.0.ints; base = λ q e. let it = h.0.base q e in (h.0.mode, it.0, h.0.element, it.1) };
 }
 
 -- ---- the bounds of all pointers
@@ -335,6 +346,13 @@ so_amid Q f so p = record { declared = (so p).declared; in_force = λ _. (so p).
 pub amid_here : {structs : List Structure} {types : List CType} (vars : ℕ) (f : Knowledge) → IsBetween structs types vars f → IsAmid structs types f f
 amid_here {structs = structs} {types = types} vars f b = record { flow = b.flow; beside = record { vars = refl; declared = λ p. refl }; bounds = so_amid (MayStand structs types) f b.bounds }
 
+-- where a bundle begins
+pub amid_bundle : {structs : List Structure} {types : List CType} (f g : Knowledge) → IsAmid structs types f g → IsAmid structs types f (in_bundle g)
+amid_bundle f g a = record { flow = (are_kept.steps g a.flow).bundle; beside = record { vars = a.beside.vars; declared = a.beside.declared }; bounds = a.bounds }
+
+beside_on : (f g h : Knowledge) → AreBeside f g → AreBeside g h → AreBeside f h
+beside_on f g h a b = record { vars = b.vars ∙ a.vars; declared = λ p. b.declared p ∙ a.declared p }
+
 -- ---- one pointer
 
 module _ (Q : Bounds → Type 0) where
@@ -438,52 +456,73 @@ term_below types vars e None is few = tt
 term_below types vars e (Some t) is few = formed_below types vars t.var few (term_formed types e t is).int
 
 -- a variable of an `int` is assigned a number, or a count
-count_amid : {structs : List Structure} (vars : ℕ) (types : List CType) (f : Knowledge) (x : ℕ) (e : core.Expression) (o : Option ℕ) → slice_get types x ≡ Some Int → IsBetween structs types vars f → length types ≤ f.vars → IsAmid structs types f (count_assigned x o (term types e) f)
-count_amid {structs = structs} vars types f x e None is b few =
+count_amid : {structs : List Structure} (types : List CType) (f g : Knowledge) (x : ℕ) (e : core.Expression) (o : Option ℕ) → slice_get types x ≡ Some Int → IsAmid structs types f g → length types ≤ g.vars → IsAmid structs types f (count_assigned x o (term types e) g)
+count_amid {structs = structs} types f g x e None is a few =
     let low = slice_get_within types x Int is in
     record {
-      flow = (are_kept.steps f b.flow).assign_int x (term types e) (omega (arith, low, few)) (term_below types f.vars e (term types e) refl few);
-      beside = (flows_stay_alike.0 f).assign_int x (term types e);
-      bounds = number_all_amid (MayStand structs types) x (term types e) (slice_set f.assigned x true) f.held (so_amid (MayStand structs types) f b.bounds);
+      flow = (are_kept.steps g a.flow).assign_int x (term types e) (omega (arith, low, few)) (term_below types g.vars e (term types e) refl few);
+      beside = beside_on f g _ a.beside ((flows_stay_alike.0 g).assign_int x (term types e));
+      bounds = number_all_amid (MayStand structs types) x (term types e) (slice_set g.assigned x true) g.held a.bounds;
     }
-count_amid {structs = structs} vars types f x e (Some p) is b few =
+count_amid {structs = structs} types f g x e (Some p) is a few =
     let low = slice_get_within types x Int is in
     record {
-      flow = (are_kept.steps f b.flow).strlen x p (omega (arith, low, few));
-      beside = (flows_stay_alike.0 f).assign_length x p;
-      bounds = length_all_amid (MayStand structs types) x p f (λ d. ended_stands structs types p d (variable x) is refl) (so_amid (MayStand structs types) f b.bounds);
+      flow = (are_kept.steps g a.flow).strlen x p (omega (arith, low, few));
+      beside = beside_on f g _ a.beside ((flows_stay_alike.0 g).assign_length x p);
+      bounds = length_all_amid (MayStand structs types) x p g (λ d. ended_stands structs types p d (variable x) is refl) a.bounds;
     }
 
-value_amid : {structs : List Structure} (vars : ℕ) (types : List CType) (f : Knowledge) (x : ℕ) (e : core.Expression) (o : Option CType) → slice_get types x ≡ o → IsBetween structs types vars f → length types ≤ f.vars → IsAmid structs types f (value_assigned o types x e f)
-value_amid vars types f x e None is b few = amid_here vars f b
-value_amid vars types f x e (Some Int) is b few = count_amid vars types f x e (measured_local types e) is b few
-value_amid vars types f x e (Some Char) is b few = amid_here vars f b
-value_amid vars types f x e (Some (Struct number)) is b few = amid_here vars f b
-value_amid {structs = structs} vars types f x e (Some (Pointer mode kind target)) is b few =
-    let from = source f.vars kind (held_at f.held x).declared e in
+value_amid : {structs : List Structure} (types : List CType) (f g : Knowledge) (x : ℕ) (e : core.Expression) (o : Option CType) → slice_get types x ≡ o → IsAmid structs types f g → length types ≤ g.vars → IsAmid structs types f (value_assigned o types x e g)
+value_amid types f g x e None is a few = a
+value_amid types f g x e (Some Int) is a few = count_amid types f g x e (measured_local types e) is a few
+value_amid types f g x e (Some Char) is a few = a
+value_amid types f g x e (Some (Struct number)) is a few = a
+value_amid {structs = structs} types f g x e (Some (Pointer mode kind target)) is a few =
+    let from = source g.vars kind (held_at g.held x).declared e in
     record {
-      flow = (are_kept.steps f b.flow).assign_pointer x from (moved_from x (behind_local types e)) (is_not_null types f e) (source_below f.vars kind (held_at f.held x).declared e);
-      beside = (flows_stay_alike.0 f).assign_pointer x from (moved_from x (behind_local types e)) (is_not_null types f e);
-      bounds = pointer_all_amid (MayStand structs types) x from (moved_from x (behind_local types e)) (is_not_null types f e) f (so_amid (MayStand structs types) f b.bounds);
+      flow = (are_kept.steps g a.flow).assign_pointer x from (moved_from x (behind_local types e)) (is_not_null types g e) (source_below g.vars kind (held_at g.held x).declared e);
+      beside = beside_on f g _ a.beside ((flows_stay_alike.0 g).assign_pointer x from (moved_from x (behind_local types e)) (is_not_null types g e));
+      bounds = pointer_all_amid (MayStand structs types) x from (moved_from x (behind_local types e)) (is_not_null types g e) g a.bounds;
     }
 
-pub assigned_amid : {structs : List Structure} (vars : ℕ) (types : List CType) (f : Knowledge) (x : core.Statement) → IsBetween structs types vars f → length types ≤ f.vars → IsAmid structs types f (assigned_by types x f)
-assigned_amid vars types f core.Nothing b few = amid_here vars f b
-assigned_amid vars types f (core.SetLocal local value) b few = value_amid vars types f local value (slice_get types local) refl b few
-assigned_amid vars types f (core.Store type place value) b few = amid_here vars f b
-assigned_amid vars types f (core.UpdateLocal char local operator value site) b few = value_amid vars types f local (core.Arithmetic operator (core.Local local None) value site) (slice_get types local) refl b few
-assigned_amid vars types f (core.Update type place operator value site) b few = amid_here vars f b
-assigned_amid vars types f (core.Evaluate value) b few = amid_here vars f b
-assigned_amid vars types f (core.CallAlone callee arguments) b few = amid_here vars f b
-assigned_amid vars types f (core.Print value) b few = amid_here vars f b
-assigned_amid vars types f (core.PutByte value) b few = amid_here vars f b
-assigned_amid vars types f (core.Block statements) b few = amid_here vars f b
-assigned_amid vars types f (core.If condition consequent alternative) b few = amid_here vars f b
-assigned_amid vars types f (core.Loop condition body step) b few = amid_here vars f b
-assigned_amid vars types f (core.Return value) b few = amid_here vars f b
-assigned_amid vars types f core.ReturnNothing b few = amid_here vars f b
-assigned_amid vars types f core.Break b few = amid_here vars f b
-assigned_amid vars types f core.Continue b few = amid_here vars f b
+pub assigned_amid : {structs : List Structure} (types : List CType) (f g : Knowledge) (x : core.Statement) → IsAmid structs types f g → length types ≤ g.vars → IsAmid structs types f (assigned_by types x g)
+assigned_amid types f g core.Nothing a few = a
+assigned_amid types f g (core.SetLocal local value) a few = value_amid types f g local value (slice_get types local) refl a few
+assigned_amid types f g (core.Store type place value) a few = a
+assigned_amid types f g (core.UpdateLocal char local operator value site) a few = value_amid types f g local (core.Arithmetic operator (core.Local local None) value site) (slice_get types local) refl a few
+assigned_amid types f g (core.Update type place operator value site) a few = a
+assigned_amid types f g (core.Evaluate value) a few = a
+assigned_amid types f g (core.CallAlone callee arguments) a few = a
+assigned_amid types f g (core.Print value) a few = a
+assigned_amid types f g (core.PutByte value) a few = a
+assigned_amid types f g (core.Block statements) a few = a
+assigned_amid types f g (core.If condition consequent alternative) a few = a
+assigned_amid types f g (core.Loop condition body step) a few = a
+assigned_amid types f g (core.Return value) a few = a
+assigned_amid types f g core.ReturnNothing a few = a
+assigned_amid types f g core.Break a few = a
+assigned_amid types f g core.Continue a few = a
+
+-- an assignment stands in a bundle as what is before it does
+value_bundled : (types : List CType) (f : Knowledge) (x : ℕ) (e : core.Expression) (o : Option CType) → (value_assigned o types x e f).bundled ≡ f.bundled
+value_bundled types f x e None = refl
+value_bundled types f x e (Some Int) = by (measured_local types e)
+  where
+    by : (o : Option ℕ) → (count_assigned x o (term types e) f).bundled ≡ f.bundled
+    by None = refl
+    by (Some p) = owned (is_own (held_at f.held p).bounds)
+      where
+        owned : (test : Bool) → (cond test (measured_by x p (number_assigned x None f)) (number_assigned x None f)).bundled ≡ f.bundled
+        owned true = refl
+        owned false = refl
+value_bundled types f x e (Some Char) = refl
+value_bundled types f x e (Some (Struct number)) = refl
+value_bundled types f x e (Some (Pointer mode kind target)) = refl
+
+pub assigned_bundled : (types : List CType) (x : core.Statement) (f : Knowledge) → (assigned_by types x f).bundled ≡ f.bundled
+assigned_bundled types (core.SetLocal local value) f = value_bundled types f local value (slice_get types local)
+assigned_bundled types (core.UpdateLocal char local operator value site) f = value_bundled types f local (core.Arithmetic operator (core.Local local None) value site) (slice_get types local)
+assigned_bundled types x f = refl
 
 -- ---- settling
 

@@ -17,7 +17,8 @@ use Rattle.ckc_names_rules.specs.Given.{main, number_in, given_in}
 use Rattle.ckc_names_rules.specs.Naming.{named_of}
 use Rattle.region_typing_rules.specs.Verdicts.{Verdict, Passes, Stops, passing, picked}
 use Rattle.region_typing_rules.specs.Scopes.{Scope, Signature}
-use Rattle.region_typing_rules.specs.Expressions.{Places, is_import}
+use Rattle.region_typing_rules.specs.Operands.{Places}
+use Rattle.region_typing_rules.specs.Calls.{is_import}
 use Rattle.region_typing_rules.specs.Statements.{statements, is_unchecked, is_checked}
 use Rattle.region_typing_rules.specs.Items.{body_scope, variables_declared, Defined, Parameter, Walk, inside, core_function, function_body, item, items, start, walked}
 use Rattle.region_typing_rules.specs.Cores.{body_of, small_core}

@@ -21,7 +21,7 @@ use Rattle.bounds_flow_meaning.proofs.Numbers.{int_term, local_there as local_fo
 use Rattle.bounds_flow_meaning.proofs.Validity.{alike_here as local_alike, between_parts, carried, grown_valid, grows_here as local_grows, null_valid, stay_ends}
 use Rattle.region_typing_rules.specs.Scopes.{Scope}
 use Rattle.region_typing_rules.specs.Readings.{is_null, pointer_local, term}
-use Rattle.region_typing_rules.specs.Expressions.{at_call, with_caller_base}
+use Rattle.region_typing_rules.specs.Calls.{at_call, with_caller_base}
 use Rattle.region_typing_rules.specs.KnownIsSo.{HasLocals, IsKnown}
 use Rattle.region_typing_rules.specs.Typed as typed
 use Rattle.region_typing_rules.specs.Types.{Counts}

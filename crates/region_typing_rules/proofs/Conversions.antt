@@ -30,7 +30,9 @@ use Rattle.region_typing_rules.specs.Verdicts.{Verdict, Passes, picked}
 use Rattle.region_typing_rules.specs.Scopes.{Scope, Signature, WrittenBounds, bounds_in, named, function_named, members_named}
 use Rattle.region_typing_rules.specs.Types.{is_number, kind_converts, pointer_converts, converts, Counts}
 use Rattle.region_typing_rules.specs.Readings.{own_bounds, based_bounds, is_null, is_pointer_type, pointer_local, term}
-use Rattle.region_typing_rules.specs.Expressions.{OfLocal, OfCell, OfBounded, Standing, Typed, Value, AStruct, Called, Gives, GivesNothing, bounds_at, one_element, number, at_place, member_place, member_from, offset_among, member_at, dotted, first_element, pointed_by, arrowed, as_pointer, is_met, in_type, asked_as, asked_of, meets, bounds_met, converted, arguments_as, arguments_met, is_import, side_number, callee_of, call_of, first_of, writes, predefined_call, called, with_result, typed, argument_meets, at_call, meets_all, pointer_for, pointers_for, term_for, terms_for, call_bounds, result_at, OfUnknown, is_text, length_typed, text_pointer, measures}
+use Rattle.region_typing_rules.specs.Operands.{OfLocal, OfCell, OfBounded, Standing, Typed, Value, AStruct, Called, Gives, GivesNothing, bounds_at, one_element, number, at_place, member_place, member_from, offset_among, member_at, dotted, first_element, pointed_by, arrowed, as_pointer, is_met, in_type, asked_as, asked_of, meets, bounds_met, converted, OfUnknown}
+use Rattle.region_typing_rules.specs.Calls.{arguments_as, arguments_met, is_import, side_number, callee_of, call_of, first_of, writes, predefined_call, called, with_result, argument_meets, at_call, meets_all, pointer_for, pointers_for, term_for, terms_for, call_bounds, result_at, is_text, length_typed, text_pointer, measures}
+use Rattle.region_typing_rules.specs.Expressions.{typed}
 use Rattle.bounds_flow_meaning.specs.Sums.{counted}
 use Rattle.region_typing_rules.specs.Typed as rules
 use Rattle.region_typing_rules.specs.Typed.{Frame, AreAsked, AreOfResult, HasCallBounds, HasResultBounds, HaveRows, IsAsked, IsAskedAt, IsCallee, IsReturned, pointers_of, term_of, terms_of, LeadsToOne, HasType, HaveTypes, HasPlace, IsSimple, IsScalar, IsScalarResult, IsNumberResult}

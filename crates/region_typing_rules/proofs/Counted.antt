@@ -14,7 +14,8 @@ use Rattle.pointer_modes.specs.Types.{CType}
 use Rattle.region_typing_rules.specs.Verdicts.{Verdict, Passes, picked}
 use Rattle.region_typing_rules.specs.Scopes.{Scope, Signature, FileVariable, function_named}
 use Rattle.region_typing_rules.specs.Types.{may_lead_to, base_type, without_stars}
-use Rattle.region_typing_rules.specs.Expressions.{Places, is_tainted}
+use Rattle.region_typing_rules.specs.Operands.{Places}
+use Rattle.region_typing_rules.specs.Calls.{is_tainted}
 use Rattle.region_typing_rules.specs.Statements.{array_kind, is_ended_array, is_unchecked, length_of, statements}
 use Rattle.region_typing_rules.specs.Items.{Walk, Parameter, WalkedVariable, agrees, all_scalar, body_scope, bounds_of_result, function, function_body, function_rules, global, in_checked_region, initializer, inside, is_defined, is_struct, item, items, limited, listed, member_names, member_types, object_bounds, object_cells, parameter_types, result_type, room_for, room_for_first, scalar_members, scalar_result, signature_of, first_changed_in, structure, variable_of, variable_scope, variables, variables_declared, with_function, with_objects, with_struct}
 use Rattle.region_typing_rules.proofs.Verdicts.{Promises, always_promised, needs_promises, passing_promises, promised_so}

@@ -22,7 +22,8 @@ use Rattle.ckc_core.specs.Pointers.{byte_read, bytes_of_block, checked_if, count
 use Rattle.ckc_core.specs.States.{Value, Number, Null, At, Cell, Local, State, cell_at, in_world}
 use Rattle.ckc_core.specs.Steps.{Result, asked, is_zero}
 use Rattle.ckc_core.specs.Meaning.{Knot, Setting, length_of, value}
-use Rattle.region_typing_rules.specs.KnownIsSo.{WhereGiven, IsAlike, IsDeclared, HasLocals}
+use Rattle.region_typing_rules.specs.KnownIsSo.{WhereGiven, IsAlike, HasLocals}
+use Rattle.region_typing_rules.specs.Typed.{AreNamed}
 use Rattle.region_typing_rules.proofs.Keeping.{CallsKeep}
 use Rattle.region_typing_rules.proofs.Given.{ends_alike}
 use Rattle.region_typing_rules.proofs.ReadElements.{IsHolding, local_read}
@@ -30,13 +31,13 @@ use Rattle.region_typing_rules.proofs.Terms.{so_further, so_on}
 
 -- ---- where nodes are right
 
--- the bounds at the node of a local are those that are in force, and such as may stand there
+-- the bounds at the node of a local are those that are in force, which name locals
 pub record IsRightText (known : List Structure) (types : List CType) (f : Knowledge) (k : ℕ) (p : PointerBounds) : Type 0 where
   pub mode : Mode
   pub pointer : slice_get types k ≡ Some (Pointer mode kinds.Nt Char)
   pub size : p.size ≡ 1
   pub same : (d : Bounds) → (held_at f.held k).bounds ≡ Some d → d ≡ p.bounds
-  pub stands : (d : Bounds) → (held_at f.held k).bounds ≡ Some d → IsDeclared known types k d
+  pub named : (d : Bounds) → (held_at f.held k).bounds ≡ Some d → AreNamed types d
 
 abbrev pub IsRightLength : List Structure → List CType → Knowledge → core.Expression → Type 0
 IsRightLength known types f (core.Length (core.Local k b) site) = (p : PointerBounds) → b ≡ Some p → IsRightText known types f k p
@@ -173,7 +174,7 @@ module _ (structs known : List Structure) (types : List CType) (f : Knowledge) (
             let at : At h.block h.byte ≡ At block byte = sym h.points ∙ (ap (λ (l : Local). l.value) (same_local l there) ∙ points) in
             let sized : target_size structs l.type ≡ h.node.size = ap (target_size structs) type ∙ sym text.size in
             let node_ends : ends_at (at_node d h.node.size (is_ended l.type) site) t.locals h.block h.byte ≡ Some h.ends = subst (λ d. ends_at (at_node d h.node.size (is_ended l.type) site) t.locals h.block h.byte ≡ Some h.ends) (sym same) h.are in
-            let later = ends_alike structs known types t w has alike h.node.size (is_ended l.type) k d (text.stands d is) site h.block h.byte h.ends node_ends in
+            let later = ends_alike structs known types t w has alike h.node.size (is_ended l.type) d (text.named d is) site h.block h.byte h.ends node_ends in
             counted_at (at_node d h.node.size (is_ended l.type) site) block byte e at (subst (λ n. ends_at (at_node d n (is_ended l.type) site) w.locals block byte ≡ Some e) sized are) later;
       }
     where

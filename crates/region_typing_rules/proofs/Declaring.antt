@@ -5,7 +5,7 @@ use Rattle.std.proofs.lemmas.Bool.{ltb-true, leb-true, and_parts, le-leb}
 use Rattle.std.proofs.lemmas.Bool.Decides.{nat_tests}
 use Rattle.std.proofs.lemmas.List.{length-append}
 use Rattle.ckc_text.specs.declared.place.Span.{Span}
-use Rattle.ckc_text.specs.declared.code.Code.TheVariants.{E08, E13}
+use Rattle.ckc_text.specs.declared.code.Code.TheVariants.{E08, E13, E21}
 use Rattle.ckc_tree.specs.Types.{TypeTree}
 use Rattle.ckc_tree.specs.Statements as s
 use Rattle.ckc_tree.specs.Statements.{Initializer, Declarator, Declaration, Assignment, assignment_span, ForInitial}
@@ -14,7 +14,8 @@ use Rattle.pointer_modes.specs.declared.ctype.Mode.{Mode}
 use Rattle.pointer_modes.specs.declared.ctype.Kind.{Kind}
 use Rattle.pointer_modes.specs.declared.ctype.Mode.TheVariants as modes
 use Rattle.pointer_modes.specs.Types.{CType, Int, Char, Struct, Pointer, Structure}
-use Rattle.bounds_flow.specs.Flows.{Knowledge}
+use Rattle.bounds_flow.specs.Flows.{Knowledge, in_bundle}
+use Rattle.bounds_flow.specs.Conditions.{IsFlow}
 use Rattle.bounds_flow_meaning.specs.Holding.{Fits, IsValid, target_size, types_of}
 use Rattle.bounds_flow_meaning.specs.Laws.{MayDeclare}
 use Rattle.bounds_flow_meaning.proofs.AllSteps.{flows_hold}
@@ -27,9 +28,9 @@ use Rattle.ckc_core.specs.Steps.{Result, Flow, Next, Broke, Continued, Returned,
 use Rattle.ckc_core.specs.Meaning.{Knot, Setting, effect, effects, knot, value}
 use Rattle.region_typing_rules.specs.Scopes.{Scope}
 use Rattle.region_typing_rules.specs.Types.{is_scalar, base_type, Counts, may_lead_to}
-use Rattle.region_typing_rules.specs.Expressions.{Places, site_at}
+use Rattle.region_typing_rules.specs.Operands.{Places, site_at}
 use Rattle.region_typing_rules.specs.Knowing.{assigned_by, settling, knowing}
-use Rattle.region_typing_rules.specs.Statements.{Walked, both, assignment, assigning, zero_value, with_local, initialised, first_value, declared, bounded_local, declarator, declarators, declaration, optional_step, first_part, row_type, with_array, first_length, array_kind, before_end}
+use Rattle.region_typing_rules.specs.Statements.{Walked, both, assignment, assigning, assignments, are_locals, bundle, zero_value, with_local, initialised, first_value, declared, bounded_local, declarator, declarators, declaration, optional_step, first_part, row_type, with_array, first_length, array_kind, before_end, target_of}
 use Rattle.region_typing_rules.specs.DeclaredBounds.{declared_bounds, row_of}
 use Rattle.region_typing_rules.specs.DeclaredFormed.{IsFormedIf}
 use Rattle.region_typing_rules.specs.KnownIsSo.{WhereGiven, HoldsAlike, FitsAlike, IsKnown, IsDeclared, HasLocals}
@@ -39,7 +40,7 @@ use Rattle.region_typing_rules.proofs.Terms.{formed_later, so_both}
 use Rattle.region_typing_rules.proofs.Verdicts.{Promises, passing_promises, needs_promises, both_promise, later_promises, Extends, extends_append, extends_last, extends_length}
 use Rattle.region_typing_rules.proofs.Moving.{IsMovedTo, KnotMoves, effect_moves, knots_move}
 use Rattle.region_typing_rules.proofs.Alike.{fits_moved, has_alike}
-use Rattle.region_typing_rules.proofs.Between.{MayStand, IsAmid, IsSettling, assigned_amid, settling_promises, settled_beside, between_settled}
+use Rattle.region_typing_rules.proofs.Between.{MayStand, IsAmid, IsSettling, amid_bundle, amid_here, assigned_amid, assigned_bundled, stands_pointing, settling_promises, settled_beside, between_settled}
 use Rattle.region_typing_rules.proofs.Assigns.{OnNext, IsBehind, IsGivenTo, IsPlain, IsRight, AreMoving, itself_equal, plain_so, set_again}
 use Rattle.region_typing_rules.proofs.CountedTexts.{IsRightLength}
 use Rattle.region_typing_rules.proofs.RightNodes.{counted_text}
@@ -48,22 +49,23 @@ use Rattle.region_typing_rules.specs.Typed as typed
 use Rattle.ckc_core.specs.declared.program.Terminator.TheVariants as terminators
 use Rattle.bounds_exprs.specs.Normal.{constant}
 use Rattle.std.proofs.lemmas.Option.{same_Some}
-use Rattle.region_typing_rules.specs.Typed.{Frame, HasType, IsScalar, IsSimple}
+use Rattle.region_typing_rules.specs.Typed.{Frame, HasType, IsScalar, IsSimple, AreStatements}
 use Rattle.region_typing_rules.proofs.Known.{IsKnown as IsKnownType, base_known, without_known}
-use Rattle.region_typing_rules.proofs.Knowledge.{IsPointing, KnowsFile, Knows}
+use Rattle.region_typing_rules.proofs.Knowledge.{KnowsFile, Knows}
+use Rattle.region_typing_rules.proofs.Pointings.{simple_pointing}
 use Rattle.region_typing_rules.proofs.Growth.{Grows, GrowsTo, declarator_grows, file_known, local_closed, closed_arrays}
 use Rattle.region_typing_rules.proofs.Statements.{IsAny, simple_any, zero_typed, assignment_promises, initialised_promises, both_typed, knows_from}
 use Rattle.region_typing_rules.proofs.Goes.{IsNext, IsKept, Runs, IsKnot, has_locals, runs_further, runs_both, runs_then}
 use Rattle.region_typing_rules.proofs.Soundness.{simple_runs, behind_so, given_to_so}
 use Rattle.std.specs.List.{AllByRecursion}
 use Rattle.ckc_core.specs.States.{shapes}
-use Rattle.region_typing_rules.proofs.Marks.{IsAssignment, IsFirst, target_of, assignment_plain, initialised_plain}
+use Rattle.region_typing_rules.proofs.Marks.{IsAssignment, IsFirst, assignment_plain, initialised_plain}
 use Rattle.region_typing_rules.proofs.Ways.{IsWalk, Declares, MayCome, declares_here, declares_knowing, declares_local, declares_on, fits_further, walk_knowing, walk_local, walk_arrays, declares_arrays}
 use Rattle.region_typing_rules.proofs.LocalArrays.{memory_of, settled_array, declarator_promises}
 use Rattle.region_typing_rules.proofs.Nodes.{number_sized}
 use Rattle.region_typing_rules.proofs.Expressions.{memory_typed, ended_memory_typed}
 use Rattle.region_typing_rules.proofs.Memory.{MayConsist}
-use Rattle.region_typing_rules.proofs.InForce.{AreSo}
+use Rattle.region_typing_rules.proofs.InForce.{AreSo, IsPointing}
 use Rattle.ckc_core.specs.declared.program.Site.{Site}
 use Rattle.region_typing_rules.specs.Cells.{is_length}
 use Rattle.region_typing_rules.specs.Verdicts.{Passes, passing}
@@ -132,35 +134,48 @@ module _ (frame : Frame) (types : List CType) (all_scalar : AllByRecursion IsSca
 
   -- ---- simple statements
 
+  -- the flow in which a statement stands, between statements or in a bundle: it speaks of each local, and bounds in force are such as may stand at nodes
+  record HasFlow (g : Scope) : Type 0 where
+    flow : IsFlow g.flow
+    few : length g.locals ≤ g.flow.vars
+    pointers : AreSo (IsPointing g.locals) g.flow
+
+  walk_flow : (g : Scope) → IsWalk vars g → HasFlow g
+  walk_flow g w = record {
+    flow = w.between.flow;
+    few = few_vars g w;
+    pointers = λ k. record { bounds = λ b e. stands_pointing g.structs g.locals k b ((w.between.bounds k).bounds b e); declared = λ b e. stands_pointing g.structs g.locals k b ((w.between.bounds k).declared b e) };
+  }
+
   -- what is assigned to a pointer is so many elements behind a local, where the walk says so
-  are_moving : (n low : ℕ) (knots : Knots n) (g : Scope) (w : IsWalk vars g) (reaches : Reaching g) (few : length g.locals ≤ g.flow.vars) {x : core.Statement} → IsSimple frame types g x → (s : State) → IsAt n low g s → AreMoving true running (ticking n) (moving n) frame.structs g.structs g.locals g.flow w.between.flow few x s
-  are_moving n low knots g w reaches few typed.nothing s at = tt
-  are_moving n low knots g w reaches few (typed.set_local {k = x} {t = t} {e = e} found h) s at = λ c is.
+  are_moving : (n low : ℕ) (knots : Knots n) (g : Scope) (f : HasFlow g) (reaches : Reaching g) {x : core.Statement} → IsSimple frame types g x → (s : State) → IsAt n low g s → AreMoving true running (ticking n) (moving n) frame.structs g.structs g.locals g.flow f.flow f.few x s
+  are_moving n low knots g f reaches typed.nothing s at = tt
+  are_moving n low knots g f reaches (typed.set_local {k = x} {t = t} {e = e} found h) s at = λ c is.
       so_both (IsBehind frame.structs g.locals e) (IsGivenTo frame.structs (length g.locals) c e) (value true running (ticking n) e s)
-      (behind_so frame budget n sandbox trusted (ticking n) (knots n (omega arith)) low types g w.between.flow (few_vars g w) reaches h s (at.known, at.kept))
-      (given_to_so frame budget n sandbox trusted (ticking n) (knots n (omega arith)) low types g w.between.flow (few_vars g w) reaches c (subst (HasType frame types g e) (same_type t c (sym found ∙ reaches x c is)) h) s (at.known, at.kept))
+      (behind_so frame budget n sandbox trusted (ticking n) (knots n (omega arith)) low types g f.flow f.few reaches h s (at.known, at.kept))
+      (given_to_so frame budget n sandbox trusted (ticking n) (knots n (omega arith)) low types g f.flow f.few reaches c (subst (HasType frame types g e) (same_type t c (sym found ∙ reaches x c is)) h) s (at.known, at.kept))
     where
       same_type : (a b : CType) → Some a ≡ Some b → a ≡ b
       same_type a b q = cc
-  are_moving n low knots g w reaches few (typed.store scalar place h) s at = tt
-  are_moving n low knots g w reaches few (typed.store_bounded counts is h asked) s at = tt
-  are_moving n low knots g w reaches few (typed.update_local found number char h) s at = tt
-  are_moving n low knots g w reaches few (typed.update number place h) s at = tt
-  are_moving n low knots g w reaches few (typed.evaluate h) s at = tt
-  are_moving n low knots g w reaches few (typed.call_alone known h asked) s at = tt
-  are_moving n low knots g w reaches few (typed.print h) s at = tt
-  are_moving n low knots g w reaches few (typed.put_byte h) s at = tt
+  are_moving n low knots g f reaches (typed.store scalar place h) s at = tt
+  are_moving n low knots g f reaches (typed.store_bounded counts is h asked) s at = tt
+  are_moving n low knots g f reaches (typed.update_local found number char h) s at = tt
+  are_moving n low knots g f reaches (typed.update number place h) s at = tt
+  are_moving n low knots g f reaches (typed.evaluate h) s at = tt
+  are_moving n low knots g f reaches (typed.call_alone known h asked) s at = tt
+  are_moving n low knots g f reaches (typed.print h) s at = tt
+  are_moving n low knots g f reaches (typed.put_byte h) s at = tt
 
   -- a count is of a local with right bounds at its node, where the walk says so
-  length_right : (g : Scope) → IsWalk vars g → (e : core.Expression) {t : CType} → HasType frame types g e t → IsNotedLength g e → IsRightLength g.structs g.locals g.flow e
-  length_right g w (core.Length (core.Local k b) site) h noted = λ p e.
+  length_right : (g : Scope) → HasFlow g → (e : core.Expression) {t : CType} → HasType frame types g e t → IsNotedLength g e → IsRightLength g.structs g.locals g.flow e
+  length_right g f (core.Length (core.Local k b) site) h noted = λ p e.
       let text = counted_text frame types h k b site refl in
-      record { mode = text.mode; pointer = text.pointer; size = text.size p e; same = noted p e; stands = λ d is. ((w.between.bounds k).bounds d is).0 }
-  length_right g w e h noted = tt
+      record { mode = text.mode; pointer = text.pointer; size = text.size p e; same = noted p e; named = λ d is. ((f.pointers k).bounds d is).named }
+  length_right g f e h noted = tt
 
-  right_of : (g : Scope) → IsWalk vars g → {x : core.Statement} → IsSimple frame types g x → IsNotedStatement g x → IsRight g.structs g.locals g.flow x
-  right_of g w (typed.set_local {e = e} found h) noted = length_right g w e h noted
-  right_of g w simple noted = tt
+  right_of : (g : Scope) → HasFlow g → {x : core.Statement} → IsSimple frame types g x → IsNotedStatement g x → IsRight g.structs g.locals g.flow x
+  right_of g f (typed.set_local {e = e} found h) noted = length_right g f e h noted
+  right_of g f simple noted = tt
 
   zero_right : (known : List Structure) (ts : List CType) (f : Knowledge) (t : CType) → IsRightLength known ts f (zero_value t)
   zero_right known ts f Int = tt
@@ -169,19 +184,19 @@ module _ (frame : Frame) (types : List CType) (all_scalar : AllByRecursion IsSca
   zero_right known ts f (Pointer mode kind target) = tt
 
   -- a simple statement, and what is known in the midst of it
-  simple_goes : (g : Scope) → IsWalk vars g → (x : core.Statement) → IsPlain g.locals x → IsNotedStatement g x → Reaching g → IsSimple frame types g x → (n : ℕ) → Knots n → (low : ℕ) (s : State) → IsAt n low g s
+  simple_goes : (g : Scope) → HasFlow g → (x : core.Statement) → IsPlain g.locals x → IsNotedStatement g x → Reaching g → IsSimple frame types g x → (n : ℕ) → Knots n → (low : ℕ) (s : State) → IsAt n low g s
       → Runs frame budget n low types (Onward (HoldsAlike frame.structs (length g.locals) (assigned_by g.locals x g.flow))) (effect true running (ticking n) x s)
-  simple_goes g w x plain noted reaches simple n knots low s at =
+  simple_goes g f x plain noted reaches simple n knots low s at =
       runs_further frame budget n low types (λ flow t. IsNext flow t × OnNext (HoldsAlike frame.structs (length g.locals) (assigned_by g.locals x g.flow)) flow t) (Onward (HoldsAlike frame.structs (length g.locals) (assigned_by g.locals x g.flow))) (effect true running (ticking n) x s)
       (runs_both frame budget n low types IsNext (OnNext (HoldsAlike frame.structs (length g.locals) (assigned_by g.locals x g.flow))) (effect true running (ticking n) x s)
-      (simple_runs frame budget n sandbox trusted (ticking n) (knots n (omega arith)) low types g w.between.flow (few_vars g w) reaches simple s (at.known, at.kept))
-      (plain_so true running (ticking n) (moving n) frame.structs g.structs g.locals g.flow w.between.flow (few_vars g w) x plain (right_of g w simple noted) s (are_moving n low knots g w reaches (few_vars g w) simple s at) (has_of n low g s reaches at.kept) (λ t alike. (at.known t alike).holds)))
+      (simple_runs frame budget n sandbox trusted (ticking n) (knots n (omega arith)) low types g f.flow f.few reaches simple s (at.known, at.kept))
+      (plain_so true running (ticking n) (moving n) frame.structs g.structs g.locals g.flow f.flow f.few x plain (right_of g f simple noted) s (are_moving n low knots g f reaches simple s at) (has_of n low g s reaches at.kept) (λ t alike. (at.known t alike).holds)))
       (onward_of (HoldsAlike frame.structs (length g.locals) (assigned_by g.locals x g.flow)))
 
   -- and once it is settled
   assigned_goes : (g : Scope) → IsWalk vars g → (x : core.Statement) → IsPlain g.locals x → IsNotedStatement g x → (Reaching g → IsSimple frame types g x) → (k : Knowledge) → IsSettling (assigned_by g.locals x g.flow) k → GoesOn g (x, knowing k g)
   assigned_goes g w x plain noted simple k is =
-      let amid = assigned_amid vars g.locals g.flow x w.between (few_vars g w) in
+      let amid = assigned_amid g.locals g.flow g.flow x (amid_here vars g.flow w.between) (few_vars g w) in
       let beside = settled_beside g.flow (assigned_by g.locals x g.flow) k amid is in
       record {
         walk = walk_knowing vars k g (between_settled vars g.flow (assigned_by g.locals x g.flow) k w.between amid is) beside w;
@@ -192,21 +207,13 @@ module _ (frame : Frame) (types : List CType) (all_scalar : AllByRecursion IsSca
         typed = λ reaches. simple_any frame types all_scalar g x (simple reaches);
         runs = λ reaches n knots low s at.
             runs_further frame budget n low types (Onward (HoldsAlike frame.structs (length g.locals) (assigned_by g.locals x g.flow))) (Onward (IsKnown frame.structs (knowing k g))) (effect true running (ticking n) x s)
-            (simple_goes g w x plain noted reaches (simple reaches) n knots low s at)
+            (simple_goes g (walk_flow g w) x plain noted reaches (simple reaches) n knots low s at)
             (λ flow t q. (q.0, settled_fits (length g.locals) g.flow (assigned_by g.locals x g.flow) k t amid is q.1));
       }
 
-  -- a pointer with bounds has elements, and its bounds are limited
-  stands_known : (g : Scope) (k : ℕ) (b : Bounds) → MayStand g.structs g.locals k b → IsPointing g k b
-  stands_known g k b it =
-      record { mode = it.0.mode; kind = it.0.kind; counts = it.0.counts; element = it.0.element; own = it.0.own; some = it.0.some; limited = it.1; ints = it.0.ints; base = it.0.base }
-
-  pointers_known : (g : Scope) → IsWalk vars g → AreSo (IsPointing g) g.flow
-  pointers_known g w k = let so = w.between.bounds k in record { bounds = λ b e. stands_known g k b (so.bounds b e); declared = λ b e. stands_known g k b (so.declared b e) }
-
   -- what is known of the file where a walk stands
   pub knows_here : (g : Scope) → IsWalk vars g → KnowsFile frame g → Reaching g → Knows frame types g
-  knows_here g w file reaches = knows_from frame types all_scalar g file w.between.flow (pointers_known g w) (few_vars g w) w.result reaches
+  knows_here g w file reaches = (let f = walk_flow g w in knows_from frame types all_scalar g file f.flow f.pointers f.few w.result reaches)
 
   IsAssigned : Scope → Assignment → core.Statement → Type 0
   IsAssigned g a x = IsAssignment g (target_of a) x × (Reaching g → IsSimple frame types g x)
@@ -236,6 +243,85 @@ module _ (frame : Frame) (types : List CType) (all_scalar : AllByRecursion IsSca
       (λ flow t k kept. next_runs n low P Q (effects true running (ticking n) (core.Then y core.NoMore)) flow t k
       (λ p. runs_then frame budget n low types (Onward Q) (Onward Q) (effect true running (ticking n) y t) (on_next (effects true running (ticking n) core.NoMore)) (more t kept p)
       (λ flow' u q u_kept. next_runs n low Q Q (effects true running (ticking n) core.NoMore) flow' u q (λ k. ((refl, k), u_kept)))))
+
+  -- ---- bundles
+
+  -- a flow in a bundle, of the scope before it: declared bounds are the same, and those in force are such as may stand at nodes
+  record IsInside (g : Scope) (f : Knowledge) : Type 0 where
+    amid : IsAmid g.structs g.locals g.flow f
+    bundled : f.bundled ≡ true
+    pointers : Reaching g → AreSo (IsPointing g.locals) f
+
+  -- assignments that a walk goes through in a bundle
+  record Assigns (g : Scope) (f : Knowledge) (w : core.Statements × Knowledge) : Type 0 where
+    inside : IsInside g w.1
+    typed : Reaching g → (result : Option CType) (bounds : Option Bounds) (loop : Bool) → AreStatements frame types result bounds loop w.0
+    runs : Reaching g → (n : ℕ) → Knots n → (low : ℕ) (s : State) → IsKept frame budget n low types s → HoldsAlike frame.structs (length g.locals) f s
+        → Runs frame budget n low types (Onward (HoldsAlike frame.structs (length g.locals) w.1)) (effects true running (ticking n) w.0 s)
+
+  begins_inside : (g : Scope) → IsWalk vars g → IsInside g (in_bundle g.flow)
+  begins_inside g w = record { amid = amid_bundle g.flow g.flow (amid_here vars g.flow w.between); bundled = refl; pointers = λ reaches. (walk_flow g w).pointers }
+
+  file_inside : (f : Knowledge) (g : Scope) → KnowsFile frame g → KnowsFile frame (knowing f g)
+  file_inside f g file =
+      record { structs = file.structs; closed = file.closed; few_members = file.few_members; scalar_members = file.scalar_members; variables = file.variables; texts = file.texts; trusted = file.trusted; tainted = file.tainted }
+
+  inside_flow : (g : Scope) → IsWalk vars g → (f : Knowledge) → IsInside g f → Reaching g → HasFlow (knowing f g)
+  inside_flow g w f inside reaches = record { flow = inside.amid.flow; few = subst (λ n. length g.locals ≤ n) (sym inside.amid.beside.vars) (few_vars g w); pointers = inside.pointers reaches }
+
+  -- in a bundle nothing more is known than what holds
+  known_inside_bundle : (g : Scope) (f : Knowledge) (s : State) → IsInside g f → HoldsAlike frame.structs (length g.locals) f s → IsKnown frame.structs (knowing f g) s
+  known_inside_bundle g f s inside h t alike = record { holds = h t alike; settled = λ apart. absurd (never apart); declared = λ apart. absurd (never apart) }
+    where
+      never : f.bundled ≡ false → ⊥
+      never apart = let both : true ≡ false = sym inside.bundled ∙ apart in cc
+
+  assignments_go : (at : Places) (g : Scope) → IsWalk vars g → KnowsFile frame g → (f : Knowledge) → IsInside g f → (written : List Assignment) → Promises (Assigns g f) (assignments at (knowing f g) written)
+  assignments_go at g w file f inside [] = record { inside = inside; typed = λ reaches result bounds loop. typed.no_more; runs = λ reaches n knots low s kept h. ((refl, h), kept) }
+  assignments_go at g w file f inside (a ∷ written) =
+      let here = knowing f g in
+      let few : length g.locals ≤ f.vars = subst (λ n. length g.locals ≤ n) (sym inside.amid.beside.vars) (few_vars g w) in
+      passing_promises (λ (x : core.Statement). (IsAssignment here (target_of a) x × IsNotedStatement here x) × (Reaching g → IsSimple frame types here x)) (Assigns g f) (assignment at here a) _
+      (both_promise (λ (x : core.Statement). IsAssignment here (target_of a) x × IsNotedStatement here x) (λ (x : core.Statement). Reaching g → IsSimple frame types here x) (assignment at here a)
+      (both_promise (IsAssignment here (target_of a)) (IsNotedStatement here) (assignment at here a) (assignment_plain at here a) (assignment_noted at here a))
+      (later_promises (Reaching g) (IsSimple frame types here) (assignment at here a)
+      (λ reaches. assignment_promises frame types all_scalar at here (let h = inside_flow g w f inside reaches in knows_from frame types all_scalar here (file_inside f g file) h.flow h.pointers h.few w.result reaches) a)))
+      (λ x h.
+      let next = assigned_by g.locals x f in
+      let further : IsInside g next = record {
+        amid = assigned_amid g.locals g.flow f x inside.amid few;
+        bundled = assigned_bundled g.locals x f ∙ inside.bundled;
+        pointers = λ reaches. simple_pointing frame types here (h.1 reaches) (inside.pointers reaches);
+      } in
+      passing_promises (Assigns g next) (Assigns g f) (assignments at (knowing next g) written) _ (assignments_go at g w file next further written)
+      (λ rest r. record {
+        inside = r.inside;
+        typed = λ reaches result bounds loop. typed.then_more (simple_any frame types all_scalar here x (h.1 reaches) result bounds loop) (r.typed reaches result bounds loop);
+        runs = λ reaches n knots low s kept k.
+            runs_then frame budget n low types (Onward (HoldsAlike frame.structs (length g.locals) next)) (Onward (HoldsAlike frame.structs (length g.locals) rest.1)) (effect true running (ticking n) x s) (on_next (effects true running (ticking n) rest.0))
+            (simple_goes here (inside_flow g w f inside reaches) x h.0.0.plain h.0.1 reaches (h.1 reaches) n knots low s (record { kept = kept; known = known_inside_bundle g f s inside k }))
+            (λ flow t q t_kept. next_runs n low (HoldsAlike frame.structs (length g.locals) next) (HoldsAlike frame.structs (length g.locals) rest.1) (effects true running (ticking n) rest.0) flow t q (λ p. r.runs reaches n knots low t t_kept p));
+      }))
+
+  pub bundle_goes : (at : Places) (g : Scope) → IsWalk vars g → KnowsFile frame g → (written : List Assignment) (span : Span) → Promises (GoesOn g) (bundle at g written span)
+  bundle_goes at g w file written span =
+      passing_promises (Assigns g (in_bundle g.flow)) (GoesOn g) (assignments at (knowing (in_bundle g.flow) g) written) _ (assignments_go at g w file (in_bundle g.flow) (begins_inside g w) written)
+      (λ x h. needs_promises (GoesOn g) (are_locals g.visible written) E21 span _
+      (λ locals. passing_promises (IsSettling x.1) (GoesOn g) (settling x.1 span) _ (settling_promises x.1 span)
+      (λ k is.
+      let beside = settled_beside g.flow x.1 k h.inside.amid is in
+      record {
+        walk = walk_knowing vars k g (between_settled vars g.flow x.1 k w.between h.inside.amid is) beside w;
+        breaks = refl;
+        continues = refl;
+        more = λ k x e. e;
+        keeps = declares_knowing k g beside;
+        typed = λ reaches result bounds loop. typed.block (h.typed reaches result bounds loop);
+        runs = λ reaches n knots low s at.
+            runs_further frame budget n low types (Onward (HoldsAlike frame.structs (length g.locals) x.1)) (Onward (IsKnown frame.structs (knowing k g))) (effects true running (ticking n) x.0 s)
+            (h.runs reaches n knots low s at.kept (λ t alike. ((flows_hold frame.structs g.flow w.between.flow).bundle t (at.known t alike)).holds))
+            (λ flow t q. (q.0, settled_fits (length g.locals) g.flow x.1 k t h.inside.amid is q.1));
+      })))
 
   -- ---- locals
 
@@ -365,7 +451,7 @@ module _ (frame : Frame) (types : List CType) (all_scalar : AllByRecursion IsSca
     set_again_so n knots low u reaches z at =
         subst (WhereGiven (OnNext (HoldsAlike frame.structs (length within.locals) (assigned_by within.locals zero within.flow)))) (zero_again (length g.locals) t n u scalar z)
         (plain_so true running (ticking n) (moving n) frame.structs within.structs within.locals within.flow inside.between.flow (few_vars within inside) zero zero_plain (zero_right within.structs within.locals within.flow t) u
-        (are_moving n low knots within inside reaches (few_vars within inside) (zero_in within reaches) u at) (has_of n low within u reaches at.kept) (λ z alike. (at.known z alike).holds))
+        (are_moving n low knots within (walk_flow within inside) reaches (zero_in within reaches) u at) (has_of n low within u reaches at.kept) (λ z alike. (at.known z alike).holds))
 
     -- the local is set to zero or null
     zero_goes : Reaching within → (n : ℕ) → Knots n → (low : ℕ) (s : State) → IsAt n low g s → Runs frame budget n low types (Onward IsEntered) (effect true running (ticking n) zero s)
@@ -385,7 +471,7 @@ module _ (frame : Frame) (types : List CType) (all_scalar : AllByRecursion IsSca
         → Runs frame budget n low types (Onward (HoldsAlike frame.structs (length within.locals) (assigned_by within.locals initial within.flow))) (effect true running (ticking n) (both zero initial) s)
     assigned_runs initial plain noted reaches simple n knots low s at =
         both_runs n low IsEntered (λ u. HoldsAlike frame.structs (length within.locals) (assigned_by within.locals initial within.flow) u) zero initial s (zero_goes reaches n knots low s at)
-        (λ u kept entered. simple_goes within inside initial plain noted reaches simple n knots low u (record { kept = kept; known = entered.0 }))
+        (λ u kept entered. simple_goes within (walk_flow within inside) initial plain noted reaches simple n knots low u (record { kept = kept; known = entered.0 }))
 
     -- the assignment that a declaration is, and what is left to do behind the zero
     declared_runs : (o : Option Initializer) (initial : core.Statement) → IsFirst within.locals (length g.locals) o initial → IsNotedStatement within initial → (reaches : Reaching within) → IsSimple frame types within initial → (n : ℕ) → Knots n → (low : ℕ) (s : State) → IsAt n low g s
@@ -404,7 +490,7 @@ module _ (frame : Frame) (types : List CType) (all_scalar : AllByRecursion IsSca
         → Promises (GoesOn g) (passing (settling (assigned_by within.locals value within.flow) span) (λ k. Passes (both zero initial, knowing k within)))
     value_goes value initial span simple run =
         let mid = assigned_by within.locals value within.flow in
-        let amid = assigned_amid vars within.locals within.flow value inside.between (few_vars within inside) in
+        let amid = assigned_amid within.locals within.flow within.flow value (amid_here vars within.flow inside.between) (few_vars within inside) in
         passing_promises (IsSettling mid) (GoesOn g) (settling mid span) _ (settling_promises mid span)
         (λ k is.
         let beside = settled_beside within.flow mid k amid is in
@@ -483,13 +569,13 @@ module _ (frame : Frame) (types : List CType) (all_scalar : AllByRecursion IsSca
       formed = record { mode = modes.Checked; kind = array_kind ended; counts = array_counts ended; element = t; own = extends_last g.locals (row_type ended t); some = some; ints = record { lo = tt; hi = tt }; base = λ q e. absurd (cc) }
 
   -- all but the last one stand before the zero that ends it
-  last_before : (locals : List CType) (count : ℕ) → is_length (Some count) ≡ true → typed.IsBeforeZero locals terminators.Last (core.Number (pos count)) (constant (pos (before_end true count)))
+  last_before : (locals : List CType) (count : ℕ) → is_length (Some count) ≡ true → typed.IsCountBeforeZero locals terminators.Last (core.Number (pos count)) (constant (pos (before_end true count)))
   last_before locals count counted =
       let both = and_parts (nat_lt 0 count) (nat_le count 8192) counted in
       let some = ltb-true 0 count both.0 in
       let few = leb-true count 8192 both.1 in
       let one : suc (count - 1) ≡ count = omega (arith, some) in
-      subst (λ k. typed.IsBeforeZero locals terminators.Last (core.Number (pos k)) (constant (pos (count - 1)))) one (typed.all_but_last (omega (arith, few, some)))
+      subst (λ k. typed.IsCountBeforeZero locals terminators.Last (core.Number (pos k)) (constant (pos (count - 1)))) one (typed.all_but_last (omega (arith, few, some)))
 
   consists : (structs : List Structure) (ended : Bool) (t : CType) → MayConsist structs ended t → 0 < size_of structs t
   consists structs false t may = ltb-true 0 (size_of structs t) may
@@ -508,7 +594,7 @@ module _ (frame : Frame) (types : List CType) (all_scalar : AllByRecursion IsSca
   array_made within knows false t count site counted may = memory_typed frame types within knows t (core.Number (pos count)) site (typed.word (length_word count counted)) may
   array_made within knows true t count site counted may =
       ended_memory_typed frame types within knows t (core.Number (pos count)) terminators.Last refl (Some (constant (pos (before_end true count))))
-      (λ n e. subst (typed.IsBeforeZero within.locals terminators.Last (core.Number (pos count))) (same_Some (constant (pos (before_end true count))) n e) (last_before within.locals count counted))
+      (λ n e. subst (typed.IsCountBeforeZero within.locals terminators.Last (core.Number (pos count))) (same_Some (constant (pos (before_end true count))) n e) (last_before within.locals count counted))
       site (typed.word (length_word count counted)) may
 
   array_goes : (at : Places) (g : Scope) → IsWalk vars g → KnowsFile frame g → (d : Declarator) (t : CType) (count : ℕ) (ended : Bool) (span : Span) → is_length (Some count) ≡ true → MayConsist g.structs ended t → IsKnownType g.structs t → length (g.locals ++ row_type ended t ∷ []) ≤ vars

@@ -25,7 +25,7 @@ use Rattle.ckc_core.specs.Pointers.{distance, lies_below, lies_up_to, reaches}
 use Rattle.region_typing_rules.specs.Verdicts.{picked}
 use Rattle.region_typing_rules.specs.Readings.{against, based_bounds, constant, from_base, toward, with_base}
 use Rattle.region_typing_rules.specs.Typed as typed
-use Rattle.region_typing_rules.specs.Expressions.{one_element}
+use Rattle.region_typing_rules.specs.Operands.{one_element}
 use Rattle.region_typing_rules.specs.DeclaredBounds.{row_of}
 use Rattle.region_typing_rules.specs.Typed.{AreRows, AreSumBounds, HasValue, IsBoundedBy, IsNodeOf}
 use Rattle.region_typing_rules.proofs.Validity.{place_valid}

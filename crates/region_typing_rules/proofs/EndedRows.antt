@@ -23,7 +23,7 @@ use Rattle.bounds_flow_meaning.specs.Rows.{AreElements, LeadsOn, IsEndedPlace, I
 use Rattle.bounds_flow_meaning.proofs.Validity.{both_true, less_inside, int_from, int_to, null_valid, valid_from, valid_to}
 use Rattle.bounds_flow_meaning.proofs.Widening.{row_number, row_size}
 use Rattle.region_typing_rules.specs.Types.{is_number, Counts}
-use Rattle.region_typing_rules.specs.Expressions.{one_element}
+use Rattle.region_typing_rules.specs.Operands.{one_element}
 use Rattle.region_typing_rules.specs.DeclaredBounds.{row_of}
 use Rattle.region_typing_rules.specs.Typed.{CountsAs, IsEndedRow, HasValue, IsScalar}
 use Rattle.region_typing_rules.proofs.Elements.{below_up_to, one_below, pointing}

@@ -46,7 +46,7 @@ entry_between : (structs : List Structure) (types : List CType) (vars : ℕ) →
 entry_between structs types vars few = record {
   flow = are_kept.entry vars few;
   size = refl;
-  settled = record { marks = λ p. ap (λ h. h.mark) (none_held vars p); assigned = none_assigned vars };
+  settled = record { marks = λ p. ap (λ h. h.mark) (none_held vars p); assigned = none_assigned vars; apart = refl };
   bounds = λ p. subst (IsSoOf (MayStand structs types p)) (sym (none_held vars p)) (record { bounds = λ b e. absurd (cc); declared = λ b e. absurd (cc) });
 }
 

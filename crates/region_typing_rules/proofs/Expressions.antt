@@ -38,8 +38,11 @@ use Rattle.region_typing_rules.specs.Verdicts.{Verdict, Passes, Stops, passing, 
 use Rattle.region_typing_rules.specs.Scopes.{Scope, WrittenBounds, bounds_in, named, function_named}
 use Rattle.region_typing_rules.specs.Types.{type_named, is_number, kind_converts, pointer_converts, converts, Counts}
 use Rattle.region_typing_rules.specs.Readings.{left_told, term}
-use Rattle.region_typing_rules.specs.Expressions.{Places, ForNothing, Typed, Value, AStruct, site_at, bounds_at, noted_if, with_bounds, one_element, bounded, number, name_typed, dotted, arrowed, unary_typed, beside, indexed, called, constant_typed, typed, all_typed, call_typed, call_bounds, with_cell_bounds, in_cell, ended_allocation}
-use Rattle.region_typing_rules.specs.Expressions.{factor_beside, is_size, elements_in, row_counted, allocation, allocation_if, malloc_typed, calloc_typed, casts_to, takes, has_base, base_in, cast_checked, cast_typed, cast_bounds}
+use Rattle.region_typing_rules.specs.Operands.{Places, ForNothing, Typed, Value, AStruct, site_at, bounds_at, noted_if, with_bounds, one_element, bounded, number, name_typed, dotted, arrowed, unary_typed, beside, indexed, with_cell_bounds, in_cell}
+use Rattle.region_typing_rules.specs.Calls.{called, call_bounds}
+use Rattle.region_typing_rules.specs.NewMemory.{ended_allocation}
+use Rattle.region_typing_rules.specs.Expressions.{constant_typed, typed, all_typed, call_typed}
+use Rattle.region_typing_rules.specs.NewMemory.{factor_beside, is_size, elements_in, row_counted, allocation, allocation_if, malloc_typed, calloc_typed, casts_to, takes, has_base, base_in, cast_checked, cast_typed, cast_bounds}
 use Rattle.ckc_core.specs.Steps.{is_char}
 use Rattle.bounds_flow_meaning.specs.Sums.{counted}
 use Rattle.region_typing_rules.specs.Cells.{cells_with}
@@ -49,13 +52,13 @@ use Rattle.region_typing_rules.proofs.DeclaredBounds.{declared_formed, int_below
 use Rattle.region_typing_rules.proofs.NewCells.{AreNewCells, new_cells}
 use Rattle.region_typing_rules.proofs.Terms.{before_formed}
 use Rattle.region_typing_rules.specs.Typed as rules
-use Rattle.region_typing_rules.specs.Typed.{Frame, AreNewBounds, IsBaseOf, IsBeforeZero, HasBounds, HasElements, HasType, CountsAs, IsNewNumber}
+use Rattle.region_typing_rules.specs.Typed.{Frame, AreNewBounds, IsBaseOf, IsCountBeforeZero, HasBounds, HasElements, HasType, CountsAs, IsNewNumber}
 use Rattle.region_typing_rules.proofs.Verdicts.{Promises, passing_promises, needs_promises, anything_promised}
 use Rattle.region_typing_rules.proofs.Known.{IsKnown, size_kept, bounds_kept, type_known, cell_kept}
 use Rattle.region_typing_rules.proofs.KnownTypes.{IsKnownTyped, typed_known}
-use Rattle.region_typing_rules.proofs.InForce.{AreSo, StaysSo, bounds_told}
+use Rattle.region_typing_rules.proofs.InForce.{AreSo, StaysSo, bounds_told, IsPointing}
 use Rattle.bounds_flow.specs.Pointers.{up_to}
-use Rattle.region_typing_rules.proofs.Knowledge.{IsPointing, Knows, StandsFor, name_stands}
+use Rattle.region_typing_rules.proofs.Knowledge.{Knows, StandsFor, name_stands}
 use Rattle.region_typing_rules.proofs.SameTypes.{mode_equal, same_equal}
 use Rattle.region_typing_rules.proofs.Sizes.{size_fits}
 use Rattle.act_words.specs.Checks.{is_word_number}
@@ -97,7 +100,7 @@ module _ (g : Frame) (types : List CType) (s : Scope) where
 
     -- where there is a term, as many elements stand before the zero
     abbrev pub AreBefore : Terminator → core.Expression → Option Term → Type 0
-    AreBefore terminator count o = (n : Term) → o ≡ Some n → IsBeforeZero s.locals terminator count n
+    AreBefore terminator count o = (n : Term) → o ≡ Some n → IsCountBeforeZero s.locals terminator count n
 
     module _ (t : CType) (count : core.Expression) (site : Site) (some : 0 < size_of s.structs t) where
       abbrev made : AreNewCells s.structs g.structs t (cells_with s.structs t (pos 0))
@@ -334,32 +337,29 @@ left_is_told types f few flow binary.And v = told_is types f few v true f (told_
 left_is_told types f few flow operator v = told_here f flow
 
 -- behind the left operand the bounds in force are still those of such pointers
-further_pointing : (s : Scope) (k : ℕ) → StaysSo (IsPointing s k)
-further_pointing s k b d is h = by (is_within term_limit (b.hi.plus +ℤ pos 1)) refl is
+further_pointing : (types : List CType) (k : ℕ) → StaysSo (IsPointing types k)
+further_pointing types k b d is h = by (is_within term_limit (b.hi.plus +ℤ pos 1)) refl is
   where
-    by : (test : Bool) → is_within term_limit (b.hi.plus +ℤ pos 1) ≡ test → up_to b (cond test (Some (record { var = b.hi.var; plus = b.hi.plus +ℤ pos 1 })) None) ≡ Some d → IsPointing s k d
+    by : (test : Bool) → is_within term_limit (b.hi.plus +ℤ pos 1) ≡ test → up_to b (cond test (Some (record { var = b.hi.var; plus = b.hi.plus +ℤ pos 1 })) None) ≡ Some d → IsPointing types k d
     by true e q =
         let same : record b { hi = record { var = b.hi.var; plus = b.hi.plus +ℤ pos 1 } } ≡ d = cc in
-        subst (IsPointing s k) same (record { mode = h.mode; kind = h.kind; counts = h.counts; element = h.element; own = h.own; some = h.some; limited = record { low = h.limited.low; high = e }; ints = record { lo = h.ints.lo; hi = h.ints.hi }; base = h.base })
+        subst (IsPointing types k) same (record { mode = h.mode; kind = h.kind; counts = h.counts; element = h.element; own = h.own; limited = record { low = h.limited.low; high = e }; named = record { ints = record { lo = h.named.ints.lo; hi = h.named.ints.hi }; base = h.named.base } })
     by false e q = absurd (cc)
 
-left_pointing : (s : Scope) → AreSo (IsPointing s) s.flow → (operator : BinaryOperator) (v : core.Expression) → AreSo (IsPointing s) (left_told operator s.locals v s.flow)
-left_pointing s so binary.Or v = bounds_told (IsPointing s) (further_pointing s) s.locals v false s.flow so
-left_pointing s so binary.And v = bounds_told (IsPointing s) (further_pointing s) s.locals v true s.flow so
+left_pointing : (s : Scope) → AreSo (IsPointing s.locals) s.flow → (operator : BinaryOperator) (v : core.Expression) → AreSo (IsPointing s.locals) (left_told operator s.locals v s.flow)
+left_pointing s so binary.Or v = bounds_told (IsPointing s.locals) (further_pointing s.locals) s.locals v false s.flow so
+left_pointing s so binary.And v = bounds_told (IsPointing s.locals) (further_pointing s.locals) s.locals v true s.flow so
 left_pointing s so operator v = so
 
 module _ (g : Frame) (types : List CType) where
-  same_pointing : (s : Scope) (h : Knowledge) (k : ℕ) (b : Bounds) → IsPointing s k b → IsPointing (knowing h s) k b
-  same_pointing s h k b p = record { mode = p.mode; kind = p.kind; counts = p.counts; element = p.element; own = p.own; some = p.some; limited = p.limited; ints = p.ints; base = p.base }
-
   -- what is known with another flow
-  knows_told : (s : Scope) (h : Knowledge) → Knows g types s → AreSo (IsPointing s) h → IsTold s.flow h → Knows g types (knowing h s)
+  knows_told : (s : Scope) (h : Knowledge) → Knows g types s → AreSo (IsPointing s.locals) h → IsTold s.flow h → Knows g types (knowing h s)
   knows_told s h knows so told =
       let file = knows.file in
       record {
         file = record { structs = file.structs; closed = file.closed; few_members = file.few_members; scalar_members = file.scalar_members; variables = file.variables; texts = file.texts; trusted = file.trusted; tainted = file.tainted };
         flow = told.flow;
-        pointers = λ k. record { bounds = λ b e. same_pointing s h k b ((so k).bounds b e); declared = λ b e. same_pointing s h k b ((so k).declared b e) };
+        pointers = so;
         few = subst (λ n. length s.locals ≤ n) (sym told.tested.vars) knows.few;
         result = knows.result;
         locals = knows.locals;

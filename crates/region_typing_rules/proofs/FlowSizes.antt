@@ -4,7 +4,8 @@ use Rattle.std.specs.Prelude.{◌-◌, slice_get, cond}
 use Rattle.ckc_text.specs.declared.place.Span.{Span}
 use Rattle.bounds_exprs.specs.declared.term.Term.{Term}
 use Rattle.act_words.specs.declared.operator.Comparison.{Comparison}
-use Rattle.bounds_flow.specs.Flows.{Knowledge, left, measured_by, number_assigned}
+use Rattle.subsumption.specs.ClosedTables.{joined}
+use Rattle.bounds_flow.specs.Flows.{Knowledge, left, measured_by, met, number_assigned, rejoined, rejoined_held}
 use Rattle.bounds_flow.specs.Settling.{Finding, Meets, WasLost, Falls}
 use Rattle.pointer_modes.specs.Types.{CType, Int, Char, Struct, Pointer}
 use Rattle.ckc_core.specs.declared.program.Direction.TheVariants as directions
@@ -49,6 +50,14 @@ place_told_size : (types : List CType) (p : core.Place) (f : Knowledge) → (pla
 place_told_size types (core.Through pointer (core.Element number true) offset site) f = elements_told_size types pointer number f
 place_told_size types _ f = refl
 
+-- where two ways through one expression meet
+rejoined_size : (before f g : Knowledge) (n : ℕ) → f.vars ≡ n → (rejoined before f g).vars ≡ n
+rejoined_size before f g n h = by before.bundled
+  where
+    by : (inside : Bool) → (cond inside (record f { facts = joined f.vars f.facts g.facts; held = rejoined_held before.held f.held g.held }) (met f g)).vars ≡ n
+    by true = h
+    by false = h
+
 -- behind a condition
 pub told_size : (types : List CType) (c : core.Expression) (truth : Bool) (f : Knowledge) → (told types c truth f).vars ≡ f.vars
 told_size types (core.Number number) truth f = refl
@@ -64,8 +73,8 @@ told_size types (core.Arithmetic operator left right site) truth f = refl
 told_size types (core.Compare comparison left right) truth f = compared_size comparison (term types left) (term types right) truth f
 told_size types (core.Same left right) truth f = same_told_size types left right truth f
 told_size types (core.AndAlso left right) true f = told_size types right true (told types left true f) ∙ told_size types left true f
-told_size types (core.AndAlso left right) false f = told_size types left false f
-told_size types (core.OrElse left right) true f = told_size types left true f
+told_size types (core.AndAlso left right) false f = rejoined_size f (told types left false f) (told types right false (told types left true f)) f.vars (told_size types left false f)
+told_size types (core.OrElse left right) true f = rejoined_size f (told types left true f) (told types right true (told types left false f)) f.vars (told_size types left true f)
 told_size types (core.OrElse left right) false f = told_size types right false (told types left false f) ∙ told_size types left false f
 told_size types (core.LowByte operand) truth f = refl
 told_size types (core.Call callee arguments bounds) truth f = refl

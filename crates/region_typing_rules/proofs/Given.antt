@@ -23,9 +23,9 @@ use Rattle.bounds_flow_meaning.proofs.Sums.{variables_are_bases}
 use Rattle.bounds_flow_meaning.proofs.Validity.{alike_here as local_alike, carried, grown_valid, grows_here, stay_ends}
 use Rattle.region_typing_rules.specs.Verdicts.{picked}
 use Rattle.region_typing_rules.specs.Readings.{based_bounds, from_base, own_bounds}
-use Rattle.region_typing_rules.specs.Expressions.{bounds_at, one_element}
+use Rattle.region_typing_rules.specs.Operands.{bounds_at, one_element}
 use Rattle.region_typing_rules.specs.KnownIsSo.{HasLocals, IsAlike, IsDeclared}
-use Rattle.region_typing_rules.specs.Typed.{HasBounds, HasValue, IsBoundedBy}
+use Rattle.region_typing_rules.specs.Typed.{AreNamed, HasBounds, HasValue, IsBoundedBy}
 use Rattle.region_typing_rules.proofs.Keeping.{IsAfter}
 use Rattle.region_typing_rules.proofs.Elements.{one_valid, pointing}
 
@@ -171,8 +171,8 @@ module _ (structs declared : List Structure) (types : List CType) (u v : State) 
   same_base (Some q) h block byte = let it = h q refl in rw (same_local q (Pointer it.0 it.1 it.2) it.3 (λ q. absurd (cc))) refl
 
   -- such bounds have their ends where they had them
-  pub ends_alike : (size : ℕ) (ended : Bool) (p : ℕ) (b : Bounds) → IsDeclared declared types p b → (site : Site) (block byte : ℕ) (e : Ends) → ends_at (at_node b size ended site) u.locals block byte ≡ Some e → ends_at (at_node b size ended site) v.locals block byte ≡ Some e
-  ends_alike size ended p b d = stay_ends size b b u.locals v.locals (same_base b.base (λ q e. let it = d.base q e in (d.mode, it.0, d.element, it.1))) (same_term b.lo d.ints.lo) (same_term b.hi d.ints.hi)
+  pub ends_alike : (size : ℕ) (ended : Bool) (b : Bounds) → AreNamed types b → (site : Site) (block byte : ℕ) (e : Ends) → ends_at (at_node b size ended site) u.locals block byte ≡ Some e → ends_at (at_node b size ended site) v.locals block byte ≡ Some e
+  ends_alike size ended b named = stay_ends size b b u.locals v.locals (same_base b.base named.base) (same_term b.lo named.ints.lo) (same_term b.hi named.ints.hi)
 
   pub valid_alike : (p : ℕ) (b : Bounds) (l : Local) → IsDeclared declared types p b → IsValid structs (Some b) l u → IsValid structs (Some b) l v
   valid_alike p b l d h =

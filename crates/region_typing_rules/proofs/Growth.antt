@@ -5,7 +5,7 @@ use Rattle.std.specs.List.{AllByRecursion}
 use Rattle.std.proofs.lemmas.Bool.{ltb-true}
 use Rattle.std.proofs.lemmas.List.{length-append}
 use Rattle.ckc_text.specs.declared.place.Span.{Span}
-use Rattle.ckc_text.specs.declared.code.Code.TheVariants.{E08, E13, E15, E30}
+use Rattle.ckc_text.specs.declared.code.Code.TheVariants.{E08, E13, E15, E30, E21}
 use Rattle.ckc_tree.specs.Types.{TypeTree, type_span}
 use Rattle.ckc_tree.specs.Statements as s
 use Rattle.ckc_tree.specs.Statements.{Assignment, Declarator, Declaration, ForInitial, Statement, Statements}
@@ -14,14 +14,16 @@ use Rattle.ckc_core.specs.Core as core
 use Rattle.region_typing_rules.specs.Verdicts.{Verdict, Passes, Stops, passing}
 use Rattle.region_typing_rules.specs.Scopes.{Scope, Signature, FileVariable, function_named}
 use Rattle.region_typing_rules.specs.Types.{is_scalar, base_type}
-use Rattle.region_typing_rules.specs.Expressions.{Places, is_import, side_number, call_typed, site_at}
-use Rattle.bounds_flow.specs.Flows.{Knowledge, cut_off}
+use Rattle.region_typing_rules.specs.Operands.{Places, site_at}
+use Rattle.region_typing_rules.specs.Calls.{is_import, side_number}
+use Rattle.region_typing_rules.specs.Expressions.{call_typed}
+use Rattle.bounds_flow.specs.Flows.{Knowledge, cut_off, in_bundle}
 use Rattle.bounds_exprs.specs.declared.term.Bounds.{Bounds}
 use Rattle.region_typing_rules.specs.DeclaredBounds.{declared_bounds, row_of}
 use Rattle.region_typing_rules.specs.Readings.{told}
 use Rattle.region_typing_rules.specs.Knowing.{assigned_by, settling, knowing, when, cut, broken, continued, at_loop}
 use Rattle.region_typing_rules.specs.Cells.{is_length}
-use Rattle.region_typing_rules.specs.Statements.{Walked, both, assignment, assigning, initialised, zero_value, with_local, first_value, declared, bounded_local, declarator, declarators, declaration, behind_block, behind_branch, at_alternative, behind_both, behind_loop, before_step, in_loop, is_unchecked, condition, optional_condition, optional_step, first_part, return, statement, statements, with_array, before_end, row_type, first_length}
+use Rattle.region_typing_rules.specs.Statements.{Walked, both, assignment, assigning, initialised, zero_value, with_local, first_value, declared, bounded_local, declarator, declarators, declaration, behind_block, behind_branch, at_alternative, behind_both, behind_loop, before_step, in_loop, is_unchecked, condition, optional_condition, optional_step, first_part, return, statement, statements, with_array, before_end, row_type, first_length, assignments, bundle, are_locals}
 use Rattle.region_typing_rules.specs.Typed.{Frame, IsScalar}
 use Rattle.region_typing_rules.proofs.Verdicts.{Promises, passing_promises, needs_promises, anything_promised, later_promises, Extends, extends_append}
 use Rattle.region_typing_rules.proofs.Known.{IsKnown, IsClosed, base_known}
@@ -29,6 +31,7 @@ use Rattle.region_typing_rules.proofs.Knowledge.{HoldsTexts, IsTrusted, IsTainte
 use Rattle.region_typing_rules.proofs.FlowSizes.{told_size, assigned_size, settling_size, outside_size, others_size}
 use Rattle.region_typing_rules.proofs.Memory.{may_lead}
 use Rattle.region_typing_rules.proofs.LocalArrays.{memory_of, settled_array, declarator_promises}
+use Rattle.region_typing_rules.proofs.Assigning.{assignments_promise}
 
 -- what stands at file level stays, and so do the result and the loop; locals are added, which are scalars
 pub record Grows (before after : Scope) : Type 0 where
@@ -201,6 +204,12 @@ assigning_grows at g a =
     passing_promises (λ (x : core.Statement). Unit {0}) (GrowsTo {A = core.Statement} g) (assignment at g a) _ (anything_promised (assignment at g a))
     (λ x _. settled_grows g x (assigned_by g.locals x g.flow) (s.assignment_span a) (assigned_size g.locals x g.flow))
 
+bundle_grows : (at : Places) (g : Scope) (written : List s.Assignment) (span : Span) → Promises (GrowsTo {A = core.Statement} g) (bundle at g written span)
+bundle_grows at g written span =
+    passing_promises (λ (w : core.Statements × Knowledge). w.1.vars ≡ g.flow.vars) (GrowsTo {A = core.Statement} g) (assignments at (knowing (in_bundle g.flow) g) written) _
+    (assignments_promise (λ f a x. Unit {0}) (λ f written w. w.1.vars ≡ f.vars) at g (λ f a. anything_promised (assignment at (knowing f g) a)) (λ f. refl) (λ f a written x rest q p. p ∙ assigned_size g.locals x f) (in_bundle g.flow) written)
+    (λ w e. needs_promises (GrowsTo {A = core.Statement} g) (are_locals g.visible written) E21 span _ (λ locals. settled_grows g (core.Block w.0) w.1 span e))
+
 pub optional_grows : (at : Places) (g : Scope) (step : Option Assignment) → Promises (GrowsTo {A = core.Statement} g) (optional_step at g step)
 optional_grows at g None = stays g
 optional_grows at g (Some a) = assigning_grows at g a
@@ -269,7 +278,7 @@ mutual
   statement_grows at g (s.Block mark inner span) =
       passing_promises (GrowsTo {A = core.Statements} g) (GrowsTo {A = core.Statement} g) (statements at g inner) _ (statements_grow at g inner)
       (λ w h. needs_promises (GrowsTo {A = core.Statement} g) (not (is_unchecked mark || g.is_off)) E15 span _ (λ on. block_grows g w.1 h))
-  statement_grows at g (s.Bundle assignments span) = tt
+  statement_grows at g (s.Bundle assignments span) = bundle_grows at g assignments span
   statement_grows at g (s.Declare d span) = declaration_grows at g d
   statement_grows at g (s.Assign a span) = assigning_grows at g a
   statement_grows at g (s.CallAlone call span) = after g (call_typed at g call) _ (λ x. stays g)

@@ -1,18 +1,23 @@
--- The bounds in force behind a condition: those before it, wider ones, or, where two ways met, the declared ones.
+-- The bounds in force behind a condition: those before it, wider ones, or, where two ways met between statements, the declared ones.
 use Rattle.std.proofs.Common.{◌≡◌, ℕ, zero, suc, Bool, true, false, cond, not, List, [], ◌∷◌, Option, None, Some, is_none, pos, refl, sym, subst}
 use Rattle.std.specs.Prelude.{◌&&◌, slice_get}
 use Rattle.bounds_exprs.specs.declared.term.Term.{Term}
 use Rattle.bounds_exprs.specs.declared.term.Bounds.{Bounds}
-use Rattle.pointer_modes.specs.Types.{CType}
+use Rattle.pointer_modes.specs.declared.ctype.Mode.{Mode}
+use Rattle.pointer_modes.specs.declared.ctype.Kind.{Kind}
+use Rattle.pointer_modes.specs.Types.{CType, Pointer}
 use Rattle.bounds_flow.specs.declared.held.Held.{Held}
-use Rattle.bounds_flow.specs.Pointers.{joined_with, known_not_null, one_further, same_bounds, with_bounds}
-use Rattle.bounds_flow.specs.Flows.{Knowledge, are_equal, change_at, held_at, joined_held, wider}
-use Rattle.subsumption.specs.ClosedTables.{ClosedTable}
+use Rattle.bounds_flow.specs.Pointers.{joined_over, known_not_null, one_further, same_bounds, with_bounds}
+use Rattle.bounds_flow.specs.Flows.{Knowledge, are_equal, change_at, held_at, joined_held, met, rejoined, rejoined_held, wider}
+use Rattle.subsumption.specs.ClosedTables.{ClosedTable, joined}
 use Rattle.bounds_flow_meaning.proofs.Steps.{each_put}
 use Rattle.act_words.specs.declared.operator.Comparison.{Comparison}
 use Rattle.ckc_core.specs.declared.program.Direction.TheVariants as directions
 use Rattle.ckc_core.specs.Core as core
 use Rattle.region_typing_rules.specs.Verdicts.{picked}
+use Rattle.region_typing_rules.specs.Types.{Counts}
+use Rattle.region_typing_rules.specs.KnownIsSo.{AreLimited}
+use Rattle.region_typing_rules.specs.Typed.{AreNamed}
 use Rattle.region_typing_rules.specs.Readings.{compared, element_told, elements_told, is_ended_local, is_null, null_told, place_told, pointer_local, term, told}
 
 -- something is so of the bounds of a pointer, of those in force and of those that are declared
@@ -27,6 +32,16 @@ AreSo Q f = (p : ℕ) → IsSoOf (Q p) (held_at f.held p)
 -- it stays so of bounds that reach one element further
 abbrev pub StaysSo : (Bounds → Type 0) → Type 0
 StaysSo Q = (b d : Bounds) → one_further b ≡ Some d → Q b → Q d
+
+-- a local of which bounds are in force is a pointer that counts elements. They are limited, and name locals
+pub record IsPointing (types : List CType) (k : ℕ) (b : Bounds) : Type 0 where
+  pub mode : Mode
+  pub kind : Kind
+  pub counts : Counts kind
+  pub element : CType
+  pub own : slice_get types k ≡ Some (Pointer mode kind element)
+  pub limited : AreLimited b
+  pub named : AreNamed types b
 
 -- ---- one pointer
 
@@ -45,18 +60,32 @@ wider_so Q stays index t h so = by h.bounds refl
     by None e = subst (λ o. IsSoOf Q (with_bounds (wider index t o) h)) (sym e) so
     by (Some b) e = subst (λ o. IsSoOf Q (with_bounds (wider index t o) h)) (sym e) (tested b e (is_none b.base && are_equal index b.hi t))
 
-joined_so : (Q : Bounds → Type 0) (h k : Held) → IsSoOf Q h → IsSoOf Q (joined_with h k)
-joined_so Q h k so = by (same_bounds h.bounds k.bounds)
+joined_so : (Q : Bounds → Type 0) (o : Option Bounds) (h k : Held) → ((b : Bounds) → o ≡ Some b → Q b) → IsSoOf Q h → IsSoOf Q (joined_over o h k)
+joined_so Q o h k other so = by (same_bounds h.bounds k.bounds)
   where
-    by : (test : Bool) → IsSoOf Q (record h { bounds = cond test h.bounds h.declared; known = h.known && k.known })
+    by : (test : Bool) → IsSoOf Q (record h { bounds = cond test h.bounds o; known = h.known && k.known })
     by true = record { bounds = so.bounds; declared = so.declared }
-    by false = record { bounds = so.declared; declared = so.declared }
+    by false = record { bounds = other; declared = so.declared }
 
 all_joined : (Q : ℕ → Bounds → Type 0) (held others : List Held) → ((p : ℕ) → IsSoOf (Q p) (held_at held p)) → (p : ℕ) → IsSoOf (Q p) (held_at (joined_held held others) p)
 all_joined Q [] others so p = so p
 all_joined Q (h ∷ held) [] so p = so p
-all_joined Q (h ∷ held) (k ∷ others) so zero = joined_so (Q 0) h k (so 0)
+all_joined Q (h ∷ held) (k ∷ others) so zero = joined_so (Q 0) h.declared h k (so 0).declared (so 0)
 all_joined Q (h ∷ held) (k ∷ others) so (suc p) = all_joined (λ p. Q (suc p)) held others (λ p. so (suc p)) p
+
+all_rejoined : (Q : ℕ → Bounds → Type 0) (before held others : List Held) → ((p : ℕ) → IsSoOf (Q p) (held_at before p)) → ((p : ℕ) → IsSoOf (Q p) (held_at held p)) → (p : ℕ) → IsSoOf (Q p) (held_at (rejoined_held before held others) p)
+all_rejoined Q [] held others was so p = was p
+all_rejoined Q (b ∷ before) [] others was so p = so p
+all_rejoined Q (b ∷ before) (h ∷ held) [] was so p = so p
+all_rejoined Q (b ∷ before) (h ∷ held) (k ∷ others) was so zero = joined_so (Q 0) b.bounds h k (was 0).bounds (so 0)
+all_rejoined Q (b ∷ before) (h ∷ held) (k ∷ others) was so (suc p) = all_rejoined (λ p. Q (suc p)) before held others (λ p. was (suc p)) (λ p. so (suc p)) p
+
+rejoined_so : (Q : ℕ → Bounds → Type 0) (before f g : Knowledge) → AreSo Q before → AreSo Q f → AreSo Q (rejoined before f g)
+rejoined_so Q before f g was so = by before.bundled
+  where
+    by : (inside : Bool) → AreSo Q (cond inside (record f { facts = joined f.vars f.facts g.facts; held = rejoined_held before.held f.held g.held }) (met f g))
+    by true = all_rejoined Q before.held f.held g.held was so
+    by false = all_joined Q f.held g.held so
 
 -- ---- conditions
 
@@ -95,8 +124,8 @@ module _ (Q : ℕ → Bounds → Type 0) (stays : (p : ℕ) → StaysSo (Q p)) (
   -- what is so of all bounds in force, and of all that are declared, is so of those behind a condition
   pub bounds_told : (e : core.Expression) (truth : Bool) (f : Knowledge) → AreSo Q f → AreSo Q (told types e truth f)
   bounds_told (core.AndAlso left right) true f so = bounds_told right true (told types left true f) (bounds_told left true f so)
-  bounds_told (core.AndAlso left right) false f so = all_joined Q (told types left false f).held (told types right false (told types left true f)).held (bounds_told left false f so)
-  bounds_told (core.OrElse left right) true f so = all_joined Q (told types left true f).held (told types right true (told types left false f)).held (bounds_told left true f so)
+  bounds_told (core.AndAlso left right) false f so = rejoined_so Q f (told types left false f) (told types right false (told types left true f)) so (bounds_told left false f so)
+  bounds_told (core.OrElse left right) true f so = rejoined_so Q f (told types left true f) (told types right true (told types left false f)) so (bounds_told left true f so)
   bounds_told (core.OrElse left right) false f so = bounds_told right false (told types left false f) (bounds_told left false f so)
   bounds_told (core.Not operand) truth f so = bounds_told operand (not truth) f so
   bounds_told (core.Compare comparison left right) truth f so = compared_so comparison (term types left) (term types right) truth f so

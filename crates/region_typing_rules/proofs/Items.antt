@@ -30,7 +30,8 @@ use Rattle.ckc_core.specs.Stacks.{statements_stack}
 use Rattle.region_typing_rules.specs.Verdicts.{Verdict, Passes, Stops, passing, picked}
 use Rattle.region_typing_rules.specs.Scopes.{Scope, Signature, WrittenBounds, bounds_in, function_named}
 use Rattle.region_typing_rules.specs.Types.{base_type, without_stars}
-use Rattle.region_typing_rules.specs.Expressions.{Places, is_import, is_tainted}
+use Rattle.region_typing_rules.specs.Operands.{Places}
+use Rattle.region_typing_rules.specs.Calls.{is_import, is_tainted}
 use Rattle.region_typing_rules.specs.Statements.{statements, with_local, is_unchecked}
 use Rattle.bounds_flow.specs.Flows.{at_entry}
 use Rattle.region_typing_rules.specs.Knowing.{all_declared, knowing}

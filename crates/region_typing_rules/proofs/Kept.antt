@@ -12,7 +12,8 @@ use Rattle.pointer_modes.specs.Types.{CType}
 use Rattle.ckc_core.specs.Programs.{Initial}
 use Rattle.region_typing_rules.specs.Verdicts.{Verdict, Passes, Stops, passing, needs, breaks, picked}
 use Rattle.region_typing_rules.specs.Scopes.{Scope, Signature, WrittenBounds, function_named}
-use Rattle.region_typing_rules.specs.Expressions.{Places, is_tainted}
+use Rattle.region_typing_rules.specs.Operands.{Places}
+use Rattle.region_typing_rules.specs.Calls.{is_tainted}
 use Rattle.region_typing_rules.specs.Statements.{is_unchecked, length_of, array_kind, is_ended_array, array_element}
 use Rattle.region_typing_rules.specs.Types.{may_lead_to, base_type, without_stars}
 use Rattle.region_typing_rules.specs.Items.{variable_scope, Defined, Parameter, Walk, Walked, WalkedVariable, in_checked_region, is_struct, member_types, member_names, with_struct, scalar_members, structure, initializer, object_cells, variables, object_bounds, variable_of, room_for, room_for_first, with_objects, global, listed, parameter_types, bounds_of_result, first_changed_in, result_type, with_function, function_body, agrees, all_scalar, scalar_result, is_defined, function_rules, signature_of, function}

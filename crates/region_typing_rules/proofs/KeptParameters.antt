@@ -18,7 +18,7 @@ use Rattle.ckc_core.specs.Steps.{Flow}
 use Rattle.ckc_core.specs.Meaning.{Setting, effects, knot}
 use Rattle.region_typing_rules.specs.Verdicts.{Passes}
 use Rattle.region_typing_rules.specs.Scopes.{Scope, Visible}
-use Rattle.region_typing_rules.specs.Expressions.{Places}
+use Rattle.region_typing_rules.specs.Operands.{Places}
 use Rattle.region_typing_rules.specs.Statements.{statements}
 use Rattle.region_typing_rules.specs.Knowing.{local_number, marked_at, target_marked, assignment_marked, bundle_marked, step_marked, hidden_by, hidden_first, first_marked, marked, all_marked}
 use Rattle.region_typing_rules.specs.KeptParameters.{first_of, changed_at, target_changed, assignment_changed, bundle_changed, step_changed, first_changed, changed, all_changed}

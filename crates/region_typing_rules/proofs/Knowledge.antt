@@ -19,13 +19,13 @@ use Rattle.region_typing_rules.specs.Scopes.{Scope, Signature, WrittenBounds, Fi
 use Rattle.region_typing_rules.specs.Types.{Counts, is_number}
 use Rattle.ckc_tree_texts.specs.Texts.{Text}
 use Rattle.region_typing_rules.specs.Strings.{Strings, text_object}
-use Rattle.region_typing_rules.specs.Expressions.{Typed, is_checked_argument, without_checked, crossing, is_import, side_number, member_from, offset_among}
+use Rattle.region_typing_rules.specs.Operands.{Typed, member_from, offset_among}
+use Rattle.region_typing_rules.specs.Calls.{is_checked_argument, without_checked, crossing, is_import, side_number}
 use Rattle.bounds_flow_meaning.specs.Holding.{AreInts}
 use Rattle.bounds_flow_meaning.specs.Rows.{slots_from, slots, HasRow}
-use Rattle.region_typing_rules.specs.KnownIsSo.{AreLimited}
 use Rattle.region_typing_rules.specs.Typed.{Frame, IsBoundedObject, HasResultBounds, HaveRows, AreRows, IsEndedRow, IsNumberResult, IsScalar, IsScalarResult}
 use Rattle.region_typing_rules.proofs.Verdicts.{Promises, needs_promises, Extends}
-use Rattle.region_typing_rules.proofs.InForce.{AreSo}
+use Rattle.region_typing_rules.proofs.InForce.{AreSo, IsPointing}
 use Rattle.region_typing_rules.proofs.Known.{IsKnown, IsKnownVariable, IsClosed}
 
 abbrev pub IsNumberType : CType → Type 0
@@ -112,23 +112,11 @@ pub record KnowsFile (g : Frame) (s : Scope) : Type 0 where
   pub trusted : (name : ℕ) (f : Signature) → function_named s.functions name ≡ Some f → is_import f ≡ false → IsTrusted g (side_number false s.functions f.name 0) f
   pub tainted : (name : ℕ) (f : Signature) → function_named s.functions name ≡ Some f → is_import f ≡ true → IsTainted g (side_number true s.functions f.name 0) f
 
--- a local of which bounds are in force is a pointer to an array of elements that have bytes
-pub record IsPointing (s : Scope) (k : ℕ) (b : Bounds) : Type 0 where
-  pub mode : Mode
-  pub kind : Kind
-  pub counts : Counts kind
-  pub element : CType
-  pub own : slice_get s.locals k ≡ Some (Pointer mode kind element)
-  pub some : 0 < size_of s.structs element
-  pub limited : AreLimited b
-  pub ints : AreInts s.locals b
-  pub base : (q : ℕ) → b.base ≡ Some q → (k : Kind) × (slice_get s.locals q ≡ Some (Pointer mode k element))
-
--- and so are the locals of the function that is walked, of each of which its flow speaks
+-- the locals of the function that is walked, of each of which its flow speaks, are those of the program too
 pub record Knows (g : Frame) (types : List CType) (s : Scope) : Type 0 where
   pub file : KnowsFile g s
   pub flow : IsFlow s.flow
-  pub pointers : AreSo (IsPointing s) s.flow
+  pub pointers : AreSo (IsPointing s.locals) s.flow
   pub few : length s.locals ≤ s.flow.vars
   pub result : (b : Bounds) → s.result_bounds ≡ Some b → AreInts s.locals b
   pub locals : Extends s.locals types

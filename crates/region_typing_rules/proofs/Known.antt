@@ -15,7 +15,7 @@ use Rattle.ckc_core.specs.declared.program.Site.{Site}
 use Rattle.region_typing_rules.specs.Verdicts.{Passes, passing, meant}
 use Rattle.region_typing_rules.specs.Scopes.{Scope, Signature, FileVariable, bounds_in, struct_named}
 use Rattle.region_typing_rules.specs.Types.{kind_of, mode_of, may_lead_to, base_type, without_stars, type_named}
-use Rattle.region_typing_rules.specs.Expressions.{bounds_at, cell_bounds}
+use Rattle.region_typing_rules.specs.Operands.{bounds_at, cell_bounds}
 use Rattle.region_typing_rules.specs.Statements.{array_kind}
 use Rattle.region_typing_rules.specs.Items.{with_struct}
 use Rattle.region_typing_rules.proofs.Verdicts.{Promises, passing_promises, needs_promises, Extends, extends_append}

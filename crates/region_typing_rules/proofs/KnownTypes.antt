@@ -26,7 +26,10 @@ use Rattle.ckc_names_rules.specs.declared.given.Given.{Given}
 use Rattle.region_typing_rules.specs.Verdicts.{Verdict, Passes, Stops, passing, meant, picked}
 use Rattle.region_typing_rules.specs.Scopes.{Scope, Signature, WrittenBounds, FileVariable, Visible, Named, Local, Object, Array, Nothing, local_if, found_if, local_named, object_of, object_named, or_else, null_named, named, function_named, members_named}
 use Rattle.region_typing_rules.specs.Types.{type_named, is_number, may_lead_to, is_pointer, are_comparable}
-use Rattle.region_typing_rules.specs.Expressions.{Places, OfLocal, OfCell, OfBounded, OfUnknown, ForNothing, ForArray, For, Typed, Value, AStruct, Called, Gives, GivesNothing, site_at, bounded, in_cell, with_cell_bounds, number, at_place, local_typed, name_typed, pointer_typed, unknown_typed, object_typed, member_from, member_at, dotted, with_elements, first_element, first_or_end, pointed_by, arrowed, pointed_at, dereferenced, address, number_of, scalar_of, unary_typed, is_single_value, lacks_bounds, two_numbers, two_scalars, operator_along, summed, sum_typed, equated, zero_test, are_related, ordered, binary_typed, beside, element_at, indexed, arguments_as, is_import, call_of, declared_callee, writes, is_text, length_typed, text_pointer, measures, predefined_call, called, with_result, typed, all_typed, cast_typed, cast_bounds, is_array}
+use Rattle.region_typing_rules.specs.Operands.{Places, OfLocal, OfCell, OfBounded, OfUnknown, ForNothing, ForArray, For, Typed, Value, AStruct, Called, Gives, GivesNothing, site_at, bounded, in_cell, with_cell_bounds, number, at_place, local_typed, name_typed, pointer_typed, unknown_typed, object_typed, member_from, member_at, dotted, with_elements, first_element, first_or_end, pointed_by, arrowed, pointed_at, dereferenced, address, number_of, scalar_of, unary_typed, is_single_value, lacks_bounds, two_numbers, two_scalars, operator_along, summed, sum_typed, equated, zero_test, are_related, ordered, binary_typed, beside, element_at, indexed, is_array}
+use Rattle.region_typing_rules.specs.Calls.{arguments_as, is_import, call_of, declared_callee, writes, is_text, length_typed, text_pointer, measures, predefined_call, called, with_result}
+use Rattle.region_typing_rules.specs.NewMemory.{cast_typed, cast_bounds}
+use Rattle.region_typing_rules.specs.Expressions.{typed, all_typed}
 use Rattle.region_typing_rules.specs.Statements.{array_kind}
 use Rattle.region_typing_rules.proofs.Verdicts.{Promises, passing_promises, needs_promises, convertible_promises, anything_promised, all_met_promise}
 use Rattle.region_typing_rules.proofs.Known.{IsKnown, IsKnownResult, IsKnownVariable, IsClosed, type_known}

@@ -21,7 +21,8 @@ use Rattle.ckc_core.specs.Steps.{low_byte}
 use Rattle.ckc_names_rules.specs.declared.given.Given.{Given}
 use Rattle.region_typing_rules.specs.Verdicts.{passing}
 use Rattle.region_typing_rules.specs.Scopes.{Scope}
-use Rattle.region_typing_rules.specs.Expressions.{Places, Typed, typed, constant_typed, offset_among, unary_typed, site_at}
+use Rattle.region_typing_rules.specs.Operands.{Places, Typed, offset_among, unary_typed, site_at}
+use Rattle.region_typing_rules.specs.Expressions.{typed, constant_typed}
 use Rattle.ckc_tree.specs.declared.stmt.SignedConstant.{SignedConstant}
 use Rattle.region_typing_rules.specs.Cells.{strides_from, strides_of, cell_types, numbered_cells, cells_with}
 use Rattle.region_typing_rules.specs.Items.{negative, null_number, unsigned_constant, negated_of, positive_of, signed_constant, Walked, Missing, Written, Constants, unsigned_number, is_zero, number_or_break, written_cells}

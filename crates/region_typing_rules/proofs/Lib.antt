@@ -24,6 +24,8 @@ pub mod Asked
 pub mod Calls
 pub mod RightOperands
 pub mod Nodes
+pub mod NodeBounds
+pub mod Pointings
 pub mod Operands
 pub mod Conversions
 pub mod Expressions

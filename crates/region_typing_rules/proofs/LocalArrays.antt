@@ -20,7 +20,8 @@ use Rattle.region_typing_rules.specs.Scopes.{Scope}
 use Rattle.region_typing_rules.specs.Types.{is_number, may_lead_to, without_stars, converts}
 use Rattle.region_typing_rules.specs.Cells.{is_length, cells_with}
 use Rattle.region_typing_rules.specs.Readings.{term}
-use Rattle.region_typing_rules.specs.Expressions.{Places, Typed, Value, ForNothing, site_at, row_counted}
+use Rattle.region_typing_rules.specs.Operands.{Places, Typed, Value, ForNothing, site_at}
+use Rattle.region_typing_rules.specs.NewMemory.{row_counted}
 use Rattle.region_typing_rules.specs.DeclaredBounds.{declared_bounds}
 use Rattle.region_typing_rules.specs.Knowing.{assigned_by, settling, knowing}
 use Rattle.region_typing_rules.specs.Statements.{Walked, both, with_local, bounded_local, length_of, row_type, with_array, array_bounds, without_initial, made_array, array_in, local_of, declarator, is_ended_array, array_kind, before_end, array_memory}

@@ -9,24 +9,25 @@ use Rattle.ckc_tree.specs.Expressions as e
 use Rattle.ckc_tree.specs.Expressions.{Expression}
 use Rattle.ckc_tree.specs.Statements as s
 use Rattle.ckc_tree.specs.Statements.{Declarator, Declaration, Assignment, ForInitial, Statement, Statements}
-use Rattle.bounds_flow.specs.Flows.{Knowledge}
+use Rattle.bounds_flow.specs.Flows.{Knowledge, in_bundle}
 use Rattle.pointer_modes.specs.Types.{CType}
 use Rattle.ckc_core.specs.Core as core
 use Rattle.region_typing_rules.specs.Scopes.{Scope, Visible}
 use Rattle.region_typing_rules.specs.Types.{is_scalar, without_stars, base_type}
-use Rattle.region_typing_rules.specs.Expressions.{Places, Typed, Called, Gives, GivesNothing, call_typed, typed, site_at}
+use Rattle.region_typing_rules.specs.Operands.{Places, Typed, Called, Gives, GivesNothing, site_at}
+use Rattle.region_typing_rules.specs.Expressions.{call_typed, typed}
 use Rattle.region_typing_rules.specs.Knowing.{when, local_number, target_marked, marked_at, assignment_marked, bundle_marked, step_marked, hiding, hidden_by, hidden_first, first_marked, marked, all_marked, at_loop, assigned_by, knowing}
 use Rattle.bounds_exprs.specs.declared.term.Bounds.{Bounds}
 use Rattle.region_typing_rules.specs.DeclaredBounds.{declared_bounds, row_of}
 use Rattle.region_typing_rules.specs.Cells.{is_length}
-use Rattle.region_typing_rules.specs.Statements.{Walked, both, assigning, zero_value, with_local, initialised, bounded_local, declarator, declarators, declaration, at_alternative, before_step, in_loop, is_unchecked, condition, optional_condition, optional_step, first_part, alone, return, meets_declared, returned, returned_nothing, statement, statements, with_array, before_end, row_type, first_length}
+use Rattle.region_typing_rules.specs.Statements.{Walked, both, assigning, zero_value, with_local, initialised, bounded_local, declarator, declarators, declaration, at_alternative, before_step, in_loop, is_unchecked, condition, optional_condition, optional_step, first_part, alone, return, meets_declared, returned, returned_nothing, statement, statements, with_array, before_end, row_type, first_length, target_of, assignments, bundle}
 use Rattle.region_typing_rules.proofs.Verdicts.{Promises, passing_promises, needs_promises, extends_last, anything_promised}
 use Rattle.region_typing_rules.proofs.Kept.{passing_any}
-use Rattle.region_typing_rules.proofs.Assigning.{assigning_promises, declared_promises, settled_promises}
+use Rattle.region_typing_rules.proofs.Assigning.{assigning_promises, declared_promises, settled_promises, assignments_promise, bundle_promises}
 use Rattle.region_typing_rules.proofs.Moving.{AssignsOnly, AllAssignOnly}
 use Rattle.region_typing_rules.proofs.Assigns.{IsPlain}
 use Rattle.region_typing_rules.proofs.Sources.{IsNameOf, IsFreshCall, call_typed_fresh}
-use Rattle.region_typing_rules.proofs.Marks.{IsAssignment, IsFirst, target_of, converted_any, assignment_plain, initialised_plain}
+use Rattle.region_typing_rules.proofs.Marks.{IsAssignment, IsFirst, converted_any, assignment_plain, initialised_plain}
 use Rattle.region_typing_rules.proofs.LocalArrays.{memory_of, declarator_promises}
 
 -- ---- marks are only added
@@ -280,6 +281,22 @@ assigning_marked at g a beyond ws hidden low =
     assigning_promises (IsAssignment g (target_of a)) (IsMarked beyond ws (assignment_marked ws a)) at g a (assignment_plain at g a)
     (λ x f h. record { only = λ may before many covers. h.only may (λ k is. assignment_may beyond g.visible ws a k before may hidden many is covers); hidden = hidden; low = low })
 
+bundle_marked_so : (at : Places) (g : Scope) (written : List Assignment) (span : Span) (beyond : ℕ) (ws : List Visible) → AreHidden beyond g.visible ws → beyond ≤ length g.locals → Promises (IsMarked beyond ws (bundle_marked ws written)) (bundle at g written span)
+bundle_marked_so at g written span beyond ws hidden low =
+    bundle_promises (Only written) (IsMarked beyond ws (bundle_marked ws written)) at g written span
+    (assignments_promise (λ f a x. IsAssignment (knowing f g) (target_of a) x) (λ f written w. Only written w) at g (λ f a. assignment_plain at (knowing f g) a) (λ f may before many covers. tt) more (in_bundle g.flow) written)
+    (λ w k only. record { only = only; hidden = hidden; low = low })
+  where
+    Only : List Assignment → core.Statements × Knowledge → Type 0
+    Only written w = (may : ℕ → Bool) (before : List Bool) → length before ≡ beyond → Covers may (bundle_marked ws written before) → AllAssignOnly may w.0
+
+    more : (f : Knowledge) (a : Assignment) (written : List Assignment) (x : core.Statement) (rest : core.Statements × Knowledge) → IsAssignment (knowing f g) (target_of a) x → Only written rest → Only (a ∷ written) (core.Then x rest.0, rest.1)
+    more f a written x rest h only may before many covers =
+        let between = assignment_marked ws a before in (
+          h.only may (λ k is. assignment_may beyond g.visible ws a k before may hidden many is (covers_before may between (bundle_marked ws written between) (bundle_within ws written between) covers)),
+          only may between ((assignment_within ws a before).many ∙ many) covers,
+        )
+
 pub step_marked_so : (at : Places) (g : Scope) (o : Option Assignment) (beyond : ℕ) (ws : List Visible) → AreHidden beyond g.visible ws → beyond ≤ length g.locals → Promises (IsMarked beyond ws (step_marked ws o)) (optional_step at g o)
 step_marked_so at g None beyond ws hidden low = record { only = λ may before many covers. tt; hidden = hidden; low = low }
 step_marked_so at g (Some a) beyond ws hidden low = assigning_marked at g a beyond ws hidden low
@@ -350,7 +367,7 @@ mutual
   statement_marked at g (s.Block mark inner span) beyond ws hidden low =
       passing_promises (AreMarked beyond (all_marked beyond ws inner)) (IsMarked beyond ws (all_marked beyond ws inner)) (statements at g inner) _ (statements_marked at g inner beyond ws hidden low)
       (λ w h. needs_promises (IsMarked beyond ws (all_marked beyond ws inner)) (not (is_unchecked mark || g.is_off)) E15 span _ (λ on. record { only = h.only; hidden = hidden; low = h.low }))
-  statement_marked at g (s.Bundle assignments span) beyond ws hidden low = tt
+  statement_marked at g (s.Bundle assignments span) beyond ws hidden low = bundle_marked_so at g assignments span beyond ws hidden low
   statement_marked at g (s.Declare d span) beyond ws hidden low = declaration_marked at g d beyond ws hidden low
   statement_marked at g (s.Assign a span) beyond ws hidden low = assigning_marked at g a beyond ws hidden low
   statement_marked at g (s.CallAlone call span) beyond ws hidden low =

@@ -18,9 +18,10 @@ use Rattle.ckc_core.specs.Core as core
 use Rattle.region_typing_rules.specs.Verdicts.{Verdict, Passes, breaks}
 use Rattle.region_typing_rules.specs.Scopes.{Scope}
 use Rattle.region_typing_rules.specs.Types.{is_number, converts}
-use Rattle.region_typing_rules.specs.Expressions.{Places, Lvalue, OfLocal, OfCell, OfBounded, OfUnknown, ForNothing, ForArray, For, Typed, Value, AStruct, site_at, operator_along, sum_node, typed, in_type, converted, bounds_met, meets}
+use Rattle.region_typing_rules.specs.Operands.{Places, Lvalue, OfLocal, OfCell, OfBounded, OfUnknown, ForNothing, ForArray, For, Typed, Value, AStruct, site_at, operator_along, sum_node, in_type, converted, bounds_met, meets}
+use Rattle.region_typing_rules.specs.Expressions.{typed}
 use Rattle.region_typing_rules.specs.DeclaredBounds.{unwritten_bounds}
-use Rattle.region_typing_rules.specs.Statements.{store, update, assigned, set_to, declared_for, meets_declared, moved, updated_as, updated, stored, step_of, one, assignment, initialised}
+use Rattle.region_typing_rules.specs.Statements.{store, update, assigned, set_to, declared_for, meets_declared, moved, updated_as, updated, stored, step_of, one, assignment, target_of, initialised}
 use Rattle.region_typing_rules.proofs.Verdicts.{Promises, passing_promises, needs_promises, apart_promises, met_promises}
 use Rattle.region_typing_rules.proofs.Kept.{passing_any}
 use Rattle.region_typing_rules.proofs.Moving.{AssignsOnly}
@@ -93,10 +94,6 @@ module _ (g : Scope) (target : Expression) where
   stored_plain at stores.Set t right span h = set_plain g.flow t right span h
   stored_plain at stores.Add t right span h = updated_plain at directions.Forward t right span h
   stored_plain at stores.Subtract t right span h = updated_plain at directions.Backward t right span h
-
-abbrev pub target_of : Assignment → Expression
-target_of (s.Store operator target value span) = target
-target_of (s.Step operator side target span) = target
 
 pub assignment_plain : (at : Places) (g : Scope) (a : Assignment) → Promises (IsAssignment g (target_of a)) (assignment at g a)
 assignment_plain at g (s.Store operator target value span) =

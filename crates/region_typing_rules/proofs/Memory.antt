@@ -29,7 +29,9 @@ use Rattle.region_typing_rules.specs.Readings.{term}
 use Rattle.region_typing_rules.specs.Types.{is_number, may_lead_to}
 use Rattle.region_typing_rules.specs.Cells.{cells_with}
 use Rattle.region_typing_rules.specs.Statements.{array_kind, row_type}
-use Rattle.region_typing_rules.specs.Expressions.{Typed, Value, AStruct, ForNothing, is_size, first_factor, second_factor, factor_beside, elements_in, row_counted, allocation_if, malloc_typed, calloc_typed, call_bounds, casts_to, takes, has_base, base_in, cast_typed}
+use Rattle.region_typing_rules.specs.Operands.{Typed, Value, AStruct, ForNothing}
+use Rattle.region_typing_rules.specs.Calls.{call_bounds}
+use Rattle.region_typing_rules.specs.NewMemory.{is_size, first_factor, second_factor, factor_beside, elements_in, row_counted, allocation_if, malloc_typed, calloc_typed, casts_to, takes, has_base, base_in, cast_typed}
 use Rattle.region_typing_rules.proofs.Verdicts.{Promises, needs_promises}
 
 -- ---- values

@@ -18,7 +18,10 @@ use Rattle.ckc_core.specs.Core as core
 use Rattle.region_typing_rules.specs.Verdicts.{Verdict, Passes, passing}
 use Rattle.region_typing_rules.specs.Scopes.{Scope, Signature, named, function_named}
 use Rattle.region_typing_rules.specs.Types.{type_named}
-use Rattle.region_typing_rules.specs.Expressions.{Places, Typed, beside, site_at, bounded, in_cell, name_typed, dotted, arrowed, unary_typed, indexed, predefined_call, called, typed, all_typed, call_typed, cast_bounds}
+use Rattle.region_typing_rules.specs.Operands.{Places, Typed, beside, site_at, bounded, in_cell, name_typed, dotted, arrowed, unary_typed, indexed}
+use Rattle.region_typing_rules.specs.Calls.{predefined_call, called}
+use Rattle.region_typing_rules.specs.NewMemory.{cast_bounds}
+use Rattle.region_typing_rules.specs.Expressions.{typed, all_typed, call_typed}
 use Rattle.region_typing_rules.specs.Strings.{text_at}
 use Rattle.region_typing_rules.proofs.RightOperands.{in_right}
 use Rattle.region_typing_rules.proofs.NamedVerdicts.{AllNamed, Any, text_named, then_named, needs_named, dotted_named, arrowed_named, unary_named, binary_named, indexed_named, declared_named, writes_named, measures_named, result_named, malloc_named, calloc_named, cast_named}

@@ -32,7 +32,9 @@ use Rattle.ckc_core.specs.Core as core
 use Rattle.region_typing_rules.specs.Verdicts.{Verdict, Passes, Stops, Broken, Nameless, Unnamed, passing, needs, meant, picked}
 use Rattle.region_typing_rules.specs.Scopes.{Scope, Signature, WrittenBounds, FileVariable, found_if, object_of, object_named, function_named, struct_named}
 use Rattle.region_typing_rules.specs.Types.{may_lead_to, without_stars, base_type}
-use Rattle.region_typing_rules.specs.Expressions.{Places, is_tainted, typed}
+use Rattle.region_typing_rules.specs.Operands.{Places}
+use Rattle.region_typing_rules.specs.Calls.{is_tainted}
+use Rattle.region_typing_rules.specs.Expressions.{typed}
 use Rattle.bounds_flow.specs.Flows.{at_entry}
 use Rattle.region_typing_rules.specs.Statements.{is_unchecked, statements, length_of, array_kind, is_ended_array, before_end}
 use Rattle.ckc_tree.specs.declared.stmt.SignedConstant.{SignedConstant}

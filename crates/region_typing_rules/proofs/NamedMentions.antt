@@ -142,7 +142,7 @@ pub assignment_quiet : (a : Assignment) → AreQuiet (assignment_mentions a)
 assignment_quiet (s.Store operator target value span) = quiet_append (expression_mentions target) _ (expression_quiet target) (expression_quiet value)
 assignment_quiet (s.Step operator side target span) = expression_quiet target
 
-assignments_quiet : (xs : List Assignment) → AreQuiet (flat_map assignment_mentions xs)
+pub assignments_quiet : (xs : List Assignment) → AreQuiet (flat_map assignment_mentions xs)
 assignments_quiet [] = tt
 assignments_quiet (a ∷ xs) = quiet_append (assignment_mentions a) _ (assignment_quiet a) (assignments_quiet xs)
 

@@ -5,7 +5,7 @@ use Rattle.std.specs.List.{list_all}
 use Rattle.std.specs.Option.{option_map}
 use Rattle.std.proofs.lemmas.Bool.{and_parts}
 use Rattle.ckc_text.specs.declared.place.Span.{Span}
-use Rattle.ckc_text.specs.declared.code.Code.TheVariants.{E08, E13, E15, E30}
+use Rattle.ckc_text.specs.declared.code.Code.TheVariants.{E08, E13, E15, E30, E21}
 use Rattle.ckc_tree.specs.Types.{TypeTree, type_span}
 use Rattle.ckc_tree.specs.Expressions.{Expression, expression_span}
 use Rattle.ckc_tree.specs.Statements as s
@@ -19,16 +19,17 @@ use Rattle.ckc_core.specs.Core as core
 use Rattle.region_typing_rules.specs.Verdicts.{Passes}
 use Rattle.region_typing_rules.specs.Scopes.{Scope}
 use Rattle.region_typing_rules.specs.Types.{is_scalar, may_lead_to, without_stars, base_type}
-use Rattle.region_typing_rules.specs.Expressions.{Places, typed, call_typed, site_at}
+use Rattle.region_typing_rules.specs.Operands.{Places, site_at}
+use Rattle.region_typing_rules.specs.Expressions.{typed, call_typed}
 use Rattle.bounds_exprs.specs.declared.term.Bounds.{Bounds}
-use Rattle.bounds_flow.specs.Flows.{Knowledge}
+use Rattle.bounds_flow.specs.Flows.{Knowledge, in_bundle}
 use Rattle.region_typing_rules.specs.DeclaredBounds.{declared_bounds, row_of}
 use Rattle.bounds_flow.specs.Settling.{Finding, Meets, WasLost, Falls}
 use Rattle.region_typing_rules.specs.Readings.{told}
 use Rattle.region_typing_rules.specs.Knowing.{assigned_by, first_found, settled_as, settling, knowing, when, cut, broken, continued, at_loop}
-use Rattle.region_typing_rules.specs.Statements.{array_kind, is_ended_array, before_end, array_memory, step_of, one, assignment, assigning, with_local, initialised, first_value, bounded_local, declarator, declarators, declaration, behind_block, behind_branch, behind_both, behind_loop, before_step, in_loop, is_unchecked, condition, optional_condition, optional_step, first_part, return, statement, statements, length_of, local_of, row_type, with_array, array_bounds, without_initial, array_in, first_length}
+use Rattle.region_typing_rules.specs.Statements.{array_kind, is_ended_array, before_end, array_memory, step_of, one, assignment, assigning, with_local, initialised, first_value, bounded_local, declarator, declarators, declaration, behind_block, behind_branch, behind_both, behind_loop, before_step, in_loop, is_unchecked, condition, optional_condition, optional_step, first_part, return, statement, statements, length_of, local_of, row_type, with_array, array_bounds, without_initial, array_in, first_length, assignments, bundle, are_locals}
 use Rattle.region_typing_rules.proofs.NamedVerdicts.{IsNamed, AllNamed, Any, passing_named, then_named, needs_named, scalar_named, met_named, converted_named, updated_named, stored_named, returned_named, nothing_named, memory_named, converted_so}
-use Rattle.region_typing_rules.proofs.NamedMentions.{AreFound, mentioned_append, quiet_front, quiet_all, found_append, type_quiet, expression_quiet, bounds_quiet, optional_quiet, initializer_quiet, assignment_quiet, declared_front, opened, block_mentioned, block_front, for_mentions, for_keeps, statement_keeps, statements_keep}
+use Rattle.region_typing_rules.proofs.NamedMentions.{AreFound, mentioned_append, quiet_front, quiet_all, found_append, type_quiet, expression_quiet, bounds_quiet, optional_quiet, initializer_quiet, assignment_quiet, declared_front, opened, block_mentioned, block_front, for_mentions, for_keeps, statement_keeps, statements_keep, assignments_quiet}
 use Rattle.region_typing_rules.proofs.NamedScopes.{Agrees, opened_agrees, loop_agrees, flow_agrees, flow_later, from_flow, Later, later_same, later_further, later_block, later_loop, later_local, behind_agrees, local_agrees, found_tags, base_named, stars_named, arrays_agree, later_arrays}
 use Rattle.region_typing_rules.proofs.NamedExpressions.{typed_named, call_named}
 use Rattle.region_typing_rules.proofs.NamedBounds.{bounds_named}
@@ -81,6 +82,23 @@ module _ (of : Numbers) (at : Places) where
       then_named (Behind {A = core.Statement} of m g) (assignment at g (number_assignment of a)) _ (assignment_named n g agrees a built found)
       (λ x. then_named (Behind {A = core.Statement} of m g) (settling (assigned_by g.locals x g.flow) (s.assignment_span (number_assignment of a))) _ (settling_named (assigned_by g.locals x g.flow) (s.assignment_span (number_assignment of a)))
       (λ f. behind_flow of m g g g.outside f g.breaks g.continues (behind_same of n m g same agrees)))
+
+  -- assignments in a bundle
+  assignments_named : (n : Scopes) (g : Scope) → Agrees of n g → (f : Knowledge) (written : List Assignment) → list_all built_assignment written ≡ true → AreFound n (flat_map assignment_mentions written) → AllNamed (assignments at (knowing f g) (map (number_assignment of) written))
+  assignments_named n g agrees f [] built found = tt
+  assignments_named n g agrees f (a ∷ written) built found =
+      let parts = and_parts (built_assignment a) (list_all built_assignment written) built in
+      let both = found_append n (assignment_mentions a) (flat_map assignment_mentions written) found in
+      let here = flow_agrees of n g g.outside f g.breaks g.continues agrees in
+      then_named Any (assignment at (knowing f g) (number_assignment of a)) _ (assignment_named n (knowing f g) here a parts.0 both.0)
+      (λ x. then_named Any (assignments at (knowing (assigned_by g.locals x f) g) (map (number_assignment of) written)) _ (assignments_named n g agrees (assigned_by g.locals x f) written parts.1 both.1) (λ rest. tt))
+
+  bundle_named : (n m : Scopes) (g : Scope) → m ≡ n → Agrees of n g → (written : List Assignment) (span : Span) → list_all built_assignment written ≡ true → AreFound n (flat_map assignment_mentions written)
+      → IsNamed (Behind {A = core.Statement} of m g) (bundle at g (map (number_assignment of) written) span)
+  bundle_named n m g same agrees written span built found =
+      then_named (Behind {A = core.Statement} of m g) (assignments at (knowing (in_bundle g.flow) g) (map (number_assignment of) written)) _ (assignments_named n g agrees (in_bundle g.flow) written built found)
+      (λ w. needs_named (Behind {A = core.Statement} of m g) (are_locals g.visible (map (number_assignment of) written)) E21 span _
+      (then_named (Behind {A = core.Statement} of m g) (settling w.1 span) _ (settling_named w.1 span) (λ f. behind_flow of m g g g.outside f g.breaks g.continues (behind_same of n m g same agrees))))
 
   condition_named : (n : Scopes) (g : Scope) → Agrees of n g → (x : Expression) → built_expression x ≡ true → AreFound n (expression_mentions x) → AllNamed (condition at g (number_expression of x))
   condition_named n g agrees x built found = then_named Any (typed at g (number_expression of x)) _ (typed_named of at n g agrees x built found) (λ t. scalar_named t (expression_span (number_expression of x)) Passes (λ v. tt))
@@ -209,7 +227,9 @@ module _ (of : Numbers) (at : Places) where
         let block = block_mentioned (statements_mentions inner) (statements_keep inner) n m h in
         passing_named (Behind {A = core.Statements} of block.0 g) (Behind {A = core.Statement} of m g) (statements at g (number_statements of inner)) _ (statements_named inner (opened n) block.0 g (opened_agrees of n g agrees) built block.1)
         (λ w b. needs_named (Behind {A = core.Statement} of m g) (not (is_unchecked mark || g.is_off)) E15 span _ (behind_block_is of n m g w.1 block.2 agrees b.later))
-    statement_named (s.Bundle assignments span) n m g agrees built h = tt
+    statement_named (s.Bundle written span) n m g agrees built h =
+        let all = quiet_all (flat_map assignment_mentions written) (assignments_quiet written) n m h in
+        bundle_named n m g all.1 agrees written span built all.0
     statement_named (s.Declare d span) n m g agrees built h = declaration_named n m g d agrees built h
     statement_named (s.Assign a span) n m g agrees built h =
         let all = quiet_all (assignment_mentions a) (assignment_quiet a) n m h in

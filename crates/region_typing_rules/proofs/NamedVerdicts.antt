@@ -40,7 +40,9 @@ use Rattle.region_typing_rules.specs.Verdicts.{Verdict, Passes, Stops, Broken, N
 use Rattle.region_typing_rules.specs.Scopes.{Scope, Signature, WrittenBounds, bounds_in, members_named}
 use Rattle.region_typing_rules.specs.Types.{is_number, is_pointer, are_comparable, converts}
 use Rattle.region_typing_rules.specs.Strings.{FoundText}
-use Rattle.region_typing_rules.specs.Expressions.{Places, text_typed, site_at, Lvalue, OfLocal, OfCell, OfBounded, OfUnknown, Standing, ForNothing, ForArray, For, Typed, Value, AStruct, Called, Gives, GivesNothing, plain, number, sum_node, at_place, member_from, member_at, dotted, struct_place, first_element, first_or_end, with_elements, pointed_by, arrowed, pointed_at, dereferenced, address_at, address, number_of, scalar_of, unary_typed, is_single_value, lacks_bounds, without_ptr, two_numbers, two_scalars, operator_along, summed, sum_typed, equated_values, equated, are_related, ordered_values, ordered, arithmetic, binary_typed, element_at, indexed, in_type, asked_of, meets, bounds_met, converted, arguments_as, terms_for, pointers_for, argument_meets, arguments_met, is_import, is_checked_argument, without_checked, crossing, declared_call, writes, is_text, length_typed, text_pointer, measures, with_result, is_size, elements_in, allocation, ended_allocation, allocation_if, malloc_typed, calloc_typed, casts_to, takes, has_base, base_in, cast_typed}
+use Rattle.region_typing_rules.specs.Operands.{Places, text_typed, site_at, Lvalue, OfLocal, OfCell, OfBounded, OfUnknown, Standing, ForNothing, ForArray, For, Typed, Value, AStruct, Called, Gives, GivesNothing, plain, number, sum_node, at_place, member_from, member_at, dotted, struct_place, first_element, first_or_end, with_elements, pointed_by, arrowed, pointed_at, dereferenced, address_at, address, number_of, scalar_of, unary_typed, is_single_value, lacks_bounds, without_ptr, two_numbers, two_scalars, operator_along, summed, sum_typed, equated_values, equated, are_related, ordered_values, ordered, arithmetic, binary_typed, element_at, indexed, in_type, asked_of, meets, bounds_met, converted}
+use Rattle.region_typing_rules.specs.Calls.{arguments_as, terms_for, pointers_for, argument_meets, arguments_met, is_import, is_checked_argument, without_checked, crossing, declared_call, writes, is_text, length_typed, text_pointer, measures, with_result}
+use Rattle.region_typing_rules.specs.NewMemory.{is_size, elements_in, allocation, ended_allocation, allocation_if, malloc_typed, calloc_typed, casts_to, takes, has_base, base_in, cast_typed}
 use Rattle.region_typing_rules.specs.DeclaredBounds.{unwritten_bounds}
 use Rattle.region_typing_rules.specs.Readings.{term}
 use Rattle.region_typing_rules.specs.Statements.{array_memory, before_end, assigned, update, declared_for, moved, updated_as, updated, stored, meets_declared, returned, returned_nothing}

@@ -31,8 +31,8 @@ use Rattle.region_typing_rules.specs.Verdicts.{Verdict, Passes, Stops, picked}
 use Rattle.region_typing_rules.specs.Scopes.{Scope}
 use Rattle.region_typing_rules.specs.Types.{is_number, is_row, Counts}
 use Rattle.region_typing_rules.specs.Readings.{constant, against, sum_bounds, from_base, based_bounds}
-use Rattle.region_typing_rules.specs.Expressions.{bounds_by, bounds_at, noted_if, one_element, sum_node, number, have_one_base, beside, is_met, cell_bounds}
-use Rattle.region_typing_rules.specs.Expressions.{first_factor, second_factor, factor_beside, is_size, has_base}
+use Rattle.region_typing_rules.specs.Operands.{bounds_by, bounds_at, noted_if, one_element, sum_node, number, have_one_base, beside, is_met, cell_bounds}
+use Rattle.region_typing_rules.specs.NewMemory.{first_factor, second_factor, factor_beside, is_size, has_base}
 use Rattle.region_typing_rules.specs.DeclaredBounds.{row_of}
 use Rattle.region_typing_rules.specs.Typed as rules
 use Rattle.region_typing_rules.specs.Typed.{HasBounds, AreSumBounds, CountsFrom, IsScalar, IsNodeOf}

@@ -29,9 +29,12 @@ use Rattle.ckc_core.specs.Meaning.{bounds_of}
 use Rattle.region_typing_rules.specs.Verdicts.{Verdict, Passes, passing}
 use Rattle.region_typing_rules.specs.Scopes.{Scope, Signature, WrittenBounds, Named, Local, Object, Array, Nothing, named, function_named, members_named}
 use Rattle.region_typing_rules.specs.Types.{converts, type_named, is_number, is_pointer, are_comparable}
-use Rattle.region_typing_rules.specs.Expressions.{Places, OfLocal, OfCell, OfBounded, OfUnknown, ForNothing, ForArray, For, Typed, Value, AStruct, Called, Gives, GivesNothing, site_at, with_bounds, with_cell_bounds, in_cell, number, at_place, local_typed, name_typed, object_typed, is_array}
-use Rattle.region_typing_rules.specs.Expressions.{struct_place, member_place, member_from, offset_among, member_at, dotted, with_elements, first_element, first_or_end, pointed_by, arrowed, pointed_at, dereferenced, address, scalar_of, unary_typed, two_numbers, two_scalars, operator_along, summed, sum_typed}
-use Rattle.region_typing_rules.specs.Expressions.{equated, zero_test, are_related, ordered_values, ordered, arithmetic, binary_typed, beside, element_at, indexed, arguments_as, is_import, call_of, declared_callee, writes, is_text, length_typed, text_pointer, measures, constant_typed, predefined_call, called, with_result, typed, all_typed, cast_typed, cast_bounds}
+use Rattle.region_typing_rules.specs.Operands.{Places, OfLocal, OfCell, OfBounded, OfUnknown, ForNothing, ForArray, For, Typed, Value, AStruct, Called, Gives, GivesNothing, site_at, with_bounds, with_cell_bounds, in_cell, number, at_place, local_typed, name_typed, object_typed, is_array}
+use Rattle.region_typing_rules.specs.Operands.{struct_place, member_place, member_from, offset_among, member_at, dotted, with_elements, first_element, first_or_end, pointed_by, arrowed, pointed_at, dereferenced, address, scalar_of, unary_typed, two_numbers, two_scalars, operator_along, summed, sum_typed}
+use Rattle.region_typing_rules.specs.Operands.{equated, zero_test, are_related, ordered_values, ordered, arithmetic, binary_typed, beside, element_at, indexed}
+use Rattle.region_typing_rules.specs.Calls.{arguments_as, is_import, call_of, declared_callee, writes, is_text, length_typed, text_pointer, measures, predefined_call, called, with_result}
+use Rattle.region_typing_rules.specs.NewMemory.{cast_typed, cast_bounds}
+use Rattle.region_typing_rules.specs.Expressions.{constant_typed, typed, all_typed}
 use Rattle.region_typing_rules.proofs.Knowledge.{crossing_promises}
 use Rattle.region_typing_rules.proofs.Verdicts.{Promises, passing_promises, needs_promises, convertible_promises, promised_so, elements_promise, apart_promises, all_met_promise}
 use Rattle.region_typing_rules.proofs.Kept.{passing_any}
@@ -51,7 +54,7 @@ use Rattle.bounds_flow.specs.Flows.{held_at}
 use Rattle.region_typing_rules.specs.Verdicts.{Stops, breaks}
 use Rattle.ckc_text.specs.declared.code.Code.TheVariants.{E17, E18}
 use Rattle.region_typing_rules.specs.DeclaredBounds.{unwritten_bounds}
-use Rattle.region_typing_rules.specs.Expressions.{Lvalue, bounded, bounds_at, cell_bounds, array_typed, converted, in_force, in_type, meets, noted_if, operator_along, sum_node}
+use Rattle.region_typing_rules.specs.Operands.{Lvalue, bounded, bounds_at, cell_bounds, array_typed, converted, in_force, in_type, meets, noted_if, operator_along, sum_node}
 use Rattle.region_typing_rules.specs.Statements.{assigned, assignment, declared_for, initialised, meets_declared, moved, one, step_of, store, stored, update, updated, updated_as}
 use Rattle.region_typing_rules.proofs.Sources.{number_any, numbers_any}
 use Rattle.region_typing_rules.proofs.Verdicts.{met_promises}

@@ -23,7 +23,8 @@ use Rattle.ckc_core.specs.Programs.{Initial, Variable}
 use Rattle.region_typing_rules.specs.Verdicts.{Verdict, Passes, Stops, passing, meant, needs}
 use Rattle.region_typing_rules.specs.Scopes.{Scope, WrittenBounds, bounds_in, struct_named, FileVariable}
 use Rattle.region_typing_rules.specs.Types.{is_number, kind_of, may_lead_to, base_type, without_stars, type_named}
-use Rattle.region_typing_rules.specs.Expressions.{Places, Typed, typed}
+use Rattle.region_typing_rules.specs.Operands.{Places, Typed}
+use Rattle.region_typing_rules.specs.Expressions.{typed}
 use Rattle.ckc_tree.specs.declared.stmt.SignedConstant.{SignedConstant}
 use Rattle.region_typing_rules.specs.Items.{Walk, in_checked_region, is_struct, member_types, scalar_members, with_struct, member_names, signed_constant, structure, Walked, initializer, object_cells, with_variable, with_texts, variable_scope, with_own, written_as, object_bounds, variable_of, WalkedVariable, written_size, few_bytes, room_for, room_for_first, variables, with_objects, global, count_of, small_constants, unsigned_number}
 use Rattle.region_typing_rules.specs.Strings.{texts_size}

@@ -1,7 +1,7 @@
 -- Names, places and operators that break no rule have types.
 use Rattle.std.proofs.Common.{◌≡◌, ℕ, ◌+◌, Bool, true, false, List, length, Option, Some, None, ◌<◌, ◌≤◌, refl, sym, ap, ◌∙◌, subst, arith}
-use Rattle.std.specs.Prelude.{slice_get, not, ◌&&◌, ◌||◌}
-use Rattle.std.proofs.lemmas.Bool.{and_parts}
+use Rattle.std.specs.Prelude.{nat_lt, slice_get, not, ◌&&◌, ◌||◌}
+use Rattle.std.proofs.lemmas.Bool.{and_parts, le-leb, ltb-true}
 use Rattle.ckc_text.specs.declared.place.Span.{Span}
 use Rattle.ckc_text.specs.declared.code.Code.TheVariants.{E13, E18, E19, E26}
 use Rattle.ckc_tree.specs.declared.expr.UnaryOperator.{UnaryOperator}
@@ -40,7 +40,8 @@ use Rattle.region_typing_rules.specs.Verdicts.{Verdict, Passes, picked}
 use Rattle.region_typing_rules.specs.Scopes.{Scope, Named, Local, Object, Array, Nothing}
 use Rattle.region_typing_rules.specs.Types.{is_number, is_pointer, is_row, are_comparable, Counts}
 use Rattle.region_typing_rules.specs.Readings.{from_base, based_bounds}
-use Rattle.region_typing_rules.specs.Expressions.{OfLocal, OfCell, OfBounded, Standing, ForNothing, ForArray, For, Typed, Value, AStruct, text_value, Called, Gives, GivesNothing, bounds_at, noted_if, with_bounds, sum_node, number, at_place, in_force, local_typed, name_typed, pointer_typed, member_place, with_elements, first_element, pointed_at, dereferenced, checked_at, pointer_to, address, number_of, scalar_of, unary_typed, is_single_value, lacks_bounds, without_ptr, two_numbers, two_scalars, operator_along, summed, sum_typed, equated_values, equated, have_one_base, are_related, ordered_values, ordered, arithmetic, binary_typed, element_at, indexed, typed, is_array, local_standing, OfUnknown, with_cell_bounds, cell_bounds, is_ended_element, zero_test, first_or_end, unknown_typed}
+use Rattle.region_typing_rules.specs.Operands.{OfLocal, OfCell, OfBounded, Standing, ForNothing, ForArray, For, Typed, Value, AStruct, text_value, Called, Gives, GivesNothing, bounds_at, noted_if, with_bounds, sum_node, number, at_place, in_force, local_typed, name_typed, pointer_typed, member_place, with_elements, first_element, pointed_at, dereferenced, checked_at, pointer_to, address, number_of, scalar_of, unary_typed, is_single_value, lacks_bounds, without_ptr, two_numbers, two_scalars, operator_along, summed, sum_typed, equated_values, equated, have_one_base, are_related, ordered_values, ordered, arithmetic, binary_typed, element_at, indexed, is_array, local_standing, OfUnknown, with_cell_bounds, cell_bounds, is_ended_element, zero_test, first_or_end, unknown_typed}
+use Rattle.region_typing_rules.specs.Expressions.{typed}
 use Rattle.bounds_flow_meaning.specs.Sums.{counted}
 use Rattle.region_typing_rules.specs.Typed as rules
 use Rattle.region_typing_rules.specs.Typed.{Frame, IsBoundedObject, IsEndedRow, HasElements, IsInForce, HasType, HasPlace, IsSimple, IsScalar, HasAccess, HasCellBounds}
@@ -170,16 +171,15 @@ module _ (g : Frame) (types : List CType) (s : Scope) where
     element_known : (k : ℕ) (m : Mode) (kind : Kind) (t : CType) → slice_get s.locals k ≡ Some (Pointer m kind t) → IsKnown s.structs t
     element_known k m kind t h = (of_element (IsKnown s.structs) s.locals k (Pointer m kind t) knows.file.closed.of_locals h).1
 
-    bounded_fits : (k : ℕ) (m : Mode) (kind : Kind) (t : CType) (b : Bounds) (site : Site) → Counts kind → slice_get s.locals k ≡ Some (Pointer m kind t) → (held_at s.flow.held k).bounds ≡ Some b
+    bounded_fits : (k : ℕ) (m : Mode) (kind : Kind) (t : CType) (b : Bounds) (site : Site) → Counts kind → 0 < size_of s.structs t → slice_get s.locals k ≡ Some (Pointer m kind t) → (held_at s.flow.held k).bounds ≡ Some b
         → FitsValue (Pointer m kind t) false (core.Local k (Some (at_node b (size_of s.structs t) (is_ended (Pointer m kind t)) site))) (For (OfLocal k))
-    bounded_fits k m kind t b site counts h e =
+    bounded_fits k m kind t b site counts bytes h e =
         let is = (knows.pointers k).bounds b e in
-        let same : is.element ≡ t = let own = is.own in cc in
         let size : size_of s.structs t ≡ size_of g.structs t = size_kept s.structs g.structs t knows.file.structs (element_known k m kind t h) in
-        let some : 0 < size_of g.structs t = subst (λ n. 0 < n) size (subst (λ c. 0 < size_of s.structs c) same is.some) in
+        let some : 0 < size_of g.structs t = subst (λ n. 0 < n) size bytes in
         let below : AreEndsBelow s.flow.vars b = subst (AreBoundsBelow s.flow.vars) e (held_below s.flow.vars s.flow.held k knows.flow.variables.below).bounds in
         record {
-          has_type = rules.bounded h (record { size = size; terminated = refl }) is.limited (record { ints = is.ints; base = λ q from. let pointer = is.base q from in (Pointer is.mode pointer.0 is.element, pointer.1) }) (is_in_force k b e);
+          has_type = rules.bounded h (record { size = size; terminated = refl }) is.limited is.named (is_in_force k b e);
           is_number = λ x. absurd (cc);
           stands = knows.locals k (Pointer m kind t) h;
           scalar = refl;
@@ -196,7 +196,11 @@ module _ (g : Frame) (types : List CType) (s : Scope) where
       where
         by : (o : Option Bounds) → (held_at s.flow.held k).bounds ≡ o → FitsValue (Pointer m kinds.Array t) false (core.Local k (in_force s.structs kinds.Array t (held_at s.flow.held k).bounds site)) (For (OfLocal k))
         by None e = rw e (subst (λ o. FitsValue (Pointer m kinds.Array t) false (noted_if o (core.Local k None)) (For (OfLocal k))) (no_row m _) (held_fits knows.locals (Pointer m kinds.Array t) k node refl h))
-        by (Some b) e = rw e (bounded_fits k m kinds.Array t b site tt h e)
+        by (Some b) e = with_bytes (nat_lt 0 (size_of s.structs t)) refl
+          where
+            with_bytes : (some : Bool) → nat_lt 0 (size_of s.structs t) ≡ some → FitsValue (Pointer m kinds.Array t) false (core.Local k (in_force s.structs kinds.Array t (held_at s.flow.held k).bounds site)) (For (OfLocal k))
+            with_bytes true some = rw (e, some) (bounded_fits k m kinds.Array t b site tt (ltb-true 0 (size_of s.structs t) some) h e)
+            with_bytes false none = rw (e, none) (subst (λ o. FitsValue (Pointer m kinds.Array t) false (noted_if o (core.Local k None)) (For (OfLocal k))) (no_row m _) (held_fits knows.locals (Pointer m kinds.Array t) k node refl h))
 
     -- the same of one that a zero ends
     ended_fits : (k : ℕ) (m : Mode) (t : CType) (site node : Site) → slice_get s.locals k ≡ Some (Pointer m kinds.Nt t) → Fits (with_bounds g.structs node (local_typed s.structs s.flow k (Pointer m kinds.Nt t) false site))
@@ -206,7 +210,7 @@ module _ (g : Frame) (types : List CType) (s : Scope) where
       where
         by : (o : Option Bounds) → (held_at s.flow.held k).bounds ≡ o → FitsValue (Pointer m kinds.Nt t) false (core.Local k (in_force s.structs kinds.Nt t (held_at s.flow.held k).bounds site)) (For (OfLocal k))
         by None e = rw e (subst (λ o. FitsValue (Pointer m kinds.Nt t) false (noted_if o (core.Local k None)) (For (OfLocal k))) (no_ended m _) (held_fits knows.locals (Pointer m kinds.Nt t) k node refl h))
-        by (Some b) e = rw e (bounded_fits k m kinds.Nt t b site tt h e)
+        by (Some b) e = rw e (bounded_fits k m kinds.Nt t b site tt (number_sized s.structs t (of_element (IsKnown s.structs) s.locals k (Pointer m kinds.Nt t) knows.file.closed.of_locals h).0) h e)
 
     -- the name of an array stands for no place
     standing_fits : (k : ℕ) (t : CType) (value : core.Expression) (array : Bool) → FitsValue t false value (For (OfLocal k)) → FitsValue t false value (local_standing array k)
@@ -240,7 +244,10 @@ module _ (g : Frame) (types : List CType) (s : Scope) where
     object_fits : (k : ℕ) (m : Mode) (kind : Kind) (u : CType) (b : Bounds) (at : Site) → Counts kind → IsBoundedObject g k m kind u b → IsKnown s.structs u → FitsNoted (pointer_typed s.structs k (Pointer m kind u) b at)
     object_fits k m kinds.One u b at counts is known site = absurd counts
     object_fits k m kinds.Array u b at counts is known site =
-        subst (λ o. FitsValue (Pointer m kinds.Array u) false (noted_if o (core.Load (Pointer m kinds.Array u) (core.Direct k 0) (Some (at_node b (size_of s.structs u) false at)))) (For (OfBounded k b))) (sym (no_row m _)) (object_value k m kinds.Array u b at counts is known)
+        let size : size_of s.structs u ≡ size_of g.structs u = size_kept s.structs g.structs u knows.file.structs known in
+        let bytes : nat_lt 0 (size_of s.structs u) ≡ true = ap (nat_lt 0) size ∙ le-leb 1 (size_of g.structs u) is.some in
+        rw bytes
+        (subst (λ o. FitsValue (Pointer m kinds.Array u) false (noted_if o (core.Load (Pointer m kinds.Array u) (core.Direct k 0) (Some (at_node b (size_of s.structs u) false at)))) (For (OfBounded k b))) (sym (no_row m _)) (object_value k m kinds.Array u b at counts is known))
     object_fits k m kinds.Nt u b at counts is known site =
         subst (λ o. FitsValue (Pointer m kinds.Nt u) false (noted_if o (core.Load (Pointer m kinds.Nt u) (core.Direct k 0) (Some (at_node b (size_of s.structs u) true at)))) (For (OfBounded k b))) (sym (no_ended m _)) (object_value k m kinds.Nt u b at counts is known)
 

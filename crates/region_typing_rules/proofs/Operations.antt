@@ -34,7 +34,7 @@ use Rattle.ckc_core.specs.Steps.{Result, locals_for, given, truth, number_of_tes
 use Rattle.ckc_core.specs.Meaning.{Knot, Setting, audit, bounds_of, cast_if, cast_to, cast_within, element, summed, value, values, place}
 use Rattle.region_typing_rules.specs.Scopes.{Scope}
 use Rattle.region_typing_rules.specs.Knowing.{when}
-use Rattle.region_typing_rules.specs.Expressions.{bounds_at}
+use Rattle.region_typing_rules.specs.Operands.{bounds_at}
 use Rattle.region_typing_rules.specs.DeclaredBounds.{row_of}
 use Rattle.bounds_flow_meaning.specs.Holding.{is_ended}
 use Rattle.region_typing_rules.specs.Verdicts.{picked}
@@ -710,7 +710,7 @@ module _ (g : Frame) (budget ticks : ℕ) where
           )))
 
       -- the term of the bounds comes to as many as stand before the zero, where one ends them
-      before_counted : (terminator : Terminator) (count : core.Expression) (n : Term) → typed.IsBeforeZero here.locals terminator count n → (z : ℤ) (u : State) → IsCounted count z u → IsBeforeZero terminator n z u
+      before_counted : (terminator : Terminator) (count : core.Expression) (n : Term) → typed.IsCountBeforeZero here.locals terminator count n → (z : ℤ) (u : State) → IsCounted count z u → IsBeforeZero terminator n z u
       before_counted _ count n (typed.all_of counts) z u is k e = is.1 n counts ∙ ap Some e
       before_counted _ count n (typed.all_before counts) z u is k e = is.1 n counts ∙ ap Some e
       before_counted _ _ _ (typed.all_but_last {n = m} few) z u is k e =

@@ -13,7 +13,7 @@ use Rattle.ckc_core.specs.declared.program.PointerBounds.{PointerBounds}
 use Rattle.ckc_core.specs.declared.program.Site.{Site}
 use Rattle.ckc_core.specs.Core as core
 use Rattle.region_typing_rules.specs.Scopes.{Scope}
-use Rattle.region_typing_rules.specs.Expressions.{bounds_at}
+use Rattle.region_typing_rules.specs.Operands.{bounds_at}
 use Rattle.region_typing_rules.specs.Typed as typed
 use Rattle.region_typing_rules.specs.Typed.{Frame, HasAccess, HasPlace, HasType, IsNodeOf}
 use Rattle.region_typing_rules.proofs.ReadElements.{AreRight, IsRightNode, IsRightPlace, IsRightPointer}

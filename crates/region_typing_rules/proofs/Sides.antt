@@ -9,7 +9,7 @@ use Rattle.ckc_core.specs.Core as core
 use Rattle.ckc_core.specs.Core.{Core, Parted}
 use Rattle.region_typing_rules.specs.Verdicts.{Passes, picked}
 use Rattle.region_typing_rules.specs.Scopes.{Signature, bounds_in}
-use Rattle.region_typing_rules.specs.Expressions.{is_import, side_number}
+use Rattle.region_typing_rules.specs.Calls.{is_import, side_number}
 use Rattle.region_typing_rules.specs.Strings.{texts_size, text_object}
 use Rattle.region_typing_rules.specs.Items.{Defined, Walk}
 use Rattle.region_typing_rules.specs.Cores.{body_of, import_of, definitions_of, core_of, small_core}

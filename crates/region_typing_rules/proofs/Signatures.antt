@@ -16,7 +16,7 @@ use Rattle.bounds_flow.specs.Pointers.{same_bounds, same_term}
 use Rattle.ckc_core.specs.States.{same_type}
 use Rattle.region_typing_rules.specs.Scopes.{Signature, WrittenBounds, function_named, bounds_in}
 use Rattle.region_typing_rules.specs.Types.{is_scalar}
-use Rattle.region_typing_rules.specs.Expressions.{is_import, counted, same_side, side_number}
+use Rattle.region_typing_rules.specs.Calls.{is_import, counted, same_side, side_number}
 use Rattle.region_typing_rules.specs.Items.{Defined, same_types, same_written, all_same_written, same_result, same_kind, agrees, all_scalar, scalar_result}
 use Rattle.region_typing_rules.specs.Cores.{body_of}
 use Rattle.region_typing_rules.proofs.Sides.{trusted_functions, trusted_bounds, trusted_results, tainted_functions}

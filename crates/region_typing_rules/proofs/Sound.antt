@@ -17,7 +17,7 @@ use Rattle.region_typing_rules.specs.Verdicts.{Verdict, Passes, Stops}
 use Rattle.region_typing_rules.specs.Scopes.{Scope}
 use Rattle.region_typing_rules.specs.Readings.{told}
 use Rattle.region_typing_rules.specs.Knowing.{assigned_in, hidden_by, when, cut, way_out, broken, continued, at_loop, marked, step_marked}
-use Rattle.region_typing_rules.specs.Statements.{Walked, both, behind_block, behind_branch, at_alternative, behind_both, behind_loop, before_step, in_loop, is_unchecked, condition, optional_condition, optional_step, first_part, alone, return, declaration, assigning, statement, statements}
+use Rattle.region_typing_rules.specs.Statements.{Walked, both, behind_block, behind_branch, at_alternative, behind_both, behind_loop, before_step, in_loop, is_unchecked, condition, optional_condition, optional_step, first_part, alone, return, declaration, assigning, bundle, statement, statements}
 use Rattle.region_typing_rules.proofs.Keeping.{IsAfter}
 use Rattle.region_typing_rules.proofs.Moving.{IsMovedTo, moved_here, effect_moves, knots_move}
 use Rattle.region_typing_rules.proofs.RightNodes.{right_typed}
@@ -32,7 +32,8 @@ use Rattle.ckc_tree.specs.Expressions.{Expression}
 use Rattle.pointer_modes.specs.Types.{CType}
 use Rattle.ckc_core.specs.States.{Value}
 use Rattle.ckc_core.specs.Meaning.{Knot, Setting, effect, effects, knot, value as value_of}
-use Rattle.region_typing_rules.specs.Expressions.{Places, Typed, Called, Gives as GivesValue, GivesNothing, call_typed, typed as typed_at}
+use Rattle.region_typing_rules.specs.Operands.{Places, Typed, Called, Gives as GivesValue, GivesNothing}
+use Rattle.region_typing_rules.specs.Expressions.{call_typed, typed as typed_at}
 use Rattle.region_typing_rules.specs.Statements.{meets_declared, returned, returned_nothing}
 use Rattle.region_typing_rules.specs.KnownIsSo.{declared_at, FitsAlike, IsKnown, IsOnWay, ChangesMarked, MarkedAlone}
 use Rattle.region_typing_rules.specs.ConditionsAreSo.{ConditionsAreSo}
@@ -51,7 +52,7 @@ use Rattle.region_typing_rules.proofs.Terms.{so_further}
 use Rattle.region_typing_rules.proofs.Alike.{alike_here, fits_moved}
 use Rattle.region_typing_rules.proofs.Assigns.{IsPlain}
 use Rattle.region_typing_rules.proofs.Marking.{IsMarked, call_only, covers_before, hidden_here, marked_within, statement_marked, step_marked_so, step_within}
-use Rattle.region_typing_rules.proofs.Declaring.{GoesOn, IsAt, Knots, assigning_goes, declaration_goes, first_goes, knows_here, nothing_goes, running, step_goes, ticking}
+use Rattle.region_typing_rules.proofs.Declaring.{GoesOn, IsAt, Knots, assigning_goes, bundle_goes, declaration_goes, first_goes, knows_here, nothing_goes, running, step_goes, ticking}
 use Rattle.region_typing_rules.proofs.Turns.{EndsIn, chosen_runs, loop_on, tested_goes}
 
 module _ (frame : Frame) (types : List CType) (all_scalar : AllByRecursion IsScalar types) (vars budget sandbox trusted : ℕ) where
@@ -343,7 +344,7 @@ module _ (frame : Frame) (types : List CType) (all_scalar : AllByRecursion IsSca
           (x_marks.only (λ y. slice_index_or marks y true) none (length-replicate (length g.locals) false) (covers_before (λ y. slice_index_or marks y true) behind marks (step_within g.visible step behind) (λ i e. e)))
           (y_marks.only (λ y. slice_index_or marks y true) behind ((marked_within (length g.locals) g.visible body none).many ∙ length-replicate (length g.locals) false) (λ i e. e))
           reaches (tested (before reaches)).typed (λ m calls' low' t at'. h.runs (middle reaches) m calls' low' t at') (λ m calls' low' t at'. k.runs reaches m calls' low' t at')
-          n low s s calls at.known (moved_here (λ y. slice_index_or marks y true) s) (at.known s (alike_here (length g.locals) s)).declared at.kept;
+          n low s s calls at.known (moved_here (λ y. slice_index_or marks y true) s) ((at.known s (alike_here (length g.locals) s)).declared w.between.settled.apart) at.kept;
     }
       where
         middle : Reached y.1 → Reached x.1
@@ -516,7 +517,7 @@ module _ (frame : Frame) (types : List CType) (all_scalar : AllByRecursion IsSca
     pub statement_sound : (at : Places) (g : Scope) (x : Statement) → IsWalk vars g → KnowsFile frame g → Promises (IsSound g) (statement at g x)
     statement_sound at g (s.Block mark inner span) w file =
         passing_promises (AreSound g) (IsSound g) (statements at g inner) _ (statements_sound at g inner w file) (λ v h. needs_promises (IsSound g) (not (is_unchecked mark || g.is_off)) E15 span _ (λ on. block_sound g w v h))
-    statement_sound at g (s.Bundle assignments span) w file = tt
+    statement_sound at g (s.Bundle assignments span) w file = goes_promised g (bundle at g assignments span) (bundle_goes frame types all_scalar vars budget sandbox trusted at g w file assignments span)
     statement_sound at g (s.Declare d span) w file = goes_promised g (declaration at g d) (declaration_goes frame types all_scalar vars budget sandbox trusted at g w file d)
     statement_sound at g (s.Assign a span) w file = goes_promised g (assigning at g a) (assigning_goes frame types all_scalar vars budget sandbox trusted at g w file a)
     statement_sound at g (s.CallAlone call span) w file =

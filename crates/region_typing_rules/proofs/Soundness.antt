@@ -29,7 +29,7 @@ use Rattle.ckc_core.specs.Meaning.{Knot, audit, bounds_of, cast_to, site_of, Tar
 use Rattle.region_typing_rules.specs.Types.{Counts, is_number}
 use Rattle.region_typing_rules.specs.Scopes.{Scope}
 use Rattle.region_typing_rules.specs.Knowing.{when}
-use Rattle.region_typing_rules.specs.Expressions.{one_element}
+use Rattle.region_typing_rules.specs.Operands.{one_element}
 use Rattle.bounds_flow_meaning.specs.Laws.{IsMoved}
 use Rattle.bounds_flow_meaning.specs.Holding.{target_size}
 use Rattle.region_typing_rules.specs.Readings.{Behind, behind_local, constant, is_pointer_type, toward}

@@ -31,9 +31,12 @@ use Rattle.ckc_names_rules.specs.declared.given.Given.{Given}
 use Rattle.region_typing_rules.specs.Verdicts.{Verdict, Passes, passing, meant}
 use Rattle.region_typing_rules.specs.Scopes.{Scope, Signature, WrittenBounds, FileVariable, Visible, Named, Local, Object, Array, Nothing, local_if, found_if, local_named, object_of, object_named, or_else, null_named, named, function_named, members_named}
 use Rattle.region_typing_rules.specs.Types.{type_named, is_number, is_pointer, are_comparable}
-use Rattle.region_typing_rules.specs.Expressions.{Places, OfLocal, OfCell, OfBounded, OfUnknown, Standing, ForNothing, ForArray, For, Typed, Value, AStruct, Called, Gives, GivesNothing, site_at, with_bounds, with_cell_bounds, in_cell, number, at_place, local_typed, name_typed, object_typed, is_array, local_standing}
-use Rattle.region_typing_rules.specs.Expressions.{struct_place, member_place, member_from, offset_among, member_at, dotted, with_elements, first_element, first_or_end, pointed_by, arrowed, pointed_at, dereferenced, address, number_of, scalar_of, unary_typed, two_numbers, two_scalars, operator_along, summed, sum_typed}
-use Rattle.region_typing_rules.specs.Expressions.{equated, zero_test, are_related, ordered_values, ordered, arithmetic, binary_typed, beside, element_at, indexed, arguments_as, is_import, call_of, declared_callee, first_of, writes, is_text, length_typed, text_pointer, measures, constant_typed, predefined_call, called, with_result, typed, all_typed, call_typed, cast_typed, cast_bounds}
+use Rattle.region_typing_rules.specs.Operands.{Places, OfLocal, OfCell, OfBounded, OfUnknown, Standing, ForNothing, ForArray, For, Typed, Value, AStruct, Called, Gives, GivesNothing, site_at, with_bounds, with_cell_bounds, in_cell, number, at_place, local_typed, name_typed, object_typed, is_array, local_standing}
+use Rattle.region_typing_rules.specs.Operands.{struct_place, member_place, member_from, offset_among, member_at, dotted, with_elements, first_element, first_or_end, pointed_by, arrowed, pointed_at, dereferenced, address, number_of, scalar_of, unary_typed, two_numbers, two_scalars, operator_along, summed, sum_typed}
+use Rattle.region_typing_rules.specs.Operands.{equated, zero_test, are_related, ordered_values, ordered, arithmetic, binary_typed, beside, element_at, indexed}
+use Rattle.region_typing_rules.specs.Calls.{arguments_as, is_import, call_of, declared_callee, first_of, writes, is_text, length_typed, text_pointer, measures, predefined_call, called, with_result}
+use Rattle.region_typing_rules.specs.NewMemory.{cast_typed, cast_bounds}
+use Rattle.region_typing_rules.specs.Expressions.{constant_typed, typed, all_typed, call_typed}
 use Rattle.region_typing_rules.specs.Knowing.{local_number}
 use Rattle.region_typing_rules.proofs.Knowledge.{crossing_promises}
 use Rattle.region_typing_rules.proofs.Verdicts.{Promises, passing_promises, needs_promises, convertible_promises, promised_so, elements_promise, apart_promises, all_met_promise}

@@ -4,7 +4,7 @@ use Rattle.std.specs.Prelude.{nat_lt, not, ◌||◌}
 use Rattle.std.specs.List.{AllByRecursion}
 use Rattle.ckc_core.specs.Meaning.{bounds_of}
 use Rattle.ckc_core.specs.declared.program.PointerBounds.{PointerBounds}
-use Rattle.bounds_flow.specs.Flows.{Knowledge}
+use Rattle.bounds_flow.specs.Flows.{Knowledge, in_bundle}
 use Rattle.ckc_text.specs.declared.place.Span.{Span}
 use Rattle.ckc_text.specs.declared.code.Code.TheVariants.{E08, E13, E15, E17, E18, E30}
 use Rattle.ckc_tree.specs.declared.stmt.StoreOperator.{StoreOperator}
@@ -13,7 +13,7 @@ use Rattle.ckc_tree.specs.Types.{TypeTree}
 use Rattle.ckc_tree.specs.Expressions.{Expression, expression_span}
 use Rattle.ckc_tree.specs.Statements as trees
 use Rattle.ckc_tree.specs.Statements.{Initializer, Declarator, Declaration, Assignment, assignment_span, ForInitial, Statement, Statements}
-use Rattle.ckc_tree.specs.Heights.{◌beside◌, type_reach, expression_reach, optional_expression_reach, optional_bounds_reach, optional_initializer_reach, declarator_reach, declarators_reach, declared_reach, assigned_reach, optional_assignment_reach, for_initial_reach, statement_reach, statements_reach}
+use Rattle.ckc_tree.specs.Heights.{◌beside◌, type_reach, expression_reach, optional_expression_reach, optional_bounds_reach, optional_initializer_reach, declarator_reach, declarators_reach, declared_reach, assigned_reach, optional_assignment_reach, for_initial_reach, statement_reach, statements_reach, assignment_reach, assignments_reach}
 use Rattle.pointer_modes.specs.Types.{CType, Int, Char, Struct, Pointer}
 use Rattle.ckc_core.specs.declared.program.Site.{Site}
 use Rattle.act_words.specs.declared.operator.Operator.{Operator}
@@ -25,12 +25,13 @@ use Rattle.ckc_core.specs.Stacks.{expression_stack, statement_stack, statements_
 use Rattle.region_typing_rules.specs.Verdicts.{Verdict, Passes, breaks}
 use Rattle.region_typing_rules.specs.Scopes.{Scope}
 use Rattle.region_typing_rules.specs.Types.{is_scalar, without_stars, base_type}
-use Rattle.region_typing_rules.specs.Expressions.{Places, Typed, Value, AStruct, Called, Gives, GivesNothing, Lvalue, OfLocal, OfCell, OfBounded, OfUnknown, ForNothing, ForArray, For, site_at, meets, sum_node, operator_along, typed, call_typed}
+use Rattle.region_typing_rules.specs.Operands.{Places, Typed, Value, AStruct, Called, Gives, GivesNothing, Lvalue, OfLocal, OfCell, OfBounded, OfUnknown, ForNothing, ForArray, For, site_at, meets, sum_node, operator_along}
+use Rattle.region_typing_rules.specs.Expressions.{typed, call_typed}
 use Rattle.region_typing_rules.specs.Cells.{is_length}
-use Rattle.region_typing_rules.specs.Statements.{Walked, store, update, assigned, set_to, declared_for, moved, updated_as, updated, stored, step_of, one, assignment, assigning, zero_value, with_local, initialised, bounded_local, declarator, declarators, declaration, at_alternative, before_step, in_loop, is_unchecked, condition, optional_condition, optional_step, first_part, alone, meets_declared, returned, returned_nothing, return, statement, statements, with_array, both, first_length}
+use Rattle.region_typing_rules.specs.Statements.{Walked, store, update, assigned, set_to, declared_for, moved, updated_as, updated, stored, step_of, one, assignment, assigning, zero_value, with_local, initialised, bounded_local, declarator, declarators, declaration, at_alternative, before_step, in_loop, is_unchecked, condition, optional_condition, optional_step, first_part, alone, meets_declared, returned, returned_nothing, return, statement, statements, with_array, both, first_length, assignments}
 use Rattle.region_typing_rules.specs.DeclaredBounds.{unwritten_bounds, declared_bounds}
-use Rattle.region_typing_rules.specs.Knowing.{when, at_loop, assigned_by}
-use Rattle.region_typing_rules.proofs.Assigning.{assigning_promises, declared_promises, settled_promises}
+use Rattle.region_typing_rules.specs.Knowing.{when, at_loop, assigned_by, knowing}
+use Rattle.region_typing_rules.proofs.Assigning.{assigning_promises, declared_promises, settled_promises, bundle_promises}
 use Rattle.region_typing_rules.proofs.Verdicts.{Promises, passing_promises, needs_promises, anything_promised, promised_so, both_promise, apart_promises, met_promises}
 use Rattle.region_typing_rules.proofs.Growth.{Grows, GrowsTo, IsNamedIn, named_further, base_named, alternative_grows, step_grows, declarator_grows, first_grows, statement_grows}
 use Rattle.region_typing_rules.proofs.Stacks.{beside_first, beside_second, around_higher, Low, LowPlace, LowCall, IsLow, HasFew, some_reach, number_of_low, scalar_of_low, two_low, converted_low, typed_low, call_typed_low}
@@ -220,13 +221,27 @@ module _ (at : Places) where
 
   -- ---- statements
 
+  -- assignments in a bundle
+  assignments_low : (s : Scope) → HaveFew s → (n : ℕ) (f : Knowledge) (written : List Assignment) → 17 * (assignments_reach written).height ≤ n → Promises (λ (w : core.Statements × Knowledge). statements_stack w.0 ≤ n) (assignments at (knowing f s) written)
+  assignments_low s few n f [] h = omega arith
+  assignments_low s few n f (a ∷ written) h =
+      let one = beside_first (assignment_reach a) (assignments_reach written) in
+      let two = beside_second (assignment_reach a) (assignments_reach written) in
+      let higher = around_higher (assignment_span a).from (assigned_reach a) in
+      let Low : core.Statements × Knowledge → Type 0 = λ w. statements_stack w.0 ≤ n in
+      passing_promises (IsLowStatement n) Low (assignment at (knowing f s) a) _ (assignment_low (knowing f s) few a n (omega arith))
+      (λ x low. passing_promises Low Low (assignments at (knowing (assigned_by s.locals x f) s) written) _ (assignments_low s few n (assigned_by s.locals x f) written (omega arith)) (λ rest low'. omega arith))
+
   mutual
     pub statement_low : (s : Scope) → HaveFew s → (x : Statement) (n : ℕ) → 17 * (statement_reach x).height ≤ n → Promises (BecomesLow n) (statement at s x)
     statement_low s few (trees.Block mark inner span) n h =
         let higher = around_higher span.from (statements_reach inner) in
         passing_promises (λ (w : core.Statements × Scope). statements_stack w.0 ≤ n) (BecomesLow n) (statements at s inner) _ (statements_low s few inner n (omega arith))
         (λ w low. needs_promises (BecomesLow n) (not (is_unchecked mark || s.is_off)) E15 span _ (λ on. low))
-    statement_low s few (trees.Bundle assignments span) n h = tt
+    statement_low s few (trees.Bundle written span) n h =
+        let higher = around_higher span.from (assignments_reach written) in
+        bundle_promises (λ (w : core.Statements × Knowledge). statements_stack w.0 ≤ n) (BecomesLow n) at s written span
+        (assignments_low s few n (in_bundle s.flow) written (omega arith)) (λ w k low. low)
     statement_low s few (trees.Declare d span) n h = let higher = around_higher span.from (declared_reach d) in declaration_low s few d n (omega arith)
     statement_low s few (trees.Assign a span) n h =
         let higher = around_higher span.from (assigned_reach a) in

@@ -10,7 +10,7 @@ use Rattle.ckc_tree.specs.Expressions.{Expression, expression_span}
 use Rattle.ckc_tree.specs.Statements as trees
 use Rattle.ckc_tree.specs.Statements.{Initializer, Declarator, Declaration, Assignment, ForInitial, Statement, Statements}
 use Rattle.ckc_tree.specs.Weights as tree
-use Rattle.bounds_flow.specs.Flows.{Knowledge}
+use Rattle.bounds_flow.specs.Flows.{Knowledge, in_bundle}
 use Rattle.pointer_modes.specs.Types.{CType, Int, Char, Struct, Pointer}
 use Rattle.ckc_core.specs.declared.program.Site.{Site}
 use Rattle.act_words.specs.declared.operator.Operator.{Operator}
@@ -22,12 +22,13 @@ use Rattle.ckc_core.specs.Weights.{expression_weight, statement_weight, statemen
 use Rattle.region_typing_rules.specs.Verdicts.{Verdict, Passes, breaks}
 use Rattle.region_typing_rules.specs.Scopes.{Scope}
 use Rattle.region_typing_rules.specs.Types.{is_scalar, without_stars, base_type}
-use Rattle.region_typing_rules.specs.Expressions.{Places, Typed, Value, AStruct, Called, Gives, GivesNothing, Lvalue, OfLocal, OfCell, OfBounded, OfUnknown, ForNothing, ForArray, For, site_at, meets, sum_node, operator_along, typed, call_typed}
+use Rattle.region_typing_rules.specs.Operands.{Places, Typed, Value, AStruct, Called, Gives, GivesNothing, Lvalue, OfLocal, OfCell, OfBounded, OfUnknown, ForNothing, ForArray, For, site_at, meets, sum_node, operator_along}
+use Rattle.region_typing_rules.specs.Expressions.{typed, call_typed}
 use Rattle.region_typing_rules.specs.Cells.{is_length}
 use Rattle.region_typing_rules.specs.Statements.{Walked, store, update, assigned, set_to, declared_for, moved, updated_as, updated, stored, step_of, one, assignment, zero_value, with_local, initialised, bounded_local, declarator, declarators, declaration, at_alternative, before_step, in_loop, is_unchecked, condition, optional_condition, optional_step, first_part, alone, meets_declared, returned, returned_nothing, return, statement, statements, with_array, both, length_of, first_length}
 use Rattle.region_typing_rules.specs.DeclaredBounds.{unwritten_bounds, declared_bounds}
-use Rattle.region_typing_rules.specs.Knowing.{when, at_loop, assigned_by}
-use Rattle.region_typing_rules.proofs.Assigning.{assigning_promises, declared_promises, settled_promises}
+use Rattle.region_typing_rules.specs.Knowing.{when, at_loop, assigned_by, knowing}
+use Rattle.region_typing_rules.proofs.Assigning.{assigning_promises, declared_promises, settled_promises, assignments_promise, bundle_promises}
 use Rattle.region_typing_rules.proofs.Verdicts.{Promises, passing_promises, needs_promises, anything_promised, promised_so, apart_promises, met_promises}
 use Rattle.region_typing_rules.proofs.Weights.{Light, LightPlace, LightCall, IsLight, node_there, number_of_light, scalar_of_light, two_light, converted_light, typed_light, call_typed_light}
 use Rattle.region_typing_rules.proofs.LocalArrays.{declarator_promises, memory_of, settled_array}
@@ -223,13 +224,21 @@ module _ (at : Places) where
   abbrev AreLight : Statements → core.Statements × Scope → Type 0
   AreLight xs w = statements_weight w.0 ≤ 5 * tree.statements_weight xs
 
+  abbrev LightAssignments : List Assignment → core.Statements × Knowledge → Type 0
+  LightAssignments written w = statements_weight w.0 ≤ 5 * tree.assignments_weight written
+
   mutual
     pub statement_light : (s : Scope) (x : Statement) → Promises (BecomesLight (5 * tree.statement_weight x)) (statement at s x)
     statement_light s (trees.Block mark inner span) =
         let all = 5 * tree.statement_weight (trees.Block mark inner span) in
         passing_promises (AreLight inner) (BecomesLight all) (statements at s inner) _ (statements_light s inner)
         (λ w light. needs_promises (BecomesLight all) (not (is_unchecked mark || s.is_off)) E15 span _ (λ on. omega arith))
-    statement_light s (trees.Bundle assignments span) = tt
+    statement_light s (trees.Bundle written span) =
+        let all = 5 * tree.statement_weight (trees.Bundle written span) in
+        bundle_promises (LightAssignments written) (BecomesLight all) at s written span
+        (assignments_promise (λ f a x. IsLightStatement (5 * tree.assignment_weight a) x) (λ f written w. LightAssignments written w) at s (λ f a. assignment_light (knowing f s) a) (λ f. omega arith)
+        (λ f a written x rest light others. omega (arith, light, others)) (in_bundle s.flow) written)
+        (λ w k light. omega (arith, light))
     statement_light s (trees.Declare d span) = declaration_light s d
     statement_light s (trees.Assign a span) =
         let all = 5 * tree.assignment_weight a in

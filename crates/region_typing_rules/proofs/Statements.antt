@@ -26,14 +26,15 @@ use Rattle.region_typing_rules.specs.Verdicts.{Verdict, Passes, picked}
 use Rattle.bounds_flow_meaning.specs.Holding.{IsInt, AreInts}
 use Rattle.region_typing_rules.specs.Scopes.{Scope}
 use Rattle.region_typing_rules.specs.Types.{is_number, Counts}
-use Rattle.region_typing_rules.specs.Expressions.{Places, Typed, Value, AStruct, ForNothing, ForArray, For, Called, Gives, GivesNothing, Lvalue, OfLocal, OfCell, OfBounded, site_at, typed, two_numbers, is_single_value, lacks_bounds, operator_along, sum_node, converted, bounds_met, meets, OfUnknown}
+use Rattle.region_typing_rules.specs.Operands.{Places, Typed, Value, AStruct, ForNothing, ForArray, For, Called, Gives, GivesNothing, Lvalue, OfLocal, OfCell, OfBounded, site_at, two_numbers, is_single_value, lacks_bounds, operator_along, sum_node, converted, bounds_met, meets, OfUnknown}
+use Rattle.region_typing_rules.specs.Expressions.{typed}
 use Rattle.region_typing_rules.specs.DeclaredBounds.{row_of, unwritten_bounds}
 use Rattle.region_typing_rules.specs.Statements.{both, store, updated_place, update, assigned, set_to, declared_for, meets_declared, moved, updated_as, updated, stored, step_of, one, assignment, zero_value, initialised, in_loop, condition, optional_condition, alone}
 use Rattle.region_typing_rules.specs.Typed as rules
 use Rattle.region_typing_rules.specs.Typed.{Frame, HasType, HasPlace, IsReturned, IsSimple, IsStatement, AreStatements, IsScalar, HasAccess, IsAsked}
 use Rattle.region_typing_rules.proofs.Verdicts.{Promises, passing_promises, needs_promises, Extends}
-use Rattle.region_typing_rules.proofs.InForce.{AreSo}
-use Rattle.region_typing_rules.proofs.Knowledge.{KnowsFile, IsPointing, Knows}
+use Rattle.region_typing_rules.proofs.InForce.{AreSo, IsPointing}
+use Rattle.region_typing_rules.proofs.Knowledge.{KnowsFile, Knows}
 use Rattle.region_typing_rules.proofs.Nodes.{IsRow}
 use Rattle.region_typing_rules.proofs.Operands.{FitsPlace, Fits, FitsCall, without_ptr_promises, number_of_promises, two_numbers_promise, sum_fits, scalar_of_promises}
 use Rattle.region_typing_rules.proofs.Conversions.{met_promises, converted_promises, so_converted, result_type_met, result_asked, row_asked}
@@ -236,7 +237,7 @@ module _ (g : Frame) (types : List CType) (all_scalar : AllByRecursion IsScalar 
   abbrev pub Reaches : Scope → Type 0
   Reaches s = Extends s.locals types
 
-  pub knows_from : (s : Scope) → KnowsFile g s → IsFlow s.flow → AreSo (IsPointing s) s.flow → length s.locals ≤ s.flow.vars → ((b : Bounds) → s.result_bounds ≡ Some b → AreInts s.locals b) → Reaches s → Knows g types s
+  pub knows_from : (s : Scope) → KnowsFile g s → IsFlow s.flow → AreSo (IsPointing s.locals) s.flow → length s.locals ≤ s.flow.vars → ((b : Bounds) → s.result_bounds ≡ Some b → AreInts s.locals b) → Reaches s → Knows g types s
   knows_from s file flow pointers few result reaches = record { file = file; flow = flow; pointers = pointers; few = few; result = result; locals = reaches; scalar = all_scalar }
 
   -- where its locals are reached, what is behind it has a type

@@ -33,7 +33,7 @@ use Rattle.ckc_core.specs.Bounds.{is_valid}
 use Rattle.ckc_core.specs.Steps.{Result, given, value_if, checked, arithmetic_of}
 use Rattle.ckc_core.specs.Meaning.{Knot, Setting, audit, sound_if, value}
 use Rattle.region_typing_rules.specs.Readings.{term}
-use Rattle.region_typing_rules.specs.Typed.{IsBeforeZero, all_of, all_before, all_but_last}
+use Rattle.region_typing_rules.specs.Typed.{IsCountBeforeZero, all_of, all_before, all_but_last}
 use Rattle.region_typing_rules.specs.KnownIsSo.{WhereGiven, HasLocals}
 use Rattle.region_typing_rules.proofs.Keeping.{IsAfter, CallsKeep, value_after}
 
@@ -179,7 +179,7 @@ term_formed types (core.Length pointer site) t h = absurd (cc)
 term_formed types (core.Cast pointer bounds) t h = absurd (cc)
 
 -- what the term of the bounds of new memory is
-pub before_formed : (types : List CType) (terminator : Terminator) (count : core.Expression) (n : Term) → IsBeforeZero types terminator count n → IsFormedTerm types n
+pub before_formed : (types : List CType) (terminator : Terminator) (count : core.Expression) (n : Term) → IsCountBeforeZero types terminator count n → IsFormedTerm types n
 before_formed types _ count n (all_of counts) = term_formed types count n counts
 before_formed types _ count n (all_before counts) = term_formed types count n counts
 before_formed types _ _ _ (all_but_last {n = m} few) = record { int = tt; small = is_within_limit (pos m) (le-leb m term_limit (omega (arith, few))) }

@@ -17,7 +17,7 @@ use Rattle.ckc_core.specs.States.{shape, object_block, initial_value}
 use Rattle.ckc_core.specs.Steps.{is_zero}
 use Rattle.region_typing_rules.specs.Verdicts.{Passes}
 use Rattle.region_typing_rules.specs.Strings.{FoundText, text_size, texts_size, text_from, char_cell, text_cells, text_object}
-use Rattle.region_typing_rules.specs.Expressions.{Typed, text_value, text_typed}
+use Rattle.region_typing_rules.specs.Operands.{Typed, text_value, text_typed}
 use Rattle.region_typing_rules.specs.Scopes.{Scope, Signature, bounds_in}
 use Rattle.region_typing_rules.specs.Statements.{with_local}
 use Rattle.region_typing_rules.specs.Knowing.{knowing}

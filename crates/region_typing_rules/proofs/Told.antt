@@ -1,5 +1,5 @@
 -- What is known behind a condition is so where it came out so.
-use Rattle.std.proofs.Common.{◌≡◌, ℕ, ◌<◌, ◌≤◌, ℤ, pos, Bool, true, false, List, length, Option, Some, None, refl, sym, ◌∙◌, ap, subst, arith}
+use Rattle.std.proofs.Common.{◌≡◌, ℕ, ◌<◌, ◌≤◌, ℤ, pos, Bool, true, false, cond, List, length, Option, Some, None, refl, sym, ◌∙◌, ap, subst, arith}
 use Rattle.std.specs.Prelude.{◌≢◌, not, slice_get, slice_index_or}
 use Rattle.std.proofs.lemmas.Option.{slice_get_within}
 use Rattle.act_words.specs.declared.operator.Comparison.{Comparison}
@@ -16,15 +16,17 @@ use Rattle.bounds_flow.specs.declared.steps.How.TheVariants as hows
 use Rattle.bounds_flow.specs.declared.steps.Test.{Test}
 use Rattle.bounds_flow.specs.declared.steps.Test.TheVariants.{NotNull, Compare}
 use Rattle.bounds_flow.specs.declared.held.Held.{Held}
-use Rattle.bounds_flow.specs.Pointers.{joined_with, with_bounds}
-use Rattle.bounds_flow.specs.Flows.{Knowledge, assumed, held_at, met, widened, wider}
+use Rattle.bounds_flow.specs.Pointers.{with_bounds}
+use Rattle.subsumption.specs.ClosedTables.{joined}
+use Rattle.bounds_flow.specs.Flows.{Knowledge, assumed, held_at, met, rejoined, rejoined_held, widened, wider}
 use Rattle.bounds_flow.specs.Conditions.{IsFlow, IsTestWithin}
 use Rattle.bounds_flow.proofs.FlowSteps.{are_kept}
 use Rattle.bounds_flow_meaning.specs.Holding.{Fits, HaveTypes, IsSettled, numbers_in}
 use Rattle.bounds_flow_meaning.specs.Zeros.{EndInZeros}
-use Rattle.bounds_flow_meaning.specs.Laws.{AreBeside, AreTested, compares}
+use Rattle.bounds_flow_meaning.specs.Laws.{AreBeside, AreTested, AreTold, compares}
 use Rattle.bounds_flow_meaning.proofs.AllSteps.{flows_hold}
 use Rattle.bounds_flow_meaning.proofs.Beside.{flows_stay_alike}
+use Rattle.bounds_flow_meaning.proofs.Rejoined.{rejoined_at}
 use Rattle.bounds_flow_meaning.proofs.Steps.{each_put}
 use Rattle.bounds_flow_meaning.proofs.Ways.{joined_at}
 use Rattle.bounds_flow_meaning.proofs.Numbers.{int_term}
@@ -39,7 +41,7 @@ use Rattle.ckc_core.specs.Meaning.{Knot, Setting, audit, value}
 use Rattle.region_typing_rules.specs.Verdicts.{picked}
 use Rattle.region_typing_rules.specs.Readings.{term, told, compared, is_null, null_told, pointer_local, same_told, element_told, elements_told, is_ended_local, place_told}
 use Rattle.region_typing_rules.specs.KnownIsSo.{WhereGiven, IsAlike, FitsAlike, HasLocals}
-use Rattle.region_typing_rules.proofs.Alike.{alike_here, has_after, has_alike, fits_after, types_alike, number_alike}
+use Rattle.region_typing_rules.proofs.Alike.{has_after, has_alike, fits_after, types_alike, number_alike}
 use Rattle.region_typing_rules.proofs.ReadElements.{AreRight, IsRightPlace, IsRightPointer, IsRightNode, IsLoaded, element_loaded, sum_loaded, widened_so}
 use Rattle.region_typing_rules.proofs.Keeping.{IsAfter, IsLater, after_on, later_here, CallsKeep, value_after, value_keeps}
 use Rattle.region_typing_rules.proofs.Terms.{so_on, so_always, so_both, so_further, audited_so, IsFormedTerm, term_formed, formed_within, formed_later, IsOfTerm, IsNumberOf, number_is, term_so}
@@ -116,54 +118,65 @@ null_is (core.Cast pointer bounds) h = absurd (cc)
 
 -- ---- flows between which a condition stands
 
--- two flows between which there are only tests
-pub record AreTold (f g : Knowledge) : Type 0 where
-  pub vars : g.vars ≡ f.vars
-  pub assigned : g.assigned ≡ f.assigned
-  pub declared : (p : ℕ) → (held_at g.held p).declared ≡ (held_at f.held p).declared
-  pub marks : (p : ℕ) → (held_at g.held p).mark ≡ (held_at f.held p).mark
-
 pub record IsTold (f h : Knowledge) : Type 0 where
   pub flow : IsFlow h
   pub tested : AreTold f h
 
 pub told_here : (f : Knowledge) → IsFlow f → IsTold f f
-told_here f flow = record { flow = flow; tested = record { vars = refl; assigned = refl; declared = λ p. refl; marks = λ p. refl } }
+told_here f flow = record { flow = flow; tested = record { vars = refl; assigned = refl; bundled = refl; declared = λ p. refl; marks = λ p. refl } }
 
 tested_here : (f : Knowledge) → AreTested f f
 tested_here f = record { vars = refl; assigned = refl; declared = λ p. refl; bounds = λ p. refl; marks = λ p. refl }
 
 -- behind a test that leaves bounds as they are
-told_tested : (f h k : Knowledge) → AreTold f h → AreTested h k → AreTold f k
-told_tested f h k t a = record {
+told_tested : (f h k : Knowledge) → k.bundled ≡ h.bundled → AreTold f h → AreTested h k → AreTold f k
+told_tested f h k bundled t a = record {
   vars = a.vars ∙ t.vars;
   assigned = a.assigned ∙ t.assigned;
+  bundled = bundled ∙ t.bundled;
   declared = λ p. a.declared p ∙ t.declared p;
   marks = λ p. a.marks p ∙ t.marks p;
 }
 
+assumed_bundled : (h : Knowledge) (test : Test) (truth : Bool) → (assumed test truth h).bundled ≡ h.bundled
+assumed_bundled h (NotNull p) true = refl
+assumed_bundled h (NotNull p) false = refl
+assumed_bundled h (Compare how a b) truth = refl
+
 assume_told : (f h : Knowledge) (test : Test) (truth : Bool) → IsTestWithin f.vars test → IsTold f h → IsTold f (assumed test truth h)
 assume_told f h test truth within t = record {
   flow = (are_kept.steps h t.flow).assume test truth (subst (λ n. IsTestWithin n test) (sym t.tested.vars) within);
-  tested = told_tested f h (assumed test truth h) t.tested ((flows_stay_alike.2 h h).assume test truth (tested_here h));
+  tested = told_tested f h (assumed test truth h) (assumed_bundled h test truth) t.tested ((flows_stay_alike.2 h h).assume test truth (tested_here h));
 }
 
-join_told : (f g h : Knowledge) → IsTold f g → IsTold f h → IsTold f (met g h)
-join_told f g h a b = record {
-  flow = (are_kept.steps g a.flow).join h b.flow (b.tested.vars ∙ sym a.tested.vars);
-  tested = record {
-    vars = a.tested.vars;
-    assigned = a.tested.assigned;
-    declared = λ p. ap (λ (h : Held). h.declared) (at p) ∙ a.tested.declared p;
-    marks = λ p. ap (λ (h : Held). h.mark) (at p) ∙ a.tested.marks p;
-  };
+-- where two ways through one expression meet
+rejoin_told : (f b g h : Knowledge) → IsTold f b → IsTold f g → IsTold f h → IsTold f (rejoined b g h)
+rejoin_told f b g h before one other = record {
+  flow = (are_kept.steps g one.flow).rejoin b h before.flow (before.tested.vars ∙ sym one.tested.vars) other.flow (other.tested.vars ∙ sym one.tested.vars);
+  tested = by b.bundled;
 }
   where
-    same : length g.held ≡ length h.held
-    same = a.flow.variables.pointers ∙ (a.tested.vars ∙ (sym b.tested.vars ∙ sym b.flow.variables.pointers))
+    near : length b.held ≡ length g.held
+    near = before.flow.variables.pointers ∙ (before.tested.vars ∙ (sym one.tested.vars ∙ sym one.flow.variables.pointers))
 
-    at : (p : ℕ) → held_at (met g h).held p ≡ joined_with (held_at g.held p) (held_at h.held p)
-    at p = joined_at g.held h.held same p
+    far : length g.held ≡ length h.held
+    far = one.flow.variables.pointers ∙ (one.tested.vars ∙ (sym other.tested.vars ∙ sym other.flow.variables.pointers))
+
+    by : (inside : Bool) → AreTold f (cond inside (record g { facts = joined g.vars g.facts h.facts; held = rejoined_held b.held g.held h.held }) (met g h))
+    by true = record {
+      vars = one.tested.vars;
+      assigned = one.tested.assigned;
+      bundled = one.tested.bundled;
+      declared = λ p. ap (λ (h : Held). h.declared) (rejoined_at b.held g.held h.held near far p) ∙ one.tested.declared p;
+      marks = λ p. ap (λ (h : Held). h.mark) (rejoined_at b.held g.held h.held near far p) ∙ one.tested.marks p;
+    }
+    by false = record {
+      vars = one.tested.vars;
+      assigned = one.tested.assigned;
+      bundled = one.tested.bundled;
+      declared = λ p. ap (λ (h : Held). h.declared) (joined_at g.held h.held far p) ∙ one.tested.declared p;
+      marks = λ p. ap (λ (h : Held). h.mark) (joined_at g.held h.held far p) ∙ one.tested.marks p;
+    }
 
 -- what became wider
 widened_told : (f h : Knowledge) (p : ℕ) (index : Term) → IsTold f h → IsTold f (widened p index h)
@@ -172,6 +185,7 @@ widened_told f h p index t = record {
   tested = record {
     vars = t.tested.vars;
     assigned = t.tested.assigned;
+    bundled = t.tested.bundled;
     declared = λ q. each_put (λ q k. k.declared ≡ (held_at f.held q).declared) h.held p (with_bounds wide (held_at h.held p)) (kept_declared wide ∙ t.tested.declared p) t.tested.declared q;
     marks = λ q. each_put (λ q k. k.mark ≡ (held_at f.held q).mark) h.held p (with_bounds wide (held_at h.held p)) (kept_mark wide ∙ t.tested.marks p) t.tested.marks q;
   };
@@ -193,10 +207,7 @@ pub told_beside : (f h : Knowledge) → IsTold f h → AreBeside f h
 told_beside f h t = record { vars = t.tested.vars; declared = t.tested.declared }
 
 pub told_settled : (f h : Knowledge) → IsTold f h → IsSettled f → IsSettled h
-told_settled f h t settled = record { marks = λ p. t.tested.marks p ∙ settled.marks p; assigned = λ y. subst (λ xs. slice_index_or xs y false ≡ false) (sym t.tested.assigned) (settled.assigned y) }
-
-both_beside : (f g h : Knowledge) → IsTold f g → IsTold f h → AreBeside g h
-both_beside f g h a b = record { vars = b.tested.vars ∙ sym a.tested.vars; declared = λ p. b.tested.declared p ∙ sym (a.tested.declared p) }
+told_settled f h t settled = record { marks = λ p. t.tested.marks p ∙ settled.marks p; assigned = λ y. subst (λ xs. slice_index_or xs y false ≡ false) (sym t.tested.assigned) (settled.assigned y); apart = t.tested.bundled ∙ settled.apart }
 
 module _ (types : List CType) (f : Knowledge) (few : length types ≤ f.vars) where
   null_is_told : (o : Option ℕ) (truth : Bool) (h : Knowledge) → ((p : ℕ) → o ≡ Some p → p < length types) → IsTold f h → IsTold f (null_told o truth h)
@@ -250,8 +261,8 @@ module _ (types : List CType) (f : Knowledge) (few : length types ≤ f.vars) wh
       picked_told (is_null right) (null_told (pointer_local types left) (not truth) h) _ (null_is_told (pointer_local types left) (not truth) h (pointer_below left) t)
       (picked_told (is_null left) (null_told (pointer_local types right) (not truth) h) h (null_is_told (pointer_local types right) (not truth) h (pointer_below right) t) t)
   told_is (core.AndAlso left right) true h t = told_is right true (told types left true h) (told_is left true h t)
-  told_is (core.AndAlso left right) false h t = join_told f (told types left false h) (told types right false (told types left true h)) (told_is left false h t) (told_is right false (told types left true h) (told_is left true h t))
-  told_is (core.OrElse left right) true h t = join_told f (told types left true h) (told types right true (told types left false h)) (told_is left true h t) (told_is right true (told types left false h) (told_is left false h t))
+  told_is (core.AndAlso left right) false h t = rejoin_told f h (told types left false h) (told types right false (told types left true h)) t (told_is left false h t) (told_is right false (told types left true h) (told_is left true h t))
+  told_is (core.OrElse left right) true h t = rejoin_told f h (told types left true h) (told types right true (told types left false h)) t (told_is left true h t) (told_is right true (told types left false h) (told_is left false h t))
   told_is (core.OrElse left right) false h t = told_is right false (told types left false h) (told_is left false h t)
   told_is (core.LowByte operand) truth h t = t
   told_is (core.Call callee arguments bounds) truth h t = t
@@ -337,9 +348,6 @@ module _ (audited : Bool) (g : Setting) (k : Knot) (calls : CallsKeep k) (struct
   fits_typed : (f : Knowledge) (s : State) → FitsAlike structs (length types) f s → HaveTypes s.locals
   fits_typed f s h = types_alike structs (length types) f s (λ w alike. (h w alike).holds)
 
-  fits_settled : (f : Knowledge) (s : State) → FitsAlike structs (length types) f s → IsSettled f
-  fits_settled f s h = (h s (alike_here (length types) s)).settled
-
   plain : (e : core.Expression) (f : Knowledge) (s : State) → IsFlow f → ((b : Bool) → told types e b f ≡ f) → FitsAlike structs (length types) f s → WhereGiven (Told e f) (value audited g k e s)
   plain e f s flow same h =
       so_further (λ v t. IsAfter s t) (Told e f) (value audited g k e s) (value_here e s) (λ v t after. subst (λ f. FitsAlike structs (length types) f t) (sym (same (truth v))) (fits_after structs (length types) f s t flow after h))
@@ -416,27 +424,27 @@ module _ (audited : Bool) (g : Setting) (k : Knot) (calls : CallsKeep k) (struct
   flow_behind : (e : core.Expression) (b : Bool) (f : Knowledge) → IsFlow f → length types ≤ f.vars → IsFlow (told types e b f)
   flow_behind e b f flow few = (told_is types f few e b f (told_here f flow)).flow
 
-  -- both ways through a condition
-  ways : (left right : core.Expression) (one other : Bool) (f : Knowledge) → IsFlow f → length types ≤ f.vars → AreBeside (told types left one f) (told types right one (told types left other f))
-  ways left right one other f flow few =
-      both_beside f (told types left one f) (told types right one (told types left other f)) (told_is types f few left one f (told_here f flow))
-      (told_is types f few right one (told types left other f) (told_is types f few left other f (told_here f flow)))
+  -- both ways through an expression
+  near_told : (left : core.Expression) (one : Bool) (f : Knowledge) → IsFlow f → length types ≤ f.vars → IsTold f (told types left one f)
+  near_told left one f flow few = told_is types f few left one f (told_here f flow)
 
-  far_flow : (left right : core.Expression) (one other : Bool) (f : Knowledge) → IsFlow f → length types ≤ f.vars → IsFlow (told types right one (told types left other f))
-  far_flow left right one other f flow few = (told_is types f few right one (told types left other f) (told_is types f few left other f (told_here f flow))).flow
-
-  near_settled : (left : core.Expression) (one : Bool) (f : Knowledge) → IsFlow f → length types ≤ f.vars → IsSettled f → IsSettled (told types left one f)
-  near_settled left one f flow few settled = told_settled f (told types left one f) (told_is types f few left one f (told_here f flow)) settled
+  far_told : (left right : core.Expression) (one other : Bool) (f : Knowledge) → IsFlow f → length types ≤ f.vars → IsTold f (told types right one (told types left other f))
+  far_told left right one other f flow few = told_is types f few right one (told types left other f) (near_told left other f flow few)
 
   -- the run took the one way, or the other
-  on_first : (left right : core.Expression) (one other : Bool) (f : Knowledge) → IsFlow f → length types ≤ f.vars → (s : State) → FitsAlike structs (length types) (told types left one f) s
-      → FitsAlike structs (length types) (met (told types left one f) (told types right one (told types left other f))) s
-  on_first left right one other f flow few s h w alike = (flows_hold structs (told types left one f) (flow_behind left one f flow few)).join_first _ w (far_flow left right one other f flow few) (ways left right one other f flow few) (h w alike)
+  on_first : (left right : core.Expression) (one other : Bool) (f : Knowledge) → IsFlow f → length types ≤ f.vars → (s : State) → FitsAlike structs (length types) f s → FitsAlike structs (length types) (told types left one f) s
+      → FitsAlike structs (length types) (rejoined f (told types left one f) (told types right one (told types left other f))) s
+  on_first left right one other f flow few s was h w alike =
+      let near = near_told left one f flow few in
+      let far = far_told left right one other f flow few in
+      (flows_hold structs (told types left one f) near.flow).rejoin_first f (told types right one (told types left other f)) w flow far.flow near.tested far.tested (was w alike) (h w alike)
 
-  on_second : (left right : core.Expression) (one other : Bool) (f : Knowledge) → IsFlow f → length types ≤ f.vars → IsSettled f → (s : State) → FitsAlike structs (length types) (told types right one (told types left other f)) s
-      → FitsAlike structs (length types) (met (told types left one f) (told types right one (told types left other f))) s
-  on_second left right one other f flow few settled s h w alike =
-      (flows_hold structs (told types left one f) (flow_behind left one f flow few)).join_second _ w (far_flow left right one other f flow few) (ways left right one other f flow few) (near_settled left one f flow few settled) (h w alike)
+  on_second : (left right : core.Expression) (one other : Bool) (f : Knowledge) → IsFlow f → length types ≤ f.vars → (s : State) → FitsAlike structs (length types) f s → FitsAlike structs (length types) (told types right one (told types left other f)) s
+      → FitsAlike structs (length types) (rejoined f (told types left one f) (told types right one (told types left other f))) s
+  on_second left right one other f flow few s was h w alike =
+      let near = near_told left one f flow few in
+      let far = far_told left right one other f flow few in
+      (flows_hold structs (told types left one f) near.flow).rejoin_second f (told types right one (told types left other f)) w flow far.flow near.tested far.tested (was w alike) (h w alike)
 
   -- ---- what an element tells
 
@@ -530,36 +538,32 @@ module _ (audited : Bool) (g : Setting) (k : Knot) (calls : CallsKeep k) (struct
       (λ b u y. same_so f flow few left right a b u (same_place a b) refl (λ p is l e. x.1.0 p is l (subst (λ ls. slice_get ls p ≡ Some l) y.0.1 e)) y.1.0 y.1.1 x.1.1 (has_after types s u (after_on s t u x.0 y.0) has) (fits_after structs (length types) f s u flow (after_on s t u x.0 y.0) h)))
   told_so (core.AndAlso left right) f flow few nodes s has zeros h =
       so_on (λ v t. IsKeptTold left f s v t) (Told (core.AndAlso left right) f) (value audited g k left s) _ (kept_told left f s (told_so left f flow few nodes.0 s has zeros h))
-      (λ a t x. by t (truth a) (λ has' zeros' h'. told_so right (told types left true f) (flow_behind left true f flow few) (few_behind left true f flow few) nodes.1 t has' zeros' h') (has_after types s t x.0.0 has) (x.0.1 zeros) x.1)
+      (λ a t x. by t (truth a) (fits_after structs (length types) f s t flow x.0.0 h) (λ has' zeros' h'. told_so right (told types left true f) (flow_behind left true f flow few) (few_behind left true f flow few) nodes.1 t has' zeros' h') (has_after types s t x.0.0 has) (x.0.1 zeros) x.1)
     where
-      settled : IsSettled f
-      settled = fits_settled f s h
+      behind : (b : Bool) (u : State) → FitsAlike structs (length types) f u → FitsAlike structs (length types) (told types right b (told types left true f)) u → FitsAlike structs (length types) (told types (core.AndAlso left right) (truth (number_of_test b)) f) u
+      behind true u was h = h
+      behind false u was h = on_second left right false true f flow few u was h
 
-      behind : (b : Bool) (u : State) → FitsAlike structs (length types) (told types right b (told types left true f)) u → FitsAlike structs (length types) (told types (core.AndAlso left right) (truth (number_of_test b)) f) u
-      behind true u h = h
-      behind false u h = on_second left right false true f flow few settled u h
-
-      by : (t : State) (c : Bool) → (HasLocals types t → EndInZeros t.blocks → FitsAlike structs (length types) (told types left true f) t → WhereGiven (Told right (told types left true f)) (value audited g k right t)) → HasLocals types t → EndInZeros t.blocks → FitsAlike structs (length types) (told types left c f) t
+      by : (t : State) (c : Bool) → FitsAlike structs (length types) f t → (HasLocals types t → EndInZeros t.blocks → FitsAlike structs (length types) (told types left true f) t → WhereGiven (Told right (told types left true f)) (value audited g k right t)) → HasLocals types t → EndInZeros t.blocks → FitsAlike structs (length types) (told types left c f) t
           → WhereGiven (Told (core.AndAlso left right) f) (choose c (and_then (value audited g k right t) (λ b u. Gives (number_of_test (truth b)) u)) (Gives (number_of_test false) t))
-      by t true again has zeros h =
-          so_on (Told right (told types left true f)) (Told (core.AndAlso left right) f) (value audited g k right t) _ (again has zeros h) (λ b u x. behind (truth b) u x)
-      by t false again has zeros h = on_first left right false true f flow few t h
+      by t true was again has zeros h =
+          so_on (λ b u. IsAfter t u × Told right (told types left true f) b u) (Told (core.AndAlso left right) f) (value audited g k right t) _
+          (so_both (λ b u. IsAfter t u) (Told right (told types left true f)) (value audited g k right t) (value_here right t) (again has zeros h)) (λ b u x. behind (truth b) u (fits_after structs (length types) f t u flow x.0 was) x.1)
+      by t false was again has zeros h = on_first left right false true f flow few t was h
   told_so (core.OrElse left right) f flow few nodes s has zeros h =
       so_on (λ v t. IsKeptTold left f s v t) (Told (core.OrElse left right) f) (value audited g k left s) _ (kept_told left f s (told_so left f flow few nodes.0 s has zeros h))
-      (λ a t x. by t (truth a) (λ has' zeros' h'. told_so right (told types left false f) (flow_behind left false f flow few) (few_behind left false f flow few) nodes.1 t has' zeros' h') (has_after types s t x.0.0 has) (x.0.1 zeros) x.1)
+      (λ a t x. by t (truth a) (fits_after structs (length types) f s t flow x.0.0 h) (λ has' zeros' h'. told_so right (told types left false f) (flow_behind left false f flow few) (few_behind left false f flow few) nodes.1 t has' zeros' h') (has_after types s t x.0.0 has) (x.0.1 zeros) x.1)
     where
-      settled : IsSettled f
-      settled = fits_settled f s h
+      behind : (b : Bool) (u : State) → FitsAlike structs (length types) f u → FitsAlike structs (length types) (told types right b (told types left false f)) u → FitsAlike structs (length types) (told types (core.OrElse left right) (truth (number_of_test b)) f) u
+      behind true u was h = on_second left right true false f flow few u was h
+      behind false u was h = h
 
-      behind : (b : Bool) (u : State) → FitsAlike structs (length types) (told types right b (told types left false f)) u → FitsAlike structs (length types) (told types (core.OrElse left right) (truth (number_of_test b)) f) u
-      behind true u h = on_second left right true false f flow few settled u h
-      behind false u h = h
-
-      by : (t : State) (c : Bool) → (HasLocals types t → EndInZeros t.blocks → FitsAlike structs (length types) (told types left false f) t → WhereGiven (Told right (told types left false f)) (value audited g k right t)) → HasLocals types t → EndInZeros t.blocks → FitsAlike structs (length types) (told types left c f) t
+      by : (t : State) (c : Bool) → FitsAlike structs (length types) f t → (HasLocals types t → EndInZeros t.blocks → FitsAlike structs (length types) (told types left false f) t → WhereGiven (Told right (told types left false f)) (value audited g k right t)) → HasLocals types t → EndInZeros t.blocks → FitsAlike structs (length types) (told types left c f) t
           → WhereGiven (Told (core.OrElse left right) f) (choose c (Gives (number_of_test true) t) (and_then (value audited g k right t) (λ b u. Gives (number_of_test (truth b)) u)))
-      by t true again has zeros h = on_first left right true false f flow few t h
-      by t false again has zeros h =
-          so_on (Told right (told types left false f)) (Told (core.OrElse left right) f) (value audited g k right t) _ (again has zeros h) (λ b u x. behind (truth b) u x)
+      by t true was again has zeros h = on_first left right true false f flow few t was h
+      by t false was again has zeros h =
+          so_on (λ b u. IsAfter t u × Told right (told types left false f) b u) (Told (core.OrElse left right) f) (value audited g k right t) _
+          (so_both (λ b u. IsAfter t u) (Told right (told types left false f)) (value audited g k right t) (value_here right t) (again has zeros h)) (λ b u x. behind (truth b) u (fits_after structs (length types) f t u flow x.0 was) x.1)
   told_so (core.LowByte operand) f flow few nodes s has zeros h = plain (core.LowByte operand) f s flow (λ b. refl) h
   told_so (core.Call callee arguments bounds) f flow few nodes s has zeros h = plain (core.Call callee arguments bounds) f s flow (λ b. refl) h
   told_so core.NextInput f flow few nodes s has zeros h = plain core.NextInput f s flow (λ b. refl) h

@@ -16,7 +16,8 @@ use Rattle.ckc_core.specs.Meaning.{bounds_of}
 use Rattle.region_typing_rules.specs.Verdicts.{picked}
 use Rattle.region_typing_rules.specs.Scopes.{Scope}
 use Rattle.region_typing_rules.specs.Readings.{own_bounds, based_bounds}
-use Rattle.region_typing_rules.specs.Expressions.{Places, Typed, Value, AStruct, typed}
+use Rattle.region_typing_rules.specs.Operands.{Places, Typed, Value, AStruct}
+use Rattle.region_typing_rules.specs.Expressions.{typed}
 use Rattle.region_typing_rules.specs.Knowing.{is_below, are_below, given_from, given_bounds}
 use Rattle.region_typing_rules.specs.Typed.{Frame}
 use Rattle.region_typing_rules.proofs.Verdicts.{Promises, promised_so}

@@ -180,16 +180,16 @@ module _ (structs : List Structure) (vars : ℕ) (g : Scope) (w : IsWalk vars g)
     head_at : AreDeclared structs g.flow.held v → Fits structs (at_head changed g.flow) v
     head_at declared =
         let few = w.few in let size = w.between.size in
-        (flows_hold structs g.flow w.between.flow).enter_loop changed mix v (All-from_recursion (λ x. x < g.flow.vars) changed (numbers_low 0 g.flow.vars marks (omega (arith, few, size, many)))) only declared (h mix mix_alike)
+        (flows_hold structs g.flow w.between.flow).enter_loop changed mix v (All-from_recursion (λ x. x < g.flow.vars) changed (numbers_low 0 g.flow.vars marks (omega (arith, few, size, many)))) only declared w.between.settled (h mix mix_alike)
 
   -- where in the state of the turn each pointer is valid with its declared bounds
   pub head_known : (s u : State) → IsKnown structs g s → IsMovedTo may s u → HasLocals g.locals u → AreDeclared structs g.flow.held u → FitsAlike structs (length g.locals) (at_head changed g.flow) u
   head_known s u h moved has declared v alike = head_at s u v h moved alike (declared_alike structs g.structs g.locals u v has alike g.flow.held (walk_declared vars g w) declared)
 
   -- a flow in which the same bounds are declared says so
-  pub declared_so : (f : Knowledge) (u : State) → ((p : ℕ) → p < length g.locals → declared_at f p ≡ declared_at g.flow p) → Fits structs f u → AreDeclared structs g.flow.held u
-  declared_so f u same h p l e = elim (below_or_beyond p (length g.locals)) [
-    | inl low ↦ subst (λ o. IsValid structs o l u) (same p low) (h.declared p l e)
+  pub declared_so : (f : Knowledge) (u : State) → f.bundled ≡ false → ((p : ℕ) → p < length g.locals → declared_at f p ≡ declared_at g.flow p) → Fits structs f u → AreDeclared structs g.flow.held u
+  declared_so f u apart same h p l e = elim (below_or_beyond p (length g.locals)) [
+    | inl low ↦ subst (λ o. IsValid structs o l u) (same p low) (h.declared apart p l e)
     | inr far ↦ subst (λ o. IsValid structs o l u) (sym (w.beyond p far)) tt
   ]
 
@@ -333,7 +333,7 @@ module _ (frame : Frame) (types : List CType) (all_scalar : AllByRecursion IsSca
       step_on n low s t knots enough turns moved at =
           runs_then frame budget n low types (λ flow u. (IsNext flow u × IsKnown structs' last u) × IsMovedTo changes t u) Q (effect true here (K n) y t) (on_next ((K n).turn c x y))
           (runs_both frame budget n low types (λ flow u. IsNext flow u × IsKnown structs' last u) (λ flow u. IsMovedTo changes t u) (effect true here (K n) y t) (y_runs n knots low t at) (moves n y t y_only))
-          (λ flow u k kept. subst (λ flow. Runs frame budget n low types Q (on_next ((K n).turn c x y) flow u)) (sym k.0.0) (turns low u enough (moved_on changes s t u moved k.1) (declared_so structs' vars g walk marks many last.flow u last_same (k.0.1 u (alike_here (length last.locals) u))) kept))
+          (λ flow u k kept. subst (λ flow. Runs frame budget n low types Q (on_next ((K n).turn c x y) flow u)) (sym k.0.0) (turns low u enough (moved_on changes s t u moved k.1) (declared_so structs' vars g walk marks many last.flow u last_walk.between.settled.apart last_same (k.0.1 u (alike_here (length last.locals) u))) kept))
 
       body_on : (n low : ℕ) (s t : State) → AllKnots n → suc budget ≤ low + n → Turns n s → IsMovedTo changes s t → Stands n low (in_loop (when c true head)) t
           → Runs frame budget n low types Q (and_then (effect true here (K n) x t) (behind_turn (λ u. and_then (effect true here (K n) y u) (on_next ((K n).turn c x y)))))

@@ -25,7 +25,8 @@ use Rattle.ckc_core.specs.Core as core
 use Rattle.ckc_core.specs.Core.{Core}
 use Rattle.region_typing_rules.specs.Verdicts.{Verdict, Passes, Stops, passing}
 use Rattle.region_typing_rules.specs.Scopes.{function_named, FileVariable}
-use Rattle.region_typing_rules.specs.Expressions.{Places, side_number}
+use Rattle.region_typing_rules.specs.Operands.{Places}
+use Rattle.region_typing_rules.specs.Calls.{side_number}
 use Rattle.region_typing_rules.specs.Strings.{texts_size, text_object}
 use Rattle.region_typing_rules.specs.Items.{Walk, walked, start, count_of, limited, variables_declared}
 use Rattle.region_typing_rules.specs.Cores.{body_of, small_core}

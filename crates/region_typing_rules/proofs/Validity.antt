@@ -15,7 +15,7 @@ use Rattle.ckc_core.specs.Outcome.{Gives}
 use Rattle.ckc_core.specs.States.{Value, Number, Null, At, Shape, State, shape, shapes}
 use Rattle.ckc_core.specs.Bounds.{Ends, with_ends, block_size, lie_within, is_valid}
 use Rattle.ckc_core.specs.Meaning.{sound_if, audit}
-use Rattle.region_typing_rules.specs.Expressions.{bounds_at}
+use Rattle.region_typing_rules.specs.Operands.{bounds_at}
 use Rattle.bounds_flow_meaning.specs.Rows.{IsPlace}
 use Rattle.region_typing_rules.specs.Typed.{HasValue}
 use Rattle.region_typing_rules.proofs.Values.{mapped_from}

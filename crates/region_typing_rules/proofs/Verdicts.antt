@@ -12,7 +12,8 @@ use Rattle.ckc_core.specs.Meaning.{bounds_of}
 use Rattle.region_typing_rules.specs.Verdicts.{Verdict, Passes, Stops, passing, needs}
 use Rattle.region_typing_rules.specs.Types.{converts}
 use Rattle.region_typing_rules.specs.Scopes.{WrittenBounds, bounds_in}
-use Rattle.region_typing_rules.specs.Expressions.{Typed, Value, AStruct, converted, with_elements, is_single_value, lacks_bounds, without_ptr, asked_of, meets, bounds_met, argument_meets, arguments_met}
+use Rattle.region_typing_rules.specs.Operands.{Typed, Value, AStruct, converted, with_elements, is_single_value, lacks_bounds, without_ptr, asked_of, meets, bounds_met}
+use Rattle.region_typing_rules.specs.Calls.{argument_meets, arguments_met}
 
 -- what is so of the value where no rule is broken
 abbrev pub Promises : {A : Type 0} → (A → Type 0) → Verdict A → Type 0

@@ -14,7 +14,7 @@ use Rattle.ckc_core.specs.Stacks.{statements_stack}
 use Rattle.region_typing_rules.specs.Verdicts.{picked}
 use Rattle.region_typing_rules.specs.Scopes.{Scope, Signature, WrittenBounds, FileVariable, bounds_in, function_named}
 use Rattle.region_typing_rules.specs.Types.{is_number}
-use Rattle.region_typing_rules.specs.Expressions.{is_import, side_number}
+use Rattle.region_typing_rules.specs.Calls.{is_import, side_number}
 use Rattle.region_typing_rules.specs.Strings.{text_object}
 use Rattle.region_typing_rules.specs.Items.{Defined, Walk, count_of}
 use Rattle.region_typing_rules.specs.Cores.{body_of}

@@ -42,15 +42,15 @@ way_further structs n m (Some f) s le h = fits_further structs n m f s le h
 
 module _ (structs : List Structure) (vars n : ℕ) (s : State) where
   pub fits_first : {known : List Structure} {types : List CType} (f g : Knowledge) → IsBetween known types vars f → IsBetween known types vars g → AreBeside f g → FitsAlike structs n f s → FitsAlike structs n (met f g) s
-  fits_first f g a b beside h t alike = (flows_hold structs f a.flow).join_first g t b.flow beside (h t alike)
+  fits_first f g a b beside h t alike = (flows_hold structs f a.flow).join_first g t b.flow beside a.settled (h t alike)
 
   pub fits_second : {known : List Structure} {types : List CType} (f g : Knowledge) → IsBetween known types vars f → IsBetween known types vars g → AreBeside f g → FitsAlike structs n g s → FitsAlike structs n (met f g) s
-  fits_second f g a b beside h t alike = (flows_hold structs f a.flow).join_second g t b.flow beside a.settled (h t alike)
+  fits_second f g a b beside h t alike = (flows_hold structs f a.flow).join_second g t b.flow beside a.settled b.settled (h t alike)
 
   pub fits_left : {known : List Structure} {types : List CType} (local count : ℕ) (f : Knowledge) → IsBetween known types vars f → local + count ≤ vars → FitsAlike structs n f s → FitsAlike structs n (without_locals local count f) s
   fits_left local zero f a low h = h
   fits_left local (suc count) f a low h =
-      fits_left (suc local) count (left local f) (between_without vars local 1 f a) (omega (arith, low)) (λ t alike. (flows_hold structs f a.flow).leave local t (let size = a.size in omega (arith, low, size)) (h t alike))
+      fits_left (suc local) count (left local f) (between_without vars local 1 f a) (omega (arith, low)) (λ t alike. (flows_hold structs f a.flow).leave local t (let size = a.size in omega (arith, low, size)) a.settled (h t alike))
 
   module _ (known : List Structure) (types : List CType) (out : ℕ) (f : Knowledge) where
     -- a way more

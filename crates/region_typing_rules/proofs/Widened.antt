@@ -409,9 +409,12 @@ module _ (structs : List Structure) (f : Knowledge) (flow : IsFlow f) (s : State
       pointers = each_set (λ q h. (l : Local) → slice_get s.locals q ≡ Some l → IsHeld structs f.assigned h l s) f.held p (with_bounds wide held)
           (λ l e. one_widened h.holds.met wide refl l e (h.holds.pointers p l e)) (λ l e. none_held structs f.assigned l s) (λ q ne l e. h.holds.pointers q l e);
     };
-    settled = record {
-      marks = each_set (λ q h. h.mark ≡ marks.Settled) f.held p (with_bounds wide held) (kept_mark wide (h.settled.marks p)) refl (λ q ne. h.settled.marks q);
-      assigned = h.settled.assigned;
-    };
-    declared = each_set (λ q h. (l : Local) → slice_get s.locals q ≡ Some l → IsValid structs h.declared l s) f.held p (with_bounds wide held) (λ l e. kept_declared wide l (h.declared p l e)) (λ l e. tt) (λ q ne. h.declared q);
+    settled = λ apart. (
+        let settled = h.settled apart in
+        record {
+          marks = each_set (λ q h. h.mark ≡ marks.Settled) f.held p (with_bounds wide held) (kept_mark wide (settled.marks p)) refl (λ q ne. settled.marks q);
+          assigned = settled.assigned;
+          apart = apart;
+        });
+    declared = λ apart. each_set (λ q h. (l : Local) → slice_get s.locals q ≡ Some l → IsValid structs h.declared l s) f.held p (with_bounds wide held) (λ l e. kept_declared wide l (h.declared apart p l e)) (λ l e. tt) (λ q ne. h.declared apart q);
   }

@@ -4,7 +4,7 @@ use Rattle.std.proofs.Common.{ℤ}
 use Rattle.bounds_exprs.specs.declared.term.Term.{Term}
 use Rattle.bounds_exprs.specs.declared.term.Bounds.{Bounds}
 use Rattle.region_typing_rules.specs.Scopes.{WrittenBounds}
-use Rattle.region_typing_rules.specs.Expressions.{at_call, result_at}
+use Rattle.region_typing_rules.specs.Calls.{at_call, result_at}
 use Rattle.region_typing_rules.specs.Items.{all_same_written}
 
 abbrev variable : ℕ → ℤ → Term

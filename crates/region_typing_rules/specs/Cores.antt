@@ -11,7 +11,8 @@ use Rattle.ckc_core.specs.Core as core
 use Rattle.ckc_core.specs.Core.{Core}
 use Rattle.region_typing_rules.specs.Verdicts.{Verdict, Passes, Breaks, passing, needs, picked}
 use Rattle.region_typing_rules.specs.Scopes.{Signature}
-use Rattle.region_typing_rules.specs.Expressions.{Places, is_import, side_number}
+use Rattle.region_typing_rules.specs.Operands.{Places}
+use Rattle.region_typing_rules.specs.Calls.{is_import, side_number}
 use Rattle.region_typing_rules.specs.Items.{Defined, Walk, walked}
 use Rattle.region_typing_rules.specs.Strings.{texts_size, text_object}
 

@@ -13,7 +13,7 @@ use Rattle.ckc_core.specs.Core as core
 use Rattle.ckc_core.specs.Programs.{open_variable}
 use Rattle.region_typing_rules.specs.Verdicts.{Verdict, Passes, breaks}
 use Rattle.region_typing_rules.specs.Scopes.{Object, WrittenBounds}
-use Rattle.region_typing_rules.specs.Expressions.{Typed, Value, For, ForNothing, OfBounded, OfCell, address, name_typed}
+use Rattle.region_typing_rules.specs.Operands.{Typed, Value, For, ForNothing, OfBounded, OfCell, address, name_typed}
 use Rattle.region_typing_rules.specs.Statements.{moved, set_to}
 use Rattle.region_typing_rules.specs.Items.{object_bounds, variable_of}
 use Rattle.region_typing_rules.specs.MemoryExamples.{at_node, from_to, here, name, number, row, scope, site, term, three}

@@ -40,7 +40,9 @@ use Rattle.region_typing_rules.specs.Verdicts.{Verdict, Passes, Stops, passing, 
 use Rattle.region_typing_rules.specs.Scopes.{Scope, Signature, Visible, WrittenBounds, bounds_in, struct_named, function_named}
 use Rattle.region_typing_rules.specs.Types.{base_type, without_stars, type_named, is_scalar}
 use Rattle.region_typing_rules.specs.Cells.{is_length, cells_with}
-use Rattle.region_typing_rules.specs.Expressions.{Places, Typed, Value, AStruct, is_tainted, typed}
+use Rattle.region_typing_rules.specs.Operands.{Places, Typed, Value, AStruct}
+use Rattle.region_typing_rules.specs.Calls.{is_tainted}
+use Rattle.region_typing_rules.specs.Expressions.{typed}
 use Rattle.region_typing_rules.specs.Strings.{texts_size}
 use Rattle.region_typing_rules.specs.DeclaredBounds.{declared_bounds}
 use Rattle.region_typing_rules.specs.KeptParameters.{all_changed}

@@ -17,7 +17,7 @@ use Rattle.region_typing_rules.specs.Knowing.{marked}
 use Rattle.region_typing_rules.specs.Verdicts.{Passes}
 use Rattle.region_typing_rules.specs.Scopes.{Scope}
 use Rattle.region_typing_rules.specs.Types.{Counts}
-use Rattle.region_typing_rules.specs.Expressions.{Places}
+use Rattle.region_typing_rules.specs.Operands.{Places}
 use Rattle.region_typing_rules.specs.Statements.{Walked, statement}
 
 -- ---- what a step leads to

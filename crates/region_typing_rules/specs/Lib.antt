@@ -3,6 +3,9 @@ pub mod Scopes
 pub mod Strings
 pub mod Types
 pub mod Cells
+pub mod Operands
+pub mod Calls
+pub mod NewMemory
 pub mod Expressions
 pub mod DeclaredBounds
 pub mod DeclaredFormed
@@ -26,3 +29,4 @@ pub mod MemoryExamples
 pub mod FileLevelExamples
 pub mod EndedExamples
 pub mod StringExamples
+pub mod BundleExamples

@@ -28,7 +28,8 @@ use Rattle.ckc_core.specs.Core as core
 use Rattle.region_typing_rules.specs.Verdicts.{Verdict, Passes, passing, breaks}
 use Rattle.region_typing_rules.specs.Scopes.{Scope, Local}
 use Rattle.region_typing_rules.specs.Readings.{based_bounds}
-use Rattle.region_typing_rules.specs.Expressions.{Typed, Value, ForArray, For, OfLocal, plain, elements_in, has_base, cast_typed, is_array, name_typed}
+use Rattle.region_typing_rules.specs.Operands.{Typed, Value, ForArray, For, OfLocal, plain, is_array, name_typed}
+use Rattle.region_typing_rules.specs.NewMemory.{elements_in, has_base, cast_typed}
 use Rattle.region_typing_rules.specs.Statements.{both, assigned, declarator}
 use Rattle.region_typing_rules.specs.Items.{nothing_known}
 

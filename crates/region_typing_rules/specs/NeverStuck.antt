@@ -14,7 +14,7 @@ use Rattle.ckc_core.specs.Core.{Core}
 use Rattle.ckc_core.specs.States.{State}
 use Rattle.ckc_core.specs.Meaning.{meaning, audited_meaning}
 use Rattle.region_typing_rules.specs.Verdicts.{Passes}
-use Rattle.region_typing_rules.specs.Expressions.{Places}
+use Rattle.region_typing_rules.specs.Operands.{Places}
 use Rattle.region_typing_rules.specs.Cores.{checked}
 
 -- the program has a core: it has only forms that are built, each name has one meaning and `main` is there, and no rule is broken

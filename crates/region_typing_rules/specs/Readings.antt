@@ -8,7 +8,7 @@ use Rattle.bounds_exprs.specs.Changes.{moved_by}
 use Rattle.bounds_flow.specs.declared.steps.How.{How}
 use Rattle.bounds_flow.specs.declared.steps.How.TheVariants as hows
 use Rattle.bounds_flow.specs.declared.steps.Test.TheVariants.{NotNull, Compare}
-use Rattle.bounds_flow.specs.Flows.{Knowledge, variable, held_at, assumed, met, widened}
+use Rattle.bounds_flow.specs.Flows.{Knowledge, variable, held_at, assumed, rejoined, widened}
 use Rattle.pointer_modes.specs.declared.ctype.Mode.TheVariants as modes
 use Rattle.pointer_modes.specs.declared.ctype.Kind.TheVariants as kinds
 use Rattle.pointer_modes.specs.Types.{CType, Int, Pointer}
@@ -213,8 +213,8 @@ place_told types _ f = f
 -- what is known behind a condition that came out so
 abbrev pub told : List CType → core.Expression → Bool → Knowledge → Knowledge
 told types (core.AndAlso left right) true f = told types right true (told types left true f)
-told types (core.AndAlso left right) false f = met (told types left false f) (told types right false (told types left true f))
-told types (core.OrElse left right) true f = met (told types left true f) (told types right true (told types left false f))
+told types (core.AndAlso left right) false f = rejoined f (told types left false f) (told types right false (told types left true f))
+told types (core.OrElse left right) true f = rejoined f (told types left true f) (told types right true (told types left false f))
 told types (core.OrElse left right) false f = told types right false (told types left false f)
 told types (core.Not operand) truth f = told types operand (not truth) f
 told types (core.Compare comparison left right) truth f = compared comparison (term types left) (term types right) truth f

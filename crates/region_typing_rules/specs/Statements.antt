@@ -1,7 +1,7 @@
 -- The rules of statements, in the order in which they are asked of a node behind its children.
-use Rattle.std.specs.Prelude.{◌&&◌, ◌-◌, ℕ, Bool, true, false, not, ◌||◌, nat_lt, List, [], ◌∷◌, ◌++◌, length, Option, Some, None, option_map, pos}
+use Rattle.std.specs.Prelude.{◌&&◌, ◌-◌, ℕ, Bool, true, false, not, ◌||◌, nat_lt, List, [], ◌∷◌, ◌++◌, length, Option, Some, None, is_some, option_map, pos}
 use Rattle.ckc_text.specs.declared.place.Span.{Span}
-use Rattle.ckc_text.specs.declared.code.Code.TheVariants.{E08, E12, E13, E15, E18, E30, E17}
+use Rattle.ckc_text.specs.declared.code.Code.TheVariants.{E08, E12, E13, E15, E17, E18, E21, E30}
 use Rattle.ckc_tree.specs.declared.stmt.Mark.{Mark}
 use Rattle.ckc_tree.specs.declared.stmt.Mark.TheVariants as marks
 use Rattle.ckc_tree.specs.declared.stmt.StoreOperator.{StoreOperator}
@@ -16,7 +16,7 @@ use Rattle.ckc_tree.specs.Expressions as e
 use Rattle.ckc_tree.specs.Expressions.{Expression, expression_span}
 use Rattle.ckc_tree.specs.Statements as s
 use Rattle.ckc_tree.specs.Statements.{Initializer, Declarator, Declaration, Assignment, assignment_span, ForInitial, Statement, Statements}
-use Rattle.bounds_flow.specs.Flows.{Knowledge, entered, met}
+use Rattle.bounds_flow.specs.Flows.{Knowledge, entered, in_bundle, met}
 use Rattle.pointer_modes.specs.declared.ctype.Mode.TheVariants as modes
 use Rattle.pointer_modes.specs.declared.ctype.Kind.{Kind}
 use Rattle.pointer_modes.specs.declared.ctype.Kind.TheVariants as kinds
@@ -31,16 +31,18 @@ use Rattle.ckc_core.specs.declared.program.Terminator.TheVariants as terminators
 use Rattle.ckc_core.specs.Core as core
 use Rattle.ckc_core.specs.Steps.{is_char}
 use Rattle.region_typing_rules.specs.Verdicts.{Verdict, Passes, passing, needs, breaks}
-use Rattle.region_typing_rules.specs.Scopes.{Scope}
+use Rattle.region_typing_rules.specs.Scopes.{Scope, Visible}
 use Rattle.region_typing_rules.specs.Types.{is_scalar, may_lead_to, without_stars, base_type}
-use Rattle.region_typing_rules.specs.Expressions.{Places, Typed, Value, AStruct, ForNothing, ForArray, For, Called, Gives, GivesNothing, asked_of, meets}
-use Rattle.region_typing_rules.specs.Expressions.{Lvalue, OfLocal, OfCell, OfBounded, OfUnknown, site_at}
-use Rattle.region_typing_rules.specs.Expressions.{typed, call_typed, scalar_of, converted, bounds_met, number_of, two_numbers}
-use Rattle.region_typing_rules.specs.Expressions.{without_ptr, operator_along, sum_node, allocation, ended_allocation}
+use Rattle.region_typing_rules.specs.Operands.{Places, Typed, Value, AStruct, ForNothing, ForArray, For, Called, Gives, GivesNothing, asked_of, meets}
+use Rattle.region_typing_rules.specs.Operands.{Lvalue, OfLocal, OfCell, OfBounded, OfUnknown, site_at}
+use Rattle.region_typing_rules.specs.Operands.{scalar_of, converted, bounds_met, number_of, two_numbers}
+use Rattle.region_typing_rules.specs.Expressions.{typed, call_typed}
+use Rattle.region_typing_rules.specs.Operands.{without_ptr, operator_along, sum_node}
+use Rattle.region_typing_rules.specs.NewMemory.{allocation, ended_allocation}
 use Rattle.region_typing_rules.specs.Cells.{is_length}
 use Rattle.region_typing_rules.specs.DeclaredBounds.{row_of, unwritten_bounds, declared_bounds}
 use Rattle.region_typing_rules.specs.Readings.{told}
-use Rattle.region_typing_rules.specs.Knowing.{assigned_by, settling, outside_of, knowing, when, cut, broken, continued, with_others, at_loop}
+use Rattle.region_typing_rules.specs.Knowing.{assigned_by, local_number, settling, outside_of, knowing, when, cut, broken, continued, with_others, at_loop}
 
 -- what a statement becomes, and what is known behind it
 abbrev pub Walked : Type 0
@@ -137,6 +139,34 @@ abbrev pub assigning : Places → Scope → Assignment → Verdict Walked
 assigning at g a =
     passing (assignment at g a) (λ x.
     passing (settling (assigned_by g.locals x g.flow) (assignment_span a)) (λ f. Passes (x, knowing f g)))
+
+-- ---- bundles
+
+-- assignments in a bundle, and what is known behind them: none is settled
+abbrev pub assignments : Places → Scope → List Assignment → Verdict (core.Statements × Knowledge)
+assignments at g [] = Passes (core.NoMore, g.flow)
+assignments at g (a ∷ written) =
+    passing (assignment at g a) (λ x.
+    passing (assignments at (knowing (assigned_by g.locals x g.flow) g) written) (λ rest. Passes (core.Then x rest.0, rest.1)))
+
+abbrev pub target_of : Assignment → Expression
+target_of (s.Store operator target value span) = target
+target_of (s.Step operator side target span) = target
+
+abbrev is_local : List Visible → Expression → Bool
+is_local visible (e.Name name) = is_some (local_number visible name.number)
+is_local visible _ = false
+
+abbrev pub are_locals : List Visible → List Assignment → Bool
+are_locals visible [] = true
+are_locals visible (a ∷ written) = is_local visible (target_of a) && are_locals visible written
+
+-- targets-are-locals, as no struct of the source has members whose bounds name others: E21. bounds-are-kept, behind the last assignment: E20, E17
+abbrev pub bundle : Places → Scope → List Assignment → Span → Verdict Walked
+bundle at g written span =
+    passing (assignments at (knowing (in_bundle g.flow) g) written) (λ w.
+    needs (are_locals g.visible written) E21 span
+    (passing (settling w.1 span) (λ f. Passes (core.Block w.0, knowing f g))))
 
 -- ---- locals
 
@@ -375,7 +405,7 @@ return at g (Some e) span = passing (typed at g e) (λ t. returned g.flow g.resu
 abbrev mutual
   pub statement : Places → Scope → Statement → Verdict Walked
   statement at g (s.Block mark inner span) = passing (statements at g inner) (λ w. is_checked g mark span (Passes (core.Block w.0, behind_block g w.1)))
-  statement at g (s.Bundle assignments span) = breaks E13 span
+  statement at g (s.Bundle assignments span) = bundle at g assignments span
   statement at g (s.Declare d span) = declaration at g d
   statement at g (s.Assign a span) = assigning at g a
   statement at g (s.CallAlone call span) = passing (call_typed at g call) (λ c. Passes (alone c, g))

@@ -12,7 +12,8 @@ use Rattle.region_typing_rules.specs.Verdicts.{Verdict, Passes, breaks}
 use Rattle.region_typing_rules.specs.Scopes.{Scope}
 use Rattle.region_typing_rules.specs.DeclaredBounds.{declared_bounds, row_of}
 use Rattle.region_typing_rules.specs.Strings.{text_size, texts_size, text_object}
-use Rattle.region_typing_rules.specs.Expressions.{Places, Typed, Value, ForNothing, address, site_at, typed}
+use Rattle.region_typing_rules.specs.Operands.{Places, Typed, Value, ForNothing, address, site_at}
+use Rattle.region_typing_rules.specs.Expressions.{typed}
 use Rattle.region_typing_rules.specs.MemoryExamples.{scope as plain_scope}
 
 abbrev span_at : ℕ → Span

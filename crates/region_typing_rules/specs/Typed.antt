@@ -37,7 +37,8 @@ use Rattle.region_typing_rules.specs.Types.{Counts, is_number, is_scalar}
 use Rattle.region_typing_rules.specs.Scopes.{Scope}
 use Rattle.region_typing_rules.specs.Knowing.{when}
 use Rattle.region_typing_rules.specs.Readings.{constant, against, term, pointer_local, own_bounds, based_bounds}
-use Rattle.region_typing_rules.specs.Expressions.{bounds_at, one_element, at_call}
+use Rattle.region_typing_rules.specs.Operands.{bounds_at, one_element}
+use Rattle.region_typing_rules.specs.Calls.{at_call}
 use Rattle.region_typing_rules.specs.DeclaredBounds.{row_of}
 use Rattle.region_typing_rules.specs.KnownIsSo.{HasLocals, IsKnown, AreLimited}
 use Rattle.region_typing_rules.specs.Lowerable.{IsRoomy}
@@ -254,22 +255,22 @@ pub record IsNewNumber (structs : List Structure) (t : CType) (element : List In
 
 -- as many elements as a term comes to stand before the zero, where one ends as many as are counted: the term is that of their number, or, where the
 -- zero is the last one of them, one less
-pub data IsBeforeZero (types : List CType) : Terminator → Expression → Term → Type 0 where
-  all_of : {count : Expression} {n : Term} → term types count ≡ Some n → IsBeforeZero types terminators.Absent count n
-  all_before : {count : Expression} {n : Term} → term types count ≡ Some n → IsBeforeZero types terminators.Behind count n
-  all_but_last : {n : ℕ} → n < 2 ^ 31 → IsBeforeZero types terminators.Last (core.Number (pos (suc n))) (constant_term (pos n))
+pub data IsCountBeforeZero (types : List CType) : Terminator → Expression → Term → Type 0 where
+  all_of : {count : Expression} {n : Term} → term types count ≡ Some n → IsCountBeforeZero types terminators.Absent count n
+  all_before : {count : Expression} {n : Term} → term types count ≡ Some n → IsCountBeforeZero types terminators.Behind count n
+  all_but_last : {n : ℕ} → n < 2 ^ 31 → IsCountBeforeZero types terminators.Last (core.Number (pos (suc n))) (constant_term (pos n))
 
 -- The bounds of new memory: they are unknown, or those of as many elements as a term comes to.
 pub data AreNewBounds (structs : List Structure) (types : List CType) (terminator : Terminator) (count : Expression) (t : CType) :
     Option PointerBounds → Type 0 where
   uncounted : AreNewBounds structs types terminator count t None
-  by_term : {n : Term} {site : Site} → IsBeforeZero types terminator count n
+  by_term : {n : Term} {site : Site} → IsCountBeforeZero types terminator count n
       → AreNewBounds structs types terminator count t (Some (at_node (counted n) (size_of structs t) (is_terminated terminator) site))
 
--- bounds name `int` locals, and count from a local or from none
+-- bounds name `int` locals, and count from a local pointer or from none
 pub record AreNamed (types : List CType) (b : Bounds) : Type 0 where
   pub ints : AreInts types b
-  pub base : (q : ℕ) → b.base ≡ Some q → (t : CType) × (slice_get types q ≡ Some t)
+  pub base : (q : ℕ) → b.base ≡ Some q → (m : Mode) × (k : Kind) × (t : CType) × (slice_get types q ≡ Some (Pointer m k t))
 
 -- what is declared in a scope are locals of its function
 abbrev pub AreLocalsOf : List CType → Scope → Type 0

@@ -10,7 +10,7 @@ ghost use Rattle.ckc_core.specs.Core.{Core};
 ghost use Rattle.ckc_core.specs.Programs.{parted};
 ghost use Rattle.ckc_core.specs.Weights.{statements_weight};
 ghost use Rattle.region_typing_rules.specs.Verdicts.{Unnamed};
-ghost use Rattle.region_typing_rules.specs.Expressions.{Places};
+ghost use Rattle.region_typing_rules.specs.Operands.{Places};
 ghost use Rattle.region_typing_rules.specs.Cores.{checked};
 ghost use Rattle.region_typing_rules.specs.NeverStuck.{HasCore, NeverStuck, NeverUnsound, AlwaysEnds};
 ghost use Rattle.region_typing_rules.specs.KnownIsSo.{MarkedAlone};
@@ -27,6 +27,7 @@ ghost use Rattle.region_typing_rules.specs.MemoryExamples as memory;
 ghost use Rattle.region_typing_rules.specs.FileLevelExamples as file_level;
 ghost use Rattle.region_typing_rules.specs.EndedExamples as ended;
 ghost use Rattle.region_typing_rules.specs.StringExamples as strings;
+ghost use Rattle.region_typing_rules.specs.BundleExamples as bundles;
 
 /// Programs and what they become, worked out from the rules.
 pub fn examples()
@@ -108,6 +109,14 @@ pub fn strings()
     ensures limits { strings.limits }
     ensures in_bounds { strings.in_bounds }
     ensures standing { strings.standing }
+{}
+
+/// What bundles become, and what they are refused for.
+pub fn bundles()
+    ensures together { bundles.together }
+    ensures settled { bundles.settled }
+    ensures targets { bundles.targets }
+    ensures ways { bundles.ways }
 {}
 
 /// Bounds that are declared for a local or a parameter are formed: they are of a pointer to elements that have bytes, their ends speak of `int` locals, their

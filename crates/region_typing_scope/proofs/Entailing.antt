@@ -15,7 +15,7 @@ use Rattle.pointer_modes.specs.Types.{CType}
 use Rattle.ckc_core.specs.Core as core
 use Rattle.region_typing_rules.specs.Verdicts.{Verdict, Passes, passing, needs}
 use Rattle.region_typing_rules.specs.Types.{converts}
-use Rattle.region_typing_rules.specs.Expressions.{Typed, Value, AStruct, converted, bounds_met}
+use Rattle.region_typing_rules.specs.Operands.{Typed, Value, AStruct, converted, bounds_met}
 use Rattle.region_typing_rules.specs.Statements.{meets_declared}
 use Rattle.region_typing_rules.specs.Knowing.{is_below}
 use Rattle.region_typing_scope.specs.Entailing.{fitted}

@@ -5,7 +5,7 @@ use Rattle.std.proofs.lemmas.List.{take_more, map-append, reverse-append}
 use Rattle.pointer_modes.specs.Types.{CType}
 use Rattle.region_typing_rules.specs.Scopes.{found_if, local_if, local_named}
 use Rattle.region_typing_rules.specs.Verdicts.{picked}
-use Rattle.region_typing_rules.specs.Expressions.{is_array}
+use Rattle.region_typing_rules.specs.Operands.{is_array}
 use Rattle.region_typing_rules.specs.Knowing.{local_number}
 use Rattle.region_typing_scope.specs.declared.visible as code
 use Rattle.region_typing_scope.specs.Visibles.{visible}

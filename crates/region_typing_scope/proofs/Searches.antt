@@ -10,7 +10,7 @@ use Rattle.pointer_modes.specs.declared.ctype.Member as code_member
 use Rattle.pointer_modes.specs.Types.{member, ctype}
 use Rattle.region_typing_rules.specs.Verdicts.{picked}
 use Rattle.region_typing_rules.specs.Scopes.{object_of, found_if, object_named, function_named}
-use Rattle.region_typing_rules.specs.Expressions.{member_from}
+use Rattle.region_typing_rules.specs.Operands.{member_from}
 use Rattle.region_typing_scope.specs.declared.scope as code
 use Rattle.region_typing_scope.specs.declared.signature.Signature as code_signature
 use Rattle.region_typing_scope.specs.Views.{variable, signature}

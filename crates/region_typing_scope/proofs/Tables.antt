@@ -5,7 +5,7 @@ use Rattle.std.specs.Option.{option_map}
 use Rattle.std.proofs.lemmas.List.{map-append, length-map, length-append, get_or_append_left, get_or_at, get_or_default}
 use Rattle.region_typing_rules.specs.Verdicts.{picked}
 use Rattle.region_typing_rules.specs.Scopes.{Signature}
-use Rattle.region_typing_rules.specs.Expressions.{side_number, counted, same_side, is_import}
+use Rattle.region_typing_rules.specs.Calls.{side_number, counted, same_side, is_import}
 use Rattle.region_typing_scope.specs.declared.signature.Signature as code
 use Rattle.region_typing_scope.specs.Signatures.{signature}
 use Rattle.region_typing_scope.specs.Tables.{place_of, place_in, or_last, Noted, Finds, side_before, Counts}

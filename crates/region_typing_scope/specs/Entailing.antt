@@ -9,7 +9,7 @@ use Rattle.pointer_modes.specs.Types.{CType}
 use Rattle.ckc_core.specs.Core as core
 use Rattle.region_typing_rules.specs.Verdicts.{Verdict, Passes, needs, picked}
 use Rattle.region_typing_rules.specs.Readings.{own_bounds, based_bounds, is_null}
-use Rattle.region_typing_rules.specs.Expressions.{Typed, Value, AStruct, is_met, meets, asked_of, converted}
+use Rattle.region_typing_rules.specs.Operands.{Typed, Value, AStruct, is_met, meets, asked_of, converted}
 use Rattle.region_typing_rules.specs.Statements.{meets_declared}
 
 -- the bounds of an expression meet those that it is asked for as a value of a type

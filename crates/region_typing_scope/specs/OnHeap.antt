@@ -5,7 +5,7 @@ use Rattle.ckc_core.specs.declared.program.Expr.{Expr}
 use Rattle.ckc_core.specs.declared.program.Stmt.{Stmt}
 use Rattle.ckc_core.specs.Core.{Expression, Statement}
 use Rattle.ckc_core.specs.Core as core
-use Rattle.region_typing_rules.specs.Expressions.{Typed}
+use Rattle.region_typing_rules.specs.Operands.{Typed}
 use Rattle.region_typing_scope.specs.declared.typed.Typed as code
 use Rattle.region_typing_scope.specs.Typed as inline
 

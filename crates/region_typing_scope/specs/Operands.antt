@@ -6,7 +6,7 @@ use Rattle.pointer_modes.specs.Types.{CType, ctype}
 use Rattle.ckc_core.specs.Core as core
 use Rattle.ckc_core.specs.Core.{expression}
 use Rattle.region_typing_rules.specs.Verdicts.{Verdict, Passes, breaks}
-use Rattle.region_typing_rules.specs.Expressions.{Typed, Value, AStruct, number}
+use Rattle.region_typing_rules.specs.Operands.{Typed, Value, AStruct, number}
 use Rattle.region_typing_scope.specs.declared.operands.Operand as code
 
 -- a value of a scalar type, which may be the constant 0

@@ -4,7 +4,7 @@ use Rattle.ckc_tree.specs.declared.expr.BinaryOperator.{BinaryOperator}
 use Rattle.ckc_tree.specs.declared.expr.BinaryOperator.TheVariants as binary
 use Rattle.region_typing_rules.specs.Scopes.{Scope}
 use Rattle.region_typing_rules.specs.Knowing.{knowing, when}
-use Rattle.region_typing_rules.specs.Expressions.{Typed, Value, AStruct}
+use Rattle.region_typing_rules.specs.Operands.{Typed, Value, AStruct}
 use Rattle.region_typing_scope.specs.declared.point.Point as code
 use Rattle.region_typing_scope.specs.Views.{scope}
 

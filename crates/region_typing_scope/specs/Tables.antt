@@ -2,7 +2,7 @@
 use Rattle.std.specs.Prelude.{◌≡◌, ℕ, zero, suc, ◌<◌, ◌==◌, Bool, true, cond, List, [], ◌∷◌, length, slice_index, slice_index_or, Option, Some, None}
 use Rattle.std.specs.Option.{option_map}
 use Rattle.region_typing_rules.specs.Scopes.{Signature}
-use Rattle.region_typing_rules.specs.Expressions.{is_import, counted, same_side}
+use Rattle.region_typing_rules.specs.Calls.{is_import, counted, same_side}
 
 -- the place of the first that passes a test
 abbrev pub place_of : {X : Type 0} → (X → Bool) → List X → Option ℕ

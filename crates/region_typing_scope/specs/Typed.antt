@@ -1,21 +1,20 @@
 -- Inside: what an expression is, as the code holds it.
-use Rattle.std.specs.Prelude.{ℕ, ◌==◌, pos, false, List, Option, Some, None}
+use Rattle.std.specs.Prelude.{ℕ, ◌==◌, pos, false, Option, Some, None}
 use Rattle.ckc_text.specs.declared.place.Span.{Span}
 use Rattle.ckc_tree.specs.Types.{TypeName}
 use Rattle.pointer_modes.specs.Layout.{size_of}
 use Rattle.pointer_modes.specs.declared.ctype.Mode.TheVariants as modes
 use Rattle.pointer_modes.specs.declared.ctype.Kind.{Kind}
-use Rattle.pointer_modes.specs.Types.{CType, Int, Char, Struct, Pointer, Structure, ctype}
+use Rattle.pointer_modes.specs.Types.{CType, Int, Char, Struct, Pointer, ctype}
 use Rattle.ckc_core.specs.declared.program.PointerBounds.{PointerBounds}
-use Rattle.ckc_core.specs.declared.program.Site.{Site}
 use Rattle.ckc_core.specs.Core as core
 use Rattle.ckc_core.specs.Core.{expression, place}
 use Rattle.region_typing_rules.specs.Verdicts.{Verdict, passing}
 use Rattle.region_typing_rules.specs.Scopes.{Scope}
 use Rattle.region_typing_rules.specs.Types.{type_named}
-use Rattle.region_typing_rules.specs.DeclaredBounds.{row_of}
-use Rattle.region_typing_rules.specs.Expressions.{constant_typed, in_force, noted_if, number, Lvalue, OfLocal, OfCell, OfBounded, OfUnknown, local_standing}
-use Rattle.region_typing_rules.specs.Expressions.{Typed, Value, AStruct, ForNothing, ForArray, For}
+use Rattle.region_typing_rules.specs.Operands.{noted_if, number, Lvalue, OfLocal, OfCell, OfBounded, OfUnknown, local_standing}
+use Rattle.region_typing_rules.specs.Expressions.{constant_typed}
+use Rattle.region_typing_rules.specs.Operands.{Typed, Value, AStruct, ForNothing, ForArray, For}
 use Rattle.region_typing_scope.specs.declared.typed.Base as code_base
 use Rattle.region_typing_scope.specs.declared.typed.Base.TheVariants as bases
 use Rattle.region_typing_scope.specs.declared.typed.StructPlace as code_place
@@ -51,10 +50,9 @@ abbrev pub noted_by : Option PointerBounds → Typed → Typed
 noted_by bounds (Value type zero value standing) = Value type zero (noted_if bounds value) standing
 noted_by bounds (AStruct struct at) = AStruct struct at
 
--- the name of an array of so many elements, as a pointer of a kind to the first of them
-abbrev pub elements_typed : List Structure → ℕ → CType → ℕ → Kind → Site → Typed
-elements_typed structs object type count kind site =
-    Value (Pointer modes.Checked kind type) false (core.AddressOf (core.Direct object 0) (in_force structs kind type (Some (row_of count)) site)) ForArray
+-- the name of an array, as a pointer of a kind to the first of its elements, with bounds at its node
+abbrev pub elements_typed : ℕ → CType → Kind → Option PointerBounds → Typed
+elements_typed object type kind bounds = Value (Pointer modes.Checked kind type) false (core.AddressOf (core.Direct object 0) bounds) ForArray
 
 -- the struct that a type is
 abbrev pub struct_of : CType → Option ℕ

@@ -7,7 +7,7 @@ ghost use Rattle.pointer_modes.specs.Layout.{size_of};
 ghost use Rattle.ckc_core.specs.Core.{AddressOf, Local, Load, Place, expression};
 ghost use Rattle.region_typing_rules.specs.Verdicts.{Passes};
 ghost use Rattle.bounds_flow.specs.Flows.{held_at};
-ghost use Rattle.region_typing_rules.specs.Expressions.{in_force as in_force_of, bounds_by as bounds_by_kind, bounds_at as bounds_of_type, in_cell_by as in_cell_of_kind, cell_bounds as cell_bounds_of, noted as noted_with, noted_if as noted_where, with_bounds as noted_typed, with_cell_bounds as noted_in_cell, array_typed, sum_node as sum_node_of, site_at};
+ghost use Rattle.region_typing_rules.specs.Operands.{in_force as in_force_of, bounds_by as bounds_by_kind, bounds_at as bounds_of_type, in_cell_by as in_cell_of_kind, cell_bounds as cell_bounds_of, noted as noted_with, noted_if as noted_where, with_bounds as noted_typed, with_cell_bounds as noted_in_cell, array_typed, sum_node as sum_node_of, site_at};
 ghost use Rattle.region_typing_rules.specs.DeclaredBounds.{row_of as row_of_length};
 ghost use Rattle.ckc_text.specs.Places.{place_at};
 ghost use Rattle.region_typing_scope.specs.Answering.{Answers};
@@ -120,28 +120,28 @@ pub fn bounds_in_force(flow: &Flow, local: u32) -> Option<Bounds>
     }
 }
 
-// Bounds of a pointer to such elements, which a zero ends or not, at its node.
+// Bounds of a pointer to elements of so many bytes, which a zero ends or not, at its node.
 fn node_bounds(
-    structs: &Structs,
-    target: &CType,
     bounds: Option<Bounds>,
+    size: u32,
     terminated: bool,
     site: Site,
 ) -> Option<PointerBounds>
-    ensures { result ≡ option_map (λ b. record { bounds = b; size = size_of structs.now (ctype_of target.now); terminated = terminated; site = site }) bounds }
+    ensures { result ≡ option_map (λ b. record { bounds = b; size = size; terminated = terminated; site = site }) bounds }
 {
     match bounds {
         None => None,
         Some(bounds) => Some(PointerBounds {
             bounds,
-            size: structs.size_of(target),
+            size,
             terminated,
             site,
         }),
     }
 }
 
-/// The bounds in force of a pointer to such elements, at its node.
+/// The bounds in force of a pointer to such elements, at its node. Where the elements have no bytes, as in no source, only
+/// those that a zero ends have some.
 pub fn in_force(
     structs: &Structs,
     kind: Kind,
@@ -151,10 +151,11 @@ pub fn in_force(
 ) -> Option<PointerBounds>
     ensures { result ≡ in_force_of structs.now kind (ctype_of target.now) bounds site }
 {
+    let size = structs.size_of(target);
     match kind {
-        Kind::Array => node_bounds(structs, target, bounds, false, site),
-        Kind::Nt => node_bounds(structs, target, bounds, true, site),
-        Kind::One => None,
+        Kind::Array if 0 < size => node_bounds(bounds, size, false, site),
+        Kind::Nt => node_bounds(bounds, size, true, site),
+        Kind::Array | Kind::One => None,
     }
 }
 
@@ -346,19 +347,16 @@ pub fn with_cell_bounds(
     Ok(context.boxed(noted)?)
 }
 
-// The name of an array, of which so many elements stand before the zero that ends it, if one does.
+// The name of an array, with these bounds at its node.
 fn elements(
     context: &Context,
-    structs: &Structs,
     object: u32,
     element: CType,
-    count: u32,
     kind: Kind,
-    site: Site,
+    bounds: Option<PointerBounds>,
 ) -> Result<Typed, NoMemory>
-    ensures { IfOk result (λ t. typed_view t ≡ elements_typed structs.now object (ctype_of element) count kind site) }
+    ensures { IfOk result (λ t. typed_view t ≡ elements_typed object (ctype_of element) kind bounds) }
 {
-    let bounds = in_force(structs, kind, &element, Some(row_of(count)), site);
     let element = context.boxed(element)?;
     Ok(Typed::Array {
         ctype: CType::Pointer(Mode::Checked, kind, element),
@@ -379,11 +377,14 @@ pub fn array(
 ) -> Result<Typed, NoMemory>
     ensures { IfOk result (λ t. typed_view t ≡ array_typed structs.now object (ctype_of element) length ended site) }
 {
+    let size = structs.size_of(&element);
     if ended {
-        let count = before_end(true, length);
-        elements(context, structs, object, element, count, Kind::Nt, site)
+        let row = row_of(before_end(true, length));
+        let bounds = node_bounds(Some(row), size, true, site);
+        elements(context, object, element, Kind::Nt, bounds)
     } else {
-        elements(context, structs, object, element, length, Kind::Array, site)
+        let bounds = node_bounds(Some(row_of(length)), size, false, site);
+        elements(context, object, element, Kind::Array, bounds)
     }
 }
 

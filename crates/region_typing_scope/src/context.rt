@@ -2,7 +2,7 @@
 
 ghost use Rattle.std.specs.Prelude.{◌≡◌, ◌≤◌, length, IfOk};
 ghost use Rattle.ckc_text.specs.Places.{place_at};
-ghost use Rattle.region_typing_rules.specs.Expressions.{site_at};
+ghost use Rattle.region_typing_rules.specs.Operands.{site_at};
 
 use ckc_core::program::Site;
 use ckc_text::fault::NoMemory;

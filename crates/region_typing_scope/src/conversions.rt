@@ -4,7 +4,7 @@ ghost use Rattle.std.specs.Prelude.{◌≡◌};
 ghost use Rattle.pointer_modes.specs.Types.{ctype as ctype_of};
 ghost use Rattle.ckc_core.specs.Core.{expression};
 ghost use Rattle.region_typing_rules.specs.Verdicts.{Passes};
-ghost use Rattle.region_typing_rules.specs.Expressions.{converted as converted_to, in_type as value_in_type, as_pointer};
+ghost use Rattle.region_typing_rules.specs.Operands.{converted as converted_to, in_type as value_in_type, as_pointer};
 ghost use Rattle.region_typing_scope.specs.Answering.{Answers};
 ghost use Rattle.region_typing_scope.specs.Entailing.{fitted as fitted_to};
 ghost use Rattle.region_typing_scope.specs.OnHeap.{typed};

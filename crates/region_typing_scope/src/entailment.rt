@@ -6,7 +6,7 @@ ghost use Rattle.ckc_core.specs.Core.{expression};
 ghost use Rattle.subsumption.specs.ClosedTables.{entails_terms};
 ghost use Rattle.subsumption.specs.ShownTables.{is_yes as says_yes};
 ghost use Rattle.bounds_flow.specs.Settling.{ends_find, bounds_find};
-ghost use Rattle.region_typing_rules.specs.Expressions.{is_met as is_met_by, asked_as as asked_of_kinds, asked_of as asked_of_types, meets as meets_in};
+ghost use Rattle.region_typing_rules.specs.Operands.{is_met as is_met_by, asked_as as asked_of_kinds, asked_of as asked_of_types, meets as meets_in};
 ghost use Rattle.region_typing_rules.specs.Statements.{meets_declared as meets_declared_in};
 ghost use Rattle.region_typing_scope.specs.Entailing.{asked_for as asked_for_in, has_bounds as has_bounds_as, is_met_as, is_unasked as is_unasked_in, own_of, based_of};
 ghost use Rattle.region_typing_scope.specs.Typed.{typed};

@@ -8,7 +8,7 @@ ghost use Rattle.pointer_modes.specs.Declaring.{with_members};
 ghost use Rattle.bounds_flow.specs.Flows.{at_entry};
 ghost use Rattle.region_typing_rules.specs.Types.{is_scalar};
 ghost use Rattle.region_typing_rules.specs.Scopes.{function_named};
-ghost use Rattle.region_typing_rules.specs.Expressions.{counted, is_import as is_import_of};
+ghost use Rattle.region_typing_rules.specs.Calls.{counted, is_import as is_import_of};
 ghost use Rattle.region_typing_rules.specs.Items.{nothing_known, with_variable, with_function};
 ghost use Rattle.region_typing_scope.specs.Answering.{Answers};
 ghost use Rattle.region_typing_scope.specs.Views.{scope as scope_of, signature};

@@ -3,12 +3,12 @@
 ghost use Rattle.std.specs.Prelude.{◌≡◌, ◌<◌, ◌≤◌, true, false, None, length, IfOk, OnOk};
 ghost use Rattle.std.specs.List.{All};
 ghost use Rattle.ckc_core.specs.Core.{expression as expression_of, statement as statement_of};
-ghost use Rattle.bounds_flow.specs.Flows.{at_head};
+ghost use Rattle.bounds_flow.specs.Flows.{at_head, in_bundle};
 ghost use Rattle.region_typing_rules.specs.Readings.{told as told_of};
-ghost use Rattle.region_typing_rules.specs.Knowing.{with_way as with_way_of, knowing, when, cut as cut_of, way_out as way_out_of, broken, continued, with_others};
+ghost use Rattle.region_typing_rules.specs.Knowing.{assigned_by, with_way as with_way_of, knowing, when, cut as cut_of, way_out as way_out_of, broken, continued, with_others};
 ghost use Rattle.region_typing_rules.specs.Statements.{meeting};
 ghost use Rattle.region_typing_scope.specs.Answering.{Answers};
-ghost use Rattle.region_typing_scope.specs.Settlings.{answered, settled_scope};
+ghost use Rattle.region_typing_scope.specs.Settlings.{answered, settled_at, settled_scope};
 ghost use Rattle.region_typing_scope.specs.Tracked.{HasVars};
 ghost use Rattle.region_typing_scope.specs.Views.{scope as scope_of};
 
@@ -91,15 +91,45 @@ impl Scope {
         Ok(())
     }
 
+    /// A bundle begins, in which no assignment is settled.
+    pub fn begin_bundle(&mut self)
+        ensures known { scope_of self.new ≡ knowing (in_bundle (scope_of self.old).flow) (scope_of self.old) }
+        ensures seen { self.new.visible.items ≡ self.old.visible.items }
+        ensures locals { self.new.locals.items ≡ self.old.locals.items }
+        ensures size { self.new.flow.vars ≡ self.old.flow.vars }
+    {
+        self.flow.begin_bundle();
+    }
+
+    /// An assignment that isn't settled yet.
+    pub fn assign(&mut self, statement: &Stmt) -> Result<(), NoMemory>
+        ensures known { OnOk result (scope_of self.new ≡ knowing (assigned_by (scope_of self.old).locals (statement_of statement.now) (scope_of self.old).flow) (scope_of self.old)) }
+        ensures seen { OnOk result (self.new.visible.items ≡ self.old.visible.items) }
+        ensures locals { OnOk result (self.new.locals.items ≡ self.old.locals.items) }
+        ensures size { OnOk result (self.new.flow.vars ≡ self.old.flow.vars) }
+    {
+        steps::assign(self.locals.as_slice(), statement, &mut self.flow)
+    }
+
+    /// The settling that ends a bundle, and an assignment outside of one. It may be refused at a span (E20, E17).
+    pub fn end_bundle(&mut self, span: Span) -> Result<(), CheckError>
+        ensures known { Answers (λ _. scope_of self.new) (settled_at span (scope_of self.old)) result }
+        ensures seen { OnOk result (self.new.visible.items ≡ self.old.visible.items) }
+        ensures locals { OnOk result (self.new.locals.items ≡ self.old.locals.items) }
+        ensures size { OnOk result (self.new.flow.vars ≡ self.old.flow.vars) }
+    {
+        let answer = self.flow.settle()?;
+        settled(&answer, span)
+    }
+
     /// An assignment and its settling, which may be refused at a span (E20, E17).
     pub fn settle(&mut self, statement: &Stmt, span: Span) -> Result<(), CheckError>
         ensures known { Answers (λ _. scope_of self.new) (settled_scope (statement_of statement.now) span (scope_of self.old)) result }
         ensures seen { OnOk result (self.new.visible.items ≡ self.old.visible.items) }
         ensures size { OnOk result (self.new.flow.vars ≡ self.old.flow.vars) }
     {
-        steps::assign(self.locals.as_slice(), statement, &mut self.flow)?;
-        let answer = self.flow.settle()?;
-        settled(&answer, span)
+        self.assign(statement)?;
+        self.end_bundle(span)
     }
 
     /// No way leads on from here.

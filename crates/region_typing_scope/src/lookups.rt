@@ -6,7 +6,8 @@ ghost use Rattle.pointer_modes.specs.Types.{ctype as ctype_of};
 ghost use Rattle.region_typing_rules.specs.Scopes.{Local, struct_named, members_named as names_of_members, local_named, object_named, function_named};
 ghost use Rattle.region_typing_scope.specs.Views.{scope as scope_of, known_object, signature};
 ghost use Rattle.region_typing_scope.specs.Tables.{side_before as side_before_of};
-ghost use Rattle.region_typing_rules.specs.Expressions.{side_number as side_number_of, is_array as is_array_of};
+ghost use Rattle.region_typing_rules.specs.Operands.{is_array as is_array_of};
+ghost use Rattle.region_typing_rules.specs.Calls.{side_number as side_number_of};
 
 use crate::scope::{Scope, Variable};
 use crate::signature::Signature;

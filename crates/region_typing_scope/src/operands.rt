@@ -4,7 +4,7 @@ ghost use Rattle.std.specs.Prelude.{false};
 ghost use Rattle.pointer_modes.specs.Types.{ctype as ctype_of};
 ghost use Rattle.ckc_core.specs.Core.{expression};
 ghost use Rattle.region_typing_rules.specs.Verdicts.{Passes};
-ghost use Rattle.region_typing_rules.specs.Expressions.{number_of, scalar_of};
+ghost use Rattle.region_typing_rules.specs.Operands.{number_of, scalar_of};
 ghost use Rattle.region_typing_scope.specs.Answering.{Answers};
 ghost use Rattle.region_typing_scope.specs.OnHeap.{typed, expression as boxed_expression};
 ghost use Rattle.region_typing_scope.specs.Operands.{operand as operand_view, operand_of};

@@ -1,7 +1,7 @@
 // The side of the boundary that a function runs on.
 
 ghost use Rattle.std.specs.Prelude.{◌≡◌};
-ghost use Rattle.region_typing_rules.specs.Expressions.{is_import as is_import_of};
+ghost use Rattle.region_typing_rules.specs.Calls.{is_import as is_import_of};
 ghost use Rattle.region_typing_scope.specs.Views.{signature};
 
 use crate::signature::Signature;

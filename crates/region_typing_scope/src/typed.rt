@@ -4,7 +4,7 @@ ghost use Rattle.std.specs.Prelude.{◌≡◌, List, Some, IfOk, false};
 ghost use Rattle.pointer_modes.specs.Types.{Structure, ctype as ctype_of};
 ghost use Rattle.ckc_core.specs.declared.program.Site.{Site as SiteTree};
 ghost use Rattle.ckc_core.specs.Core.{Direct, expression, place as place_of};
-ghost use Rattle.region_typing_rules.specs.Expressions.{Value, ForNothing, at_place, local_typed, object_typed, pointer_typed, unknown_typed, with_cell_bounds as with_cell_bounds_of};
+ghost use Rattle.region_typing_rules.specs.Operands.{Value, ForNothing, at_place, local_typed, object_typed, pointer_typed, unknown_typed, with_cell_bounds as with_cell_bounds_of};
 ghost use Rattle.region_typing_rules.specs.Items.{is_zero as zero_typed};
 ghost use Rattle.region_typing_scope.specs.Typed.{typed, base_place};
 ghost use Rattle.region_typing_scope.specs.OnHeap.{typed as typed_on_heap};

@@ -4,7 +4,7 @@ ghost use Rattle.std.specs.Prelude.{◌≡◌, map, reverse, List};
 ghost use Rattle.pointer_modes.specs.Types.{CType as ctype_tree};
 ghost use Rattle.region_typing_rules.specs.Scopes.{local_named};
 ghost use Rattle.region_typing_rules.specs.Knowing.{local_number};
-ghost use Rattle.region_typing_rules.specs.Expressions.{is_array as is_array_of};
+ghost use Rattle.region_typing_rules.specs.Operands.{is_array as is_array_of};
 ghost use Rattle.region_typing_scope.specs.Visibles.{visible as visible_of, local_at};
 
 /// A local that is visible: its name, and its number in its function.

@@ -10,3 +10,4 @@ pub mod Settling
 pub mod Ways
 pub mod MarkedLocals
 pub mod KeptLocals
+pub mod Unsettled

@@ -16,7 +16,7 @@ use Rattle.ckc_core.specs.Core as core
 use Rattle.region_typing_scope.specs.OnHeap.{statement, typed}
 use Rattle.region_typing_rules.specs.Verdicts.{Verdict, Passes, passing}
 use Rattle.region_typing_rules.specs.Scopes.{Scope}
-use Rattle.region_typing_rules.specs.Expressions.{Places}
+use Rattle.region_typing_rules.specs.Operands.{Places}
 use Rattle.region_typing_rules.specs.DeclaredBounds.{declared_bounds}
 use Rattle.region_typing_rules.specs.Statements.{both, zero_value, with_local, first_value, bounded_local, few_locals, local_of, is_ended_array, row_type, with_array, made_array, array_in, array_local, declarator, declarators}
 use Rattle.region_typing_scope.specs.declared.scope as code

@@ -10,7 +10,8 @@ use Rattle.ckc_core.specs.declared.program.Stmt.{Stmt}
 use Rattle.ckc_core.specs.Core as core
 use Rattle.region_typing_rules.specs.Verdicts.{Verdict, Passes, passing}
 use Rattle.region_typing_rules.specs.Scopes.{Scope}
-use Rattle.region_typing_rules.specs.Expressions.{Places, call_typed}
+use Rattle.region_typing_rules.specs.Operands.{Places}
+use Rattle.region_typing_rules.specs.Expressions.{call_typed}
 use Rattle.region_typing_rules.specs.Readings.{told}
 use Rattle.region_typing_rules.specs.Knowing.{outside_of, when, at_loop}
 use Rattle.region_typing_rules.specs.Statements.{both, alone, behind_block, meeting, at_alternative, behind_loop, before_step, in_loop, condition, optional_condition, optional_step, first_part, statement}

@@ -9,7 +9,7 @@ use Rattle.ckc_core.specs.Core as core
 use Rattle.ckc_core.specs.Core.{statement, statements_of}
 use Rattle.region_typing_rules.specs.Verdicts.{Stop, Verdict, Passes, Stops, passing}
 use Rattle.region_typing_rules.specs.Scopes.{Scope}
-use Rattle.region_typing_rules.specs.Expressions.{Places}
+use Rattle.region_typing_rules.specs.Operands.{Places}
 use Rattle.region_typing_rules.specs.Statements as rules
 use Rattle.region_typing_statements.specs.Parts.{joined}
 
@@ -24,11 +24,11 @@ behind_none (Stops stop) = refl
 pub behind_empty : (built : List Stmt) (v : Verdict (core.Statements × Scope)) → built ≡ [] → v ≡ behind built v
 behind_empty built v is = rw is (behind_none v)
 
-joined_none : (xs : List Stmt) → joined xs core.NoMore ≡ statements_of xs
+pub joined_none : (xs : List Stmt) → joined xs core.NoMore ≡ statements_of xs
 joined_none [] = refl
 joined_none (x ∷ xs) = ap (core.Then (statement x)) (joined_none xs)
 
-joined_one : (xs : List Stmt) (x : Stmt) (others : core.Statements) → joined (xs ++ x ∷ []) others ≡ joined xs (core.Then (statement x) others)
+pub joined_one : (xs : List Stmt) (x : Stmt) (others : core.Statements) → joined (xs ++ x ∷ []) others ≡ joined xs (core.Then (statement x) others)
 joined_one [] x others = refl
 joined_one (y ∷ xs) x others = ap (core.Then (statement y)) (joined_one xs x others)
 

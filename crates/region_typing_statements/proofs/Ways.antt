@@ -7,7 +7,7 @@ use Rattle.ckc_core.specs.Core as core
 use Rattle.region_typing_scope.specs.declared.refusals.CheckError.{CheckError}
 use Rattle.region_typing_rules.specs.Verdicts.{Verdict, passing}
 use Rattle.region_typing_rules.specs.Scopes.{Scope}
-use Rattle.region_typing_rules.specs.Expressions.{Places}
+use Rattle.region_typing_rules.specs.Operands.{Places}
 use Rattle.region_typing_rules.specs.Readings.{told}
 use Rattle.region_typing_rules.specs.Knowing.{knowing, when, with_others}
 use Rattle.region_typing_scope.specs.declared.scope as code

@@ -2,7 +2,7 @@
 use Rattle.std.specs.Prelude.{ℕ, Bool, true, false, List, [], ◌∷◌, Option, None}
 use Rattle.bounds_flow.specs.Flows.{Knowledge}
 use Rattle.ckc_text.specs.declared.place.Span.{Span}
-use Rattle.ckc_text.specs.declared.code.Code.TheVariants.{E13, E17}
+use Rattle.ckc_text.specs.declared.code.Code.TheVariants.{E13, E17, E21}
 use Rattle.pointer_modes.specs.Types.{CType}
 use Rattle.ckc_core.specs.Core as core
 use Rattle.ckc_core.specs.declared.program.Stmt.{Stmt}
@@ -11,10 +11,11 @@ use Rattle.ckc_tree.specs.declared.stmt.Stmt.TheVariants as stmts
 use Rattle.ckc_tree.specs.Expressions.{Expression}
 use Rattle.ckc_tree.specs.Statements.{Statement, Assignment, ForInitial}
 use Rattle.region_typing_rules.specs.Verdicts.{Verdict, Passes, passing, needs, breaks}
-use Rattle.region_typing_rules.specs.Expressions.{Places, typed, converted, call_typed}
+use Rattle.region_typing_rules.specs.Operands.{Places, converted}
+use Rattle.region_typing_rules.specs.Expressions.{typed, call_typed}
 use Rattle.region_typing_rules.specs.Readings.{told}
-use Rattle.region_typing_rules.specs.Knowing.{knowing, when, with_others, at_loop}
-use Rattle.region_typing_rules.specs.Statements.{both, alone, statement, behind_block, meeting}
+use Rattle.region_typing_rules.specs.Knowing.{knowing, settling, when, with_others, at_loop}
+use Rattle.region_typing_rules.specs.Statements.{both, alone, assignments, are_locals, statement, behind_block, meeting}
 use Rattle.region_typing_rules.specs.Statements.{condition, optional_condition, optional_step, first_part, meets_declared, returned}
 use Rattle.region_typing_rules.specs.Scopes.{Scope}
 use Rattle.region_typing_statements.specs.declared.statements.Branch as code
@@ -98,6 +99,15 @@ for_loop at g initial test step body =
 abbrev pub joined : List Stmt → core.Statements → core.Statements
 joined [] others = others
 joined (x ∷ xs) others = core.Then (core.statement x) (joined xs others)
+
+-- assignments in a bundle, and what is known behind them
+abbrev pub unsettled : Places → Scope → List Assignment → Verdict (core.Statements × Scope)
+unsettled at g written = passing (assignments at g written) (λ w. Passes (w.0, knowing w.1 g))
+
+-- the end of a bundle of assignments, behind them
+abbrev pub bundle_ended : List Assignment → Span → core.Statements × Scope → Verdict (core.Statement × Scope)
+bundle_ended written span x =
+    needs (are_locals x.1.visible written) E21 span (passing (settling x.1.flow span) (λ f. Passes (core.Block x.0, knowing f x.1)))
 
 -- a call that stands alone
 abbrev pub call_statement : Places → Scope → Expression → Verdict core.Statement

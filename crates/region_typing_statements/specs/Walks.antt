@@ -9,7 +9,8 @@ use Rattle.ckc_core.specs.Core as core
 use Rattle.ckc_tree.specs.Expressions.{Expression}
 use Rattle.ckc_tree.specs.Statements.{Initializer, Declarator}
 use Rattle.region_typing_rules.specs.Verdicts.{Verdict, Passes, Breaks, Unnamed, passing, needs}
-use Rattle.region_typing_rules.specs.Expressions.{Places, typed, converted, bounds_met}
+use Rattle.region_typing_rules.specs.Operands.{Places, converted, bounds_met}
+use Rattle.region_typing_rules.specs.Expressions.{typed}
 use Rattle.region_typing_rules.specs.Types.{is_scalar}
 use Rattle.region_typing_rules.specs.DeclaredBounds.{declared_bounds}
 use Rattle.region_typing_rules.specs.Statements.{initialised, with_local, declared, bounded_local}

@@ -2,6 +2,7 @@
 #![tactic(auto)]
 
 mod assigned;
+mod bundles;
 pub mod changes;
 mod core_forms;
 mod declarations;

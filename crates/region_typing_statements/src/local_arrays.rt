@@ -10,7 +10,7 @@ ghost use Rattle.bounds_exprs.specs.Normal.{constant};
 ghost use Rattle.pointer_modes.specs.Types.{ctype as ctype_of};
 ghost use Rattle.ckc_core.specs.Core.{Number};
 ghost use Rattle.region_typing_rules.specs.Verdicts.{Passes};
-ghost use Rattle.region_typing_rules.specs.Expressions.{site_at};
+ghost use Rattle.region_typing_rules.specs.Operands.{site_at};
 ghost use Rattle.region_typing_rules.specs.Statements.{length_of as length_in, first_length as first_length_in, is_ended_array as is_ended_in, row_type, with_array, array_element as array_element_of, array_memory as array_memory_of, array_bounds as array_bounds_in, without_initial as without_initial_in, made_array, array_in, array_local as array_local_of};
 ghost use Rattle.region_typing_scope.specs.Answering.{Answers};
 ghost use Rattle.region_typing_scope.specs.OnHeap.{expression, statement, typed as typed_on_heap};

@@ -14,6 +14,7 @@ ghost use Rattle.region_typing_statements.specs.Walks.{Walks};
 ghost use Rattle.region_typing_statements.specs.Parts.{IsStructured, nested as nested_in, branched, then_branch as branch_in, if_alone as if_in, otherwise as otherwise_in, turns as turns_in, while_loop as while_in, for_loop as for_in};
 
 use crate::assigned::assigned_in;
+use crate::bundles::bundle;
 use crate::core_forms;
 use crate::core_forms::{both, choice, repeated};
 use crate::declarations::declaration;
@@ -28,7 +29,7 @@ use ckc_tree::stmt::{Assignment, ForInitial, Mark};
 use ckc_tree::{expr, stmt};
 use region_typing_expressions::assignments::condition;
 use region_typing_scope::context::Context;
-use region_typing_scope::refusals::{CheckError, needs, refusal};
+use region_typing_scope::refusals::{CheckError, needs};
 use region_typing_scope::scope::Scope;
 
 /// A statement.
@@ -45,7 +46,9 @@ pub fn statement(
         | stmt::Stmt::If { .. }
         | stmt::Stmt::While { .. }
         | stmt::Stmt::For { .. } => structured(context, scope, written),
-        stmt::Stmt::Bundle { span, .. } => Err(refusal(Code::E13, *span)),
+        stmt::Stmt::Bundle { assignments, span } => {
+            bundle(context, scope, assignments.as_slice(), *span)
+        }
         stmt::Stmt::Declare {
             declaration: written,
             ..

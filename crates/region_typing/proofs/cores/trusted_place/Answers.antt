@@ -1,7 +1,7 @@
 use Rattle.std.proofs.Common.{None, Some, sym, ap, ◌∙◌}
 use Rattle.std.specs.Prelude.{◌==◌}
 use Rattle.region_typing_rules.specs.Verdicts.{picked}
-use Rattle.region_typing_rules.specs.Expressions.{is_import}
+use Rattle.region_typing_rules.specs.Calls.{is_import}
 use Rattle.region_typing_scope.specs.Views.{signature}
 use Rattle.region_typing_scope.proofs.Searches as searches
 use Rattle.region_typing.proofs.Placing.{place_found, no_place}

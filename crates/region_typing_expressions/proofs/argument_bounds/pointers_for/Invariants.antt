@@ -1,6 +1,6 @@
 use Rattle.std.proofs.Common.{◌≡◌, ◌++◌, map, drop}
 use Rattle.pointer_modes.specs.Types.{ctype}
-use Rattle.region_typing_rules.specs.Expressions.{pointers_for}
+use Rattle.region_typing_rules.specs.Calls.{pointers_for}
 use Rattle.region_typing_expressions.specs.Calls.{argument}
 use Rattle.region_typing_expressions.proofs.argument_bounds.pointers_for.Given as goal
 

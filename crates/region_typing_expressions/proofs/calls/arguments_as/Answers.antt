@@ -1,6 +1,6 @@
 use Rattle.std.proofs.Common.{◌≡◌, ◌<◌, length, map, drop, get_or, ap, sym, ◌∙◌, arith}
 use Rattle.pointer_modes.specs.Types.{ctype}
-use Rattle.region_typing_rules.specs.Expressions.{arguments_as}
+use Rattle.region_typing_rules.specs.Calls.{arguments_as}
 use Rattle.region_typing_expressions.specs.Calls.{argument}
 use Rattle.region_typing_scope.proofs.Going.{refused_by}
 use Rattle.region_typing_expressions.proofs.Conversions.{value_breaks, value_pushed, pushed_long, all_values, none_left}

@@ -1,6 +1,6 @@
 use Rattle.std.proofs.Common.{◌≡◌, ◌+◌, length, map, drop}
 use Rattle.pointer_modes.specs.Types.{ctype}
-use Rattle.region_typing_rules.specs.Expressions.{arguments_as}
+use Rattle.region_typing_rules.specs.Calls.{arguments_as}
 use Rattle.region_typing_expressions.specs.Calls.{argument}
 use Rattle.region_typing_expressions.proofs.Conversions.{values_behind}
 use Rattle.region_typing_expressions.proofs.calls.arguments_as.Given as goal

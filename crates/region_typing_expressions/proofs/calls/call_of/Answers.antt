@@ -11,7 +11,8 @@ use Rattle.ckc_core.specs.declared.program.PointerBounds.{PointerBounds}
 use Rattle.ckc_core.specs.Core as core
 use Rattle.ckc_core.specs.Core.{expression, arguments_of}
 use Rattle.ckc_core.proofs.Rows.{call_value}
-use Rattle.region_typing_rules.specs.Expressions.{Gives, call_bounds, call_of}
+use Rattle.region_typing_rules.specs.Operands.{Gives}
+use Rattle.region_typing_rules.specs.Calls.{call_bounds, call_of}
 use Rattle.region_typing_expressions.proofs.calls.call_of.Goals as goal
 
 -- a call with the bounds of its result

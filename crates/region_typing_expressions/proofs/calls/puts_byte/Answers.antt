@@ -1,7 +1,7 @@
 use Rattle.std.proofs.Common.{map, sym, ap}
 use Rattle.ckc_core.specs.Core.{PutByte, statement}
 use Rattle.region_typing_rules.specs.Verdicts.{Passes}
-use Rattle.region_typing_rules.specs.Expressions.{GivesNothing}
+use Rattle.region_typing_rules.specs.Operands.{GivesNothing}
 use Rattle.region_typing_expressions.specs.Calls.{argument}
 use Rattle.region_typing_scope.proofs.Going.{goes_on, refused}
 use Rattle.region_typing_expressions.proofs.Continuing.{writes_parts}

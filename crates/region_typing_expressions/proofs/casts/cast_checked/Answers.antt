@@ -2,7 +2,7 @@ use Rattle.std.proofs.Common.{ap, sym}
 use Rattle.ckc_text.specs.Places.{place_at}
 use Rattle.pointer_modes.specs.Types.{ctype}
 use Rattle.region_typing_rules.specs.Verdicts.{Passes}
-use Rattle.region_typing_rules.specs.Expressions.{site_at}
+use Rattle.region_typing_rules.specs.Operands.{site_at}
 use Rattle.region_typing_scope.specs.OnHeap.{typed}
 use Rattle.region_typing_scope.specs.Views.{scope}
 use Rattle.region_typing_scope.proofs.Going.{goes_on, refused}

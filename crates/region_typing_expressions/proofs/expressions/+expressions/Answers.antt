@@ -10,7 +10,7 @@ use Rattle.ckc_tree.specs.declared.type_form.TypeName.{TypeName}
 use Rattle.ckc_tree.specs.Types.{type_name}
 use Rattle.ckc_tree.specs.Expressions.{Index, Dot, Arrow, Unary, Calloc, expression}
 use Rattle.pointer_modes.specs.Types.{ctype}
-use Rattle.region_typing_rules.specs.Expressions.{site_at}
+use Rattle.region_typing_rules.specs.Operands.{site_at}
 use Rattle.region_typing_scope.specs.Points.{point}
 use Rattle.region_typing_scope.specs.Views.{scope}
 use Rattle.region_typing_scope.specs.OnHeap.{typed}

@@ -1,5 +1,5 @@
 use Rattle.ckc_text.specs.Places.{place_at}
-use Rattle.region_typing_rules.specs.Expressions.{site_at, summed}
+use Rattle.region_typing_rules.specs.Operands.{site_at, summed}
 use Rattle.region_typing_scope.specs.OnHeap.{typed}
 use Rattle.region_typing_scope.specs.Views.{scope}
 use Rattle.region_typing_scope.proofs.Going.{goes_on, refused}

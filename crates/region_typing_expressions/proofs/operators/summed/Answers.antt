@@ -1,6 +1,6 @@
 use Rattle.std.proofs.Common.{sym, ◌∙◌}
 use Rattle.ckc_text.specs.Places.{place_at}
-use Rattle.region_typing_rules.specs.Expressions.{site_at}
+use Rattle.region_typing_rules.specs.Operands.{site_at}
 use Rattle.region_typing_scope.specs.OnHeap.{typed}
 use Rattle.region_typing_scope.specs.Views.{scope}
 use Rattle.region_typing_scope.proofs.Going.{goes_on}

@@ -1,5 +1,5 @@
 use Rattle.std.proofs.Common.{◌≡◌, ◌≤◌, length, reverse, take}
-use Rattle.region_typing_rules.specs.Expressions.{is_array}
+use Rattle.region_typing_rules.specs.Operands.{is_array}
 use Rattle.region_typing_scope.proofs.visible.is_array.Given as goal
 
 -- a local is among all where it is among those before the place

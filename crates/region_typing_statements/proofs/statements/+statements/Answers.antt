@@ -223,6 +223,9 @@ pub structured-returns-in-Block : goal.structured-returns-in-Block
 structured-returns-in-Block t c =
     rw (block_tree c.args.written.now c.in-Block.mark c.in-Block.inner c.in-Block.span c.as_slice.result.now c.in-Block.is c.as_slice.ensures.value) c.block.ensures
 
+pub statement-returns-in-Bundle : goal.statement-returns-in-Bundle
+statement-returns-in-Bundle t c = let walk = rw c.as_slice.ensures.value at c.bundle.ensures in rw c.in-Bundle.is walk
+
 pub statement-returns-in-Assign : goal.statement-returns-in-Assign
 statement-returns-in-Assign t c = rw c.in-Assign.is c.assign.ensures
 

@@ -1,5 +1,5 @@
 use Rattle.std.proofs.Common.{[], ◌∷◌, ◌++◌, true, map, refl, ap, ◌∙◌}
-use Rattle.region_typing_rules.specs.Expressions.{counted, is_import}
+use Rattle.region_typing_rules.specs.Calls.{counted, is_import}
 use Rattle.region_typing_scope.specs.Views.{signature}
 use Rattle.region_typing_scope.specs.Tables.{side_before}
 use Rattle.region_typing_scope.proofs.FileLevel.{pushed_distinct}
