@@ -1,1 +1,2 @@
-int main(void) { int n = 1; _Bundled { n = 2; } return n; }
+struct row { int n; array_ptr<int> cells : count(n); };
+int main(void) { return 0; }
