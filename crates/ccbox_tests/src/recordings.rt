@@ -26,24 +26,30 @@ fn are_its_lines(acts: &ActList) -> bool {
     }
 }
 
-// An actor of the text, behind its acts.
-fn behind_acts(alloc: Global) -> Result<RecordingActor<ListActor>, ActorFault> {
-    let mut shelf = MemShelf::new(alloc);
-    let _ = shelf.add("acts", ACTS.as_bytes());
-    let mut actor = RecordingActor::over(alloc, ListActor::start(alloc, &mut shelf, "acts")?);
+// Takes the acts of the text.
+fn take_acts(
+    shelf: &mut MemShelf,
+    actor: &mut RecordingActor<ListActor>,
+) -> Result<(), ActorFault> {
     let now = Now {
         turn: Turn::Sandbox,
         last: None,
     };
-    let _ = actor.next(&mut shelf, &now)?;
-    let _ = actor.next(&mut shelf, &now)?;
-    Ok(actor)
+    let _go = actor.next(shelf, &now)?;
+    let _return = actor.next(shelf, &now)?;
+    Ok(())
+}
+
+// Whether the acts that the actor of the text gave are kept.
+fn keeps_acts_of(alloc: Global, shelf: &mut MemShelf) -> Result<bool, ActorFault> {
+    let mut actor = RecordingActor::over(alloc, ListActor::start(alloc, shelf, "acts")?);
+    take_acts(shelf, &mut actor)?;
+    Ok(are_its_acts(actor.acts()) && are_its_lines(actor.acts()))
 }
 
 /// Whether the acts that an actor gave are kept, in their order.
 pub fn keeps_acts(alloc: Global) -> bool {
-    match behind_acts(alloc) {
-        Ok(actor) => are_its_acts(actor.acts()) && are_its_lines(actor.acts()),
-        Err(_) => false,
-    }
+    let mut shelf = MemShelf::new(alloc);
+    let _ = shelf.add("acts", ACTS.as_bytes());
+    matches!(keeps_acts_of(alloc, &mut shelf), Ok(true))
 }

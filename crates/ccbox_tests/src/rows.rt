@@ -43,11 +43,12 @@ fn add_numbered(text: &mut String, piece: &str, times: u32) {
 
 // Puts a piece with this number in place of each `#` at the end of a text.
 fn add_piece(text: &mut String, piece: &str, number: u32) {
-    let mut parts = piece.split('#');
-    add(text, parts.next().unwrap_or(""));
-    for part in parts {
-        add_number(text, "", number);
-        add(text, part);
+    for c in piece.chars() {
+        if c == '#' {
+            add_number(text, "", number);
+        } else {
+            let _ = text.push(c);
+        }
     }
 }
 
