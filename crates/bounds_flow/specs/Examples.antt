@@ -10,7 +10,8 @@ use Rattle.bounds_flow.specs.declared.steps.How.{How}
 use Rattle.bounds_flow.specs.declared.steps.How.TheVariants.{Lt, Ge, Eq, Ne}
 use Rattle.bounds_flow.specs.declared.steps.Test.TheVariants.{NotNull, Compare}
 use Rattle.bounds_flow.specs.Pointers.{no_pointer}
-use Rattle.bounds_flow.specs.Flows.{Knowledge, held_at, at_entry, entered, left, number_assigned, pointer_assigned, assumed, at_head, cut_off, in_bundle, met, rejoined, settled}
+use Rattle.bounds_flow.specs.Flows.{Knowledge, held_at, at_entry, entered, left, number_assigned, pointer_assigned}
+use Rattle.bounds_flow.specs.Flows.{assumed, at_head, cut_off, in_bundle, met, rejoined, settled}
 use Rattle.bounds_flow.specs.Flows.{widened, wider, length_assigned}
 use Rattle.bounds_flow.specs.Settling.{Finding, Meets, WasLost, Falls, finding}
 

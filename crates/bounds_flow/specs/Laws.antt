@@ -7,7 +7,8 @@ use Rattle.subsumption.specs.ClosedTables.{entails_terms}
 use Rattle.subsumption.specs.TableLaws.{MeetsTable}
 use Rattle.bounds_flow.specs.declared.steps.Source.{Source}
 use Rattle.bounds_flow.specs.declared.steps.Test.{Test}
-use Rattle.bounds_flow.specs.Flows.{Knowledge, at_entry, entered, left, number_assigned, pointer_assigned, assumed, at_head, cut_off, in_bundle, met, rejoined, settled}
+use Rattle.bounds_flow.specs.Flows.{Knowledge, at_entry, entered, left, number_assigned, pointer_assigned, assumed}
+use Rattle.bounds_flow.specs.Flows.{at_head, cut_off, in_bundle, met, rejoined, settled}
 use Rattle.bounds_flow.specs.Flows.{widened, length_assigned}
 use Rattle.bounds_flow.specs.Conditions.{AreBoundsBelow, IsFlow, IsSourceBelow, IsTermBelow, IsTestWithin}
 

@@ -32,7 +32,8 @@ three_ints w n = record {
 -- with `count(n)`, p is valid up to three
 abbrev pub UpToThree : Type 0
 UpToThree = (w : World) (site : Site) →
-    (is_valid (at_node count_n 4 false site) (At 0 0) (three_ints w (pos 3)) ≡ true) × (is_valid (at_node count_n 4 false site) (At 0 0) (three_ints w (pos 4)) ≡ false)
+    (is_valid (at_node count_n 4 false site) (At 0 0) (three_ints w (pos 3)) ≡ true)
+    × (is_valid (at_node count_n 4 false site) (At 0 0) (three_ints w (pos 4)) ≡ false)
     × (is_valid (at_node count_n 4 false site) (At 0 0) (three_ints w (negsuc 0)) ≡ true)
 
 -- So the flow that has p with `count(n)` fits where n is 3, and not where it is 4. After `n = n - 1` it says what is so where n

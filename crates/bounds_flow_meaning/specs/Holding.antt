@@ -65,7 +65,8 @@ at_node b size ended site = record { bounds = b; size = size; terminated = ended
 pub record IsValidWith (structs : List Structure) (b : Bounds) (l : Local) (s : State) : Type 0 where
   pub passes : (site : Site) → is_valid (at_node b (target_size structs l.type) (is_ended l.type) site) l.value s ≡ true
   pub leads : (site : Site) (block byte : ℕ) (e : Ends) → l.value ≡ At block byte
-      → ends_at (at_node b (target_size structs l.type) (is_ended l.type) site) s.locals block byte ≡ Some e → LeadsOn structs (shapes s.blocks) l.type block byte e
+      → ends_at (at_node b (target_size structs l.type) (is_ended l.type) site) s.locals block byte ≡ Some e
+      → LeadsOn structs (shapes s.blocks) l.type block byte e
 
 -- the pointer is valid with the bounds, where there are any
 abbrev pub IsValid : List Structure → Option Bounds → Local → State → Type 0

@@ -14,7 +14,8 @@ use Rattle.bounds_flow.specs.declared.steps.How.TheVariants.{Lt, Le, Gt, Ge, Eq,
 use Rattle.bounds_flow.specs.declared.steps.Test.{Test}
 use Rattle.bounds_flow.specs.declared.steps.Test.TheVariants.{NotNull, Compare}
 use Rattle.bounds_flow.specs.Pointers.{no_pointer}
-use Rattle.bounds_flow.specs.Flows.{Knowledge, held_at, at_entry, entered, left, number_assigned, pointer_assigned, assumed, at_head, cut_off, in_bundle, met, rejoined, settled, widened, length_assigned}
+use Rattle.bounds_flow.specs.Flows.{Knowledge, held_at, at_entry, entered, left, number_assigned, pointer_assigned, assumed}
+use Rattle.bounds_flow.specs.Flows.{at_head, cut_off, in_bundle, met, rejoined, settled, widened, length_assigned}
 use Rattle.bounds_flow.specs.Settling.{MeetBelow, Meets, ends_find}
 use Rattle.bounds_flow.specs.Conditions.{AreEndsBelow, IsFlow, IsTermBelow, IsTestWithin}
 use Rattle.ckc_core.specs.States.{Value, Number, Null, At, Local, State, Grows, shapes, has_type}

@@ -69,7 +69,7 @@ IsBeforeZero terminator t z s = (n : ℕ) → z ≡ pos (suc n) → term_value t
 
 -- a new block, or null in its place, has as many elements as were asked for, up to the zero that ends them
 abbrev pub NewBlocksCount : Type 0
-NewBlocksCount = (structs : List Structure) (room : ℕ) (terminator : Terminator) (element : List Initial) (t : Term) (z : ℤ) (l : Local) (v : Value) (s u : State)
-    → IsBeforeZero terminator t z s → element_size element ≡ target_size structs l.type → AreCellsBehind structs l.type element
+NewBlocksCount = (structs : List Structure) (room : ℕ) (terminator : Terminator) (element : List Initial) (t : Term) (z : ℤ) (l : Local) (v : Value)
+    → (s u : State) → IsBeforeZero terminator t z s → element_size element ≡ target_size structs l.type → AreCellsBehind structs l.type element
     → is_terminated terminator ≡ is_ended l.type → allocated room terminator element z s ≡ Gives v u
     → IsNew structs (counted t) (record l { value = v }) s u

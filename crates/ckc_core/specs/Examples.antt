@@ -145,7 +145,8 @@ null_arrays =
 -- _Dynamic_bounds_cast<array_ptr<int>>(a, bounds(a + lo, a + hi)) != NULL
 abbrev cast_between : ℤ → ℤ → Expression
 cast_between lo hi =
-    Core.Not (Core.Not (Core.Cast array (Some (record { bounds = record { base = None; lo = constant lo; hi = constant hi }; size = 4; terminated = false; site = site 2 3 }))))
+    Core.Not (Core.Not (Core.Cast array
+    (Some (record { bounds = record { base = None; lo = constant lo; hi = constant hi }; size = 4; terminated = false; site = site 2 3 }))))
 
 -- a cast may narrow bounds at both ends, and make them empty, but never widen them
 abbrev pub cast_ends : Type 0
@@ -210,7 +211,9 @@ text_counts =
 -- nt_calloc<char>(n, sizeof(char)) has n characters and a zero behind them; of none it is null
 abbrev pub text_allocations : Type 0
 text_allocations =
-    ends_as (without_text (Core.Return (Core.Length (Core.Allocate (number 2) (char_cell 0 ∷ []) terminators.Behind (chars (pos 2))) (site 2 1)) ∷ [])) (Exit (pos 0))
+    ends_as
+    (without_text (Core.Return (Core.Length (Core.Allocate (number 2) (char_cell 0 ∷ []) terminators.Behind (chars (pos 2))) (site 2 1)) ∷ []))
+    (Exit (pos 0))
     × ends_as (without_text (Core.Return (Core.Not (Core.Allocate (number 0) (char_cell 0 ∷ []) terminators.Behind None)) ∷ [])) (Exit (pos 1))
     × is_unsound (without_text (Core.Evaluate (Core.Allocate (number 2) (char_cell 0 ∷ []) terminators.Behind (chars (pos 3))) ∷ [])) (site 1 1)
 

@@ -23,7 +23,8 @@ use Rattle.ckc_core.specs.Bounds.{Pointed, Ends as EndsOf, with_ends, ends_at, i
 use Rattle.ckc_core.specs.Steps.{Result, Flow, Next, Broke, Continued, Returned, KnotOf, SettingOf, setting_of}
 use Rattle.ckc_core.specs.Steps.{given, value_if, place_at, variable_at, load_at, pointer_to}
 use Rattle.ckc_core.specs.Steps.{truth, number_of_test, same_place, test_given, arithmetic_of, compared, negated, complemented, low_byte_of, asked, crossed}
-use Rattle.ckc_core.specs.Steps.{back, called, result_given, choose, store_at, set_local, kept_if, is_char, is_zero, printed, put, on_next, behind_turn, no_result}
+use Rattle.ckc_core.specs.Steps.{back, called, result_given, choose, store_at, set_local, kept_if}
+use Rattle.ckc_core.specs.Steps.{is_char, is_zero, printed, put, on_next, behind_turn, no_result}
 use Rattle.ckc_core.specs.Steps.{fit, parameters_of, answer, locals_for, exit, initial}
 use Rattle.ckc_core.specs.Pointers.{number_given, checked_if, distance, lies_in, lies_up_to, are_within, cell_behind}
 use Rattle.ckc_core.specs.Pointers.{pointer_at, ordered, not_null, allocated, counted}

@@ -23,6 +23,7 @@ pub mod Ended
 pub mod Targets
 pub mod Statements
 pub mod Programs
+pub mod Calm
 pub mod Paces
 pub mod Fits
 pub mod Slices

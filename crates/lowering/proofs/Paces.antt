@@ -1,6 +1,6 @@
 -- The code of programs keeps the pace: each jump goes forward or to a tick, and to no call, and each call follows a tick.
 use Rattle.std.proofs.Common.{◌≡◌, ℕ, zero, suc, ◌+◌, ◌<◌, ◌≤◌, Bool, true, false, List, [], ◌∷◌, ◌++◌, length, Option, Some, None, pos, refl, sym, ap, subst, arith}
-use Rattle.std.specs.Prelude.{slice_get, nat_lt, nat_le, not, ◌&&◌, ◌||◌}
+use Rattle.std.specs.Prelude.{slice_get, nat_lt, nat_le, not, ◌&&◌}
 use Rattle.std.specs.List.{list_all, AllByRecursion}
 use Rattle.std.proofs.lemmas.List.{append-nil}
 use Rattle.std.proofs.lemmas.Bool.Decides.{nat_tests}
@@ -8,11 +8,8 @@ use Rattle.act_words.specs.Numbers.{signed}
 use Rattle.pointer_modes.specs.Types.{CType}
 use Rattle.ckc_core.specs.declared.program.Site.{Site}
 use Rattle.act_words.specs.declared.operator.Operator.{Operator}
-use Rattle.act_words.specs.declared.operator.Operator.TheVariants as operators
 use Rattle.act_words.specs.declared.operator.Comparison.{Comparison}
 use Rattle.act_words.specs.declared.operator.Comparison.TheVariants as comparisons
-use Rattle.ckc_core.specs.declared.program.Callee.{Callee}
-use Rattle.ckc_core.specs.declared.program.Callee.TheVariants as callees
 use Rattle.ckc_core.specs.declared.program.Direction.{Direction}
 use Rattle.ckc_core.specs.declared.program.Direction.TheVariants as directions
 use Rattle.ckc_core.specs.declared.program.Terminator.{Terminator}
@@ -28,71 +25,13 @@ use Rattle.code_words.specs.declared.op.Op.{Op}
 use Rattle.code_words.specs.declared.op.Op.TheVariants as ops
 use Rattle.code_words.specs.Paced.{is_call, target_of, keeps_pace, all_keep_pace, is_paced_function}
 use Rattle.code_words.specs.Formats.{element_size, is_sized, is_sized_function}
-use Rattle.lowering.specs.Code.{Reach, Still, Onward, Back, Places, reach_to, counted_size, end_constant, pointer_slot, number_slot, operator_code, load_code, load_if, store_code, store_if, offset_code, offset_size, address_code, base_code, variable_code, bounds_code, number_code, within_code, check_code, checks_code, checks_size, moved_code, through_code, through_size, sum_code, order_op, order_code, index_code, index_size, byte_code, byte_size, expression_size, arguments_size, place_size, before_value_size, statement_size, statements_size, expression_code, arguments_code, place_code, before_value, behind_value, statement_code, statements_code, ending_code, body_places, function_ops, callee_code, allocation_code, term_code, ended_code, twice_code, plain_update, update_code}
+use Rattle.lowering.specs.Code.{Reach, Still, Onward, Back, Places, reach_to, counted_size, end_constant, pointer_slot, number_slot, operator_code, load_code, store_code, offset_code, offset_size, address_code, base_code, variable_code, bounds_code, number_code, within_code, check_code, checks_code, checks_size, moved_code, through_code, through_size, sum_code, order_op, order_code, index_code, index_size, byte_code, byte_size, expression_size, arguments_size, place_size, before_value_size, statement_size, statements_size, expression_code, arguments_code, place_code, before_value, behind_value, statement_code, statements_code, ending_code, body_places, function_ops, callee_code, allocation_code, term_code, ended_code, twice_code, plain_update, update_code}
 use Rattle.lowering.specs.Images.{functions_from}
 use Rattle.lowering.specs.Sized.{SizedExpression, SizedArguments, SizedPlace, SizedIndex, SizedStatement, SizedStatements}
 use Rattle.lowering.specs.Correct.{IsFunction}
 use Rattle.lowering.proofs.Steps.{HasAt, has_front, has_back, has_all}
 use Rattle.lowering.proofs.Sizes.{length_offset, length_checks, length_through, length_byte, length_expression, length_arguments, length_place, length_index, length_before, length_statement, length_statements}
-
--- ---- single instructions
-
--- where an instruction jumps, and the size of the elements that it counts
-abbrev named : Op → Option ℕ × Option ℕ
-named op = (target_of op, element_size op)
-
--- an instruction that neither jumps nor calls, and counts no elements
-record IsCalm (op : Op) : Type 0 where
-  no_jump : named op ≡ (None, None)
-  no_call : is_call op ≡ false
-
-calm_operator : (operator : Operator) (site : Site) → IsCalm (operator_code operator site)
-calm_operator (operators.Arithmetic operator) site = record { no_jump = refl; no_call = refl }
-calm_operator (operators.Bitwise operator) site = record { no_jump = refl; no_call = refl }
-
--- a call leads to no other instruction of its function, and counts no elements
-callee_no_jump : (callee : Callee) → named (callee_code callee) ≡ (None, None)
-callee_no_jump (callees.Trusted function) = refl
-callee_no_jump (callees.Tainted import site) = refl
-
-calm_order : (comparison : Comparison) → IsCalm (order_op comparison)
-calm_order comparisons.Equal = record { no_jump = refl; no_call = refl }
-calm_order comparisons.NotEqual = record { no_jump = refl; no_call = refl }
-calm_order comparisons.Less = record { no_jump = refl; no_call = refl }
-calm_order comparisons.LessEqual = record { no_jump = refl; no_call = refl }
-calm_order comparisons.Greater = record { no_jump = refl; no_call = refl }
-calm_order comparisons.GreaterEqual = record { no_jump = refl; no_call = refl }
-
-allocation_free : (terminator : Terminator) (size : ℕ) → is_call (allocation_code terminator size) ≡ false
-allocation_free terminators.Absent size = refl
-allocation_free terminators.Last size = refl
-allocation_free terminators.Behind size = refl
-
-calm_load : (char : Bool) → IsCalm (load_if char)
-calm_load true = record { no_jump = refl; no_call = refl }
-calm_load false = record { no_jump = refl; no_call = refl }
-
-calm_store : (char : Bool) → IsCalm (store_if char)
-calm_store true = record { no_jump = refl; no_call = refl }
-calm_store false = record { no_jump = refl; no_call = refl }
-
-first_true : (a b : Bool) → (a && b) ≡ true → a ≡ true
-first_true true b h = refl
-first_true false b h = h
-
-second_true : (a b : Bool) → (a && b) ≡ true → b ≡ true
-second_true true b h = h
-second_true false b h = absurd (cc)
-
-either : (b : Bool) → (b || true) ≡ true
-either true = refl
-either false = refl
-
-abbrev no_call_in : Option Op → Bool
-no_call_in None = true
-no_call_in (Some op) = not (is_call op)
-
--- ---- code within a function
+use Rattle.lowering.proofs.Calm.{named, IsCalm, calm_operator, callee_no_jump, calm_order, allocation_free, calm_load, calm_store, first_true, second_true, either, no_call_in}
 
 module _ (all : List Op) where
   -- no call stands at this place, so that jumps may go there

@@ -436,7 +436,8 @@ plain_update slot at type cell operator value site =
 
 abbrev pub update_code : ℕ → ℕ → CType → erased.Place → Operator → erased.Expression → Site → Option Reading → List Op
 update_code slot at type cell operator value site None = plain_update slot at type cell operator value site
-update_code slot at type (erased.Direct object offset) operator value site (Some r) = plain_update slot at type (erased.Direct object offset) operator value site
+update_code slot at type (erased.Direct object offset) operator value site (Some r) =
+    plain_update slot at type (erased.Direct object offset) operator value site
 update_code slot at type (erased.Through pointer erased.First offset checks) operator value site (Some r) =
     plain_update slot at type (erased.Through pointer erased.First offset checks) operator value site
 update_code slot at type (erased.Through pointer (erased.Element number size) offset checks) operator value site (Some r) =

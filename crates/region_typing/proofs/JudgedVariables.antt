@@ -103,11 +103,12 @@ variables_judged at w base t span (d ∷ ds) done next next' same =
     ∙ sym (in_parts (one_variable at w base t span d) (λ y. judged_variables at base t span ds (y.0, map (as_judged w.scope.given) done ++ y.1 ∷ [])) next')
 
 -- a declaration of variables, by what is judged
-pub global_judged : (at : Places) (w : Walk) (d : i.Global) → global at w d ≡ passing (room_for_first w d d.declarators) (λ taken. passing (base_type w.scope d.base) (λ t. passing (judged_variables at d.base t d.span d.declarators (w, [])) (λ x. passing (judged_objects d.span x.1 x.0) (λ v. in_checked_region v.scope d.span v))))
+pub global_judged : (at : Places) (w : Walk) (d : i.Global) → global at w d ≡ passing (room_for_first w d d.declarators) (λ taken. passing (base_type w.scope d.base) (λ t. passing (passing (judged_variables at d.base t d.span d.declarators (w, [])) (λ x. judged_objects d.span x.1 x.0)) (λ v. in_checked_region v.scope d.span v)))
 global_judged at w d =
     same_behind (room_for_first w d d.declarators) _ _ (λ taken.
     same_behind (base_type w.scope d.base) _ _ (λ t. variables_judged at w d.base t d.span d.declarators [] _ (λ x. passing (judged_objects d.span x.1 x.0) (λ v. in_checked_region v.scope d.span v))
-    (λ x. ap (λ objects. passing objects (λ v. in_checked_region v.scope d.span v)) (objects_judged x.0 d.span x.1))))
+    (λ x. ap (λ objects. passing objects (λ v. in_checked_region v.scope d.span v)) (objects_judged x.0 d.span x.1))
+    ∙ sym (in_parts (judged_variables at d.base t d.span d.declarators (w, [])) (λ x. judged_objects d.span x.1 x.0) (λ v. in_checked_region v.scope d.span v))))
 
 -- stars behind the type of a variable for which there is room
 pub stars_break : (at : Places) (base : TypeTree) (span : Span) (d : Declarator) (t : CType) (taken : ℕ) (old : Walk) (stop : Stop) → room_for old base span d ≡ Passes taken → needs {A = Unit {0}} (d.stars == 0) E15 (type_span base) (Passes tt) ≡ Stops stop → one_variable at old base t span d ≡ Stops stop

@@ -1,6 +1,6 @@
 // Whether a program keeps the rules, and what it becomes.
 
-ghost use Rattle.std.specs.Prelude.{◌≡◌, ◌≤◌, true, length, map};
+ghost use Rattle.std.specs.Prelude.{◌≡◌, ◌≢◌, ◌≤◌, true, Err, length, map};
 ghost use Rattle.ckc_text.specs.Places.{place_at};
 ghost use Rattle.ckc_tree.specs.Items.{item as item_tree, tree};
 ghost use Rattle.built_forms.specs.Built.{is_built};
@@ -8,8 +8,9 @@ ghost use Rattle.ckc_names.specs.Named.{named_tree};
 ghost use Rattle.ckc_core.specs.Core.{core as core_view};
 ghost use Rattle.region_typing_rules.specs.Verdicts.{passing};
 ghost use Rattle.region_typing_rules.specs.Items.{items as items_of};
-ghost use Rattle.region_typing_rules.specs.Cores.{small_core, CheckAnswers};
+ghost use Rattle.region_typing_rules.specs.Cores.{checked as checked_of, small_core, CheckAnswers};
 ghost use Rattle.region_typing_scope.specs.Answering.{Answers};
+ghost use Rattle.region_typing_scope.specs.declared.refusals.CheckError.TheVariants.{Unnamed};
 ghost use Rattle.region_typing_scope.specs.Views.{scope as scope_of};
 ghost use Rattle.region_typing.specs.Items.{walk as walk_of, Outside};
 
@@ -40,6 +41,21 @@ fn core_of_items(
     core_of(context, walk, entry, span)
 }
 
+// What is answered for what a walk came to in which each name stood for something.
+fn answered(walked: Result<Core, CheckError>) -> Result<Core, Refused>
+    requires { walked ≢ Err Unnamed }
+    ensures { (at : _) (n : _) → Answers core_view (checked_of at n) walked → CheckAnswers core_view at n result }
+{
+    match walked {
+        Ok(core) => Ok(core),
+        Err(error) => match error {
+            CheckError::Source(fault) => Err(Refused::Source(fault)),
+            CheckError::NoMemory => Err(Refused::NoMemory),
+            CheckError::Unnamed => unreachable!(),
+        },
+    }
+}
+
 /// The core of a program that has only forms that are built.
 ///
 /// # Errors
@@ -55,10 +71,5 @@ pub fn check(alloc: Global, src: &[u8], source: &Named) -> Result<Core, Refused>
     let program = source.program();
     let written = program.items.as_slice();
     let mut walk = Walk::new(&context, given, written)?;
-    match core_of_items(&context, &mut walk, written, given.main, program.span) {
-        Ok(core) => Ok(core),
-        Err(CheckError::Source(fault)) => Err(Refused::Source(fault)),
-        Err(CheckError::NoMemory) => Err(Refused::NoMemory),
-        Err(CheckError::Unnamed) => unreachable!(),
-    }
+    answered(core_of_items(&context, &mut walk, written, given.main, program.span))
 }

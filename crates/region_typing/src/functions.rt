@@ -29,7 +29,7 @@ use region_typing_scope::context::Context;
 use region_typing_scope::refusals::{CheckError, needs};
 use region_typing_scope::scope::Scope;
 use region_typing_scope::signature::{Signature, bounds_in};
-use region_typing_scope::types::{base_type, copied, without_stars};
+use region_typing_scope::types::{copied, starred_type};
 use region_typing_statements::changes::first_change;
 use region_typing_statements::marks::is_checked;
 use region_typing_statements::statements::statements;
@@ -49,8 +49,8 @@ pub fn result_type(
             Ok(None)
         }
         ResultForm::Value { base } => {
-            let t = base_type(context, scope, base)?;
-            Ok(Some(without_stars(base, stars, t)?))
+            let t = starred_type(context, scope, base, stars)?;
+            Ok(Some(t))
         }
     }
 }
@@ -157,8 +157,8 @@ fn body_of(
     enter(context, scope, f, parameters, body)?;
     let changed = first_change(context, scope, body)?;
     let built = statements(context, scope, body)?;
-    let heading = copied_signature(context, f)?;
     let locals = scope.exit(context)?;
+    let heading = copied_signature(context, f)?;
     let function = core_function(heading, parameters.len(), locals, built);
     Ok(Built { function, changed })
 }

@@ -8,6 +8,7 @@ ghost use Rattle.ckc_tree.specs.Expressions.{bounds as bounds_tree};
 ghost use Rattle.ckc_tree.specs.Statements.{initializer as initializer_tree, declarator as declarator_tree};
 ghost use Rattle.ckc_tree.specs.Items.{global as global_tree};
 ghost use Rattle.pointer_modes.specs.Types.{ctype as ctype_of};
+ghost use Rattle.region_typing_rules.specs.Verdicts.{passing};
 ghost use Rattle.region_typing_rules.specs.Cells.{is_length as is_length_of};
 ghost use Rattle.region_typing_rules.specs.DeclaredBounds.{declared_bounds};
 ghost use Rattle.region_typing_rules.specs.Statements.{length_of as length_in};
@@ -300,13 +301,25 @@ fn objects(
     Ok(())
 }
 
+// The variables of a declaration of a type, and their cells.
+fn declared_variables(
+    context: &Context,
+    walk: &mut Walk,
+    d: &Declaration,
+    t: &CType,
+) -> Result<(), CheckError>
+    ensures { Answers (λ _. walk_of walk.new) (passing (judged_variables (place_at context.now) (global_tree d.now).base (ctype_of t.now) d.now.span (global_tree d.now).declarators (walk_of walk.old, [])) (λ x. judged_objects d.now.span x.1 x.0)) result }
+{
+    let vs = variables(context, walk, &d.base, t, d.span, d.declarators.as_slice())?;
+    objects(context, walk, d.span, t, vs.as_slice())
+}
+
 /// A declaration of file-level variables.
 pub fn global(context: &Context, walk: &mut Walk, d: &Declaration) -> Result<(), CheckError>
     ensures { Answers (λ _. walk_of walk.new) (global_of (place_at context.now) (walk_of walk.old) (global_tree d.now)) result }
 {
     room_for_first(walk, d)?;
     let t = base_type(context, &walk.scope, &d.base)?;
-    let vs = variables(context, walk, &d.base, &t, d.span, d.declarators.as_slice())?;
-    objects(context, walk, d.span, &t, vs.as_slice())?;
+    declared_variables(context, walk, d, &t)?;
     needs(!walk.scope.is_off, Code::E15, d.span)
 }

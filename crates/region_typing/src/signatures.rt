@@ -1,14 +1,14 @@
 // Declarations of functions, and whether they agree.
 
-ghost use Rattle.std.specs.Prelude.{◌≡◌, ◌<◌, ◌&&◌, None, length, map, IfOk};
+ghost use Rattle.std.specs.Prelude.{◌≡◌, ◌<◌, ◌≤◌, ◌&&◌, None, length, map, IfOk};
 ghost use Rattle.std.specs.Option.{option_map};
 ghost use Rattle.ckc_tree.specs.Items.{function as function_tree};
 ghost use Rattle.pointer_modes.specs.Types.{ctype as ctype_of};
 ghost use Rattle.region_typing_rules.specs.Scopes.{function_named};
-ghost use Rattle.region_typing_rules.specs.Items.{same_types as same_types_of, same_result as same_result_of, same_kind as same_kind_of, agrees as agrees_of, all_scalar as all_scalar_of, scalar_result as scalar_result_of, with_function};
+ghost use Rattle.region_typing_rules.specs.Items.{same_types as same_types_of, same_result as same_result_of, same_kind as same_kind_of, agrees as agrees_of, all_scalar as all_scalar_of, scalar_result as scalar_result_of, signature_of as signature_in, with_function};
 ghost use Rattle.region_typing_scope.specs.Answering.{Answers};
 ghost use Rattle.region_typing_scope.specs.Views.{scope as scope_of, signature};
-ghost use Rattle.region_typing.specs.Parameters.{parameter as parameter_of};
+ghost use Rattle.region_typing.specs.Parameters.{parameter as parameter_of, heading as heading_view};
 ghost use Rattle.region_typing.specs.Signatures.{declared as declared_view, declared_function};
 
 use crate::functions::{copied_result, result_type};
@@ -136,30 +136,38 @@ fn bounds_of(
     Ok(bounds)
 }
 
+// The signature of a function that returns a type, with its heading.
+fn signature_of(
+    context: &Context,
+    d: &Function,
+    returned: Option<CType>,
+    heading: &Heading,
+) -> Result<Signature, NoMemory>
+    requires { length heading.now.parameters.items ≤ 16 }
+    ensures { IfOk result (λ f. signature f ≡ signature_in (function_tree d.now) (option_map ctype_of returned) (heading_view heading.now).0 (heading_view heading.now).1) }
+{
+    let parameters = heading.parameters.as_slice();
+    Ok(Signature {
+        name: d.name.number,
+        text: d.name.name.copy(context.alloc())?,
+        kind: d.kind,
+        parameters: types_of(context, parameters)?,
+        bounds: bounds_of(context, parameters)?,
+        result: returned,
+        result_bounds: heading.bounds,
+    })
+}
+
 /// A declaration of a function.
 pub fn declared(context: &Context, scope: &Scope, d: &Function) -> Result<Prototype, CheckError>
     ensures { Answers declared_view (declared_function (scope_of scope.now) (function_tree d.now)) result }
 {
-    let result = result_type(context, scope, &d.result, d.stars)?;
-    let Heading { parameters, bounds } = heading(
-        context,
-        scope,
-        &d.parameters,
-        &result,
-        &d.bounds,
-    )?;
-    let signature = Signature {
-        name: d.name.number,
-        text: d.name.name.copy(context.alloc())?,
-        kind: d.kind,
-        parameters: types_of(context, parameters.as_slice())?,
-        bounds: bounds_of(context, parameters.as_slice())?,
-        result,
-        result_bounds: bounds,
-    };
+    let returned = result_type(context, scope, &d.result, d.stars)?;
+    let heading = heading(context, scope, &d.parameters, &returned, &d.bounds)?;
+    let signature = signature_of(context, d, returned, &heading)?;
     Ok(Prototype {
         signature,
-        parameters,
+        parameters: heading.parameters,
     })
 }
 

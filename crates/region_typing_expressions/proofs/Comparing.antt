@@ -18,7 +18,7 @@ use Rattle.region_typing_expressions.specs.Comparing.{is_number_value, is_pointe
 use Rattle.region_typing_expressions.specs.Moves.{moved}
 use Rattle.region_typing_scope.specs.Operands.{operand_of}
 use Rattle.region_typing_scope.proofs.Entailing.{needs_then}
-use Rattle.region_typing_expressions.specs.Equality.{equality, equated_by, tested_by}
+use Rattle.region_typing_expressions.specs.Equality.{equality, equated_by, tested_by, tested_equality}
 
 and_false : (b : Bool) → (b && false) ≡ false
 and_false true = refl
@@ -56,12 +56,12 @@ zero_tested t z v u true w p q how = tested (is_number t && is_ended_element v) 
 zero_tested t z v u false w p q how = refl
 
 tests_then : (e : Verdict Equality) (equal : Equality → core.Expression) (test : core.Expression → core.Expression) (tests : Equality → core.Expression) → ((how : Equality) → test (equal how) ≡ tests how)
-    → passing (passing e (λ how. Passes (equal how))) (λ v. number (core.Not (test v))) ≡ passing e (λ how. number (core.Not (tests how)))
+    → passing (passing e (λ how. Passes (equal how))) (λ v. number (core.Not (test v))) ≡ passing (passing e (λ how. Passes (tests how))) (λ v. number (core.Not v))
 tests_then (Passes how) equal test tests same = ap (λ v. number (core.Not v)) (same how)
 tests_then (Stops stop) equal test tests same = refl
 
 breaks_then : (e : Verdict Equality) (span : Span) (test : core.Expression → core.Expression)
-    → passing (passing e (λ how. breaks E13 span)) (λ v. number (core.Not (test v))) ≡ passing e (λ how. breaks E13 span)
+    → passing (passing e (λ how. breaks E13 span)) (λ v. number (core.Not (test v))) ≡ passing (passing e (λ how. breaks E13 span)) (λ v. number (core.Not v))
 breaks_then (Passes how) span test = refl
 breaks_then (Stops stop) span test = refl
 
@@ -69,8 +69,7 @@ abbrev differs : Typed → Typed → core.Expression → Verdict Typed
 differs a b v = number (core.Not (zero_test a b v))
 
 -- a difference by how its operands are compared
-pub different_parts : (a b : Typed) (span : Span) → passing (equated a b span) (λ v. number (core.Not (zero_test a b v)))
-    ≡ passing (equality a b span) (λ how. passing (scalar_of a span Passes) (λ v. passing (scalar_of b span Passes) (λ w. number (core.Not (tested_by (is_zero_test a b) how v w)))))
+pub different_parts : (a b : Typed) (span : Span) → passing (equated a b span) (λ v. number (core.Not (zero_test a b v))) ≡ passing (tested_equality (is_zero_test a b) a b span) (λ v. number (core.Not v))
 different_parts (Value t z v p) (Value u y w q) span =
     ap (λ e. passing e (differs (Value t z v p) (Value u y w q))) (equated_parts (Value t z v p) (Value u y w q) span)
     ∙ tests_then (equality (Value t z v p) (Value u y w q) span) (λ how. equated_by how v w) (zero_test (Value t z v p) (Value u y w q)) _ (zero_tested t z v u y w p q)

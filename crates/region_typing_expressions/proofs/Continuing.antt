@@ -15,13 +15,13 @@ use Rattle.ckc_core.specs.declared.program.Direction.{Direction}
 use Rattle.region_typing_rules.specs.Verdicts.{Verdict, Passes, Stops, passing, needs, picked}
 use Rattle.region_typing_rules.specs.Scopes.{Scope, Signature, WrittenBounds, bounds_in}
 use Rattle.region_typing_rules.specs.Types.{converts, is_number, is_single, is_row}
-use Rattle.region_typing_rules.specs.Operands.{Places, Typed, Value, AStruct, ForNothing, ForArray, For, Gives, GivesNothing, number_of, converted, site_at}
-use Rattle.region_typing_rules.specs.Calls.{first_of, writes, is_text, text_pointer, length_typed}
+use Rattle.region_typing_rules.specs.Operands.{Places, Typed, Value, AStruct, ForNothing, ForArray, For, Gives, GivesNothing, number_of, scalar_of, two_numbers, two_scalars, converted, site_at}
+use Rattle.region_typing_rules.specs.Calls.{first_of, writes, is_text, text_pointer, length_typed, measures}
 use Rattle.region_typing_rules.specs.Operands.{is_single_value, lacks_bounds}
 use Rattle.region_typing_rules.specs.Calls.{argument_meets, arguments_as, arguments_met, call_of, declared_callee, pointers_for, terms_for}
 use Rattle.region_typing_rules.specs.Statements.{declared_for, updated, set_to, store}
 use Rattle.region_typing_expressions.specs.ArgumentBounds.{first_unmet, first_unmet_of, result_bounds_of, unless_unmet}
-use Rattle.region_typing_expressions.specs.Calls.{only_number, converted_call}
+use Rattle.region_typing_expressions.specs.Calls.{only_argument, only_number, converted_call}
 use Rattle.region_typing_expressions.specs.Targets.{target_of, updated_target}
 use Rattle.region_typing_scope.specs.Entailing.{fitted}
 use Rattle.region_typing_scope.specs.Operands.{operand_of}
@@ -30,6 +30,18 @@ use Rattle.region_typing_scope.proofs.Entailing.{needs_then, converted_then, fit
 pub number_then : {A : Type 0} (t : Typed) (span : Span) (next : core.Expression → Verdict A) → number_of t span next ≡ passing (number_of t span Passes) next
 number_then (Value type null value place) span next = needs_then (is_number type) _ span value next
 number_then (AStruct struct place) span next = refl
+
+pub two_numbers_then : {A : Type 0} (a b : Typed) (span : Span) (next : core.Expression → core.Expression → Verdict A)
+    → two_numbers a b span next ≡ passing (number_of a span Passes) (λ v. passing (number_of b span Passes) (λ w. next v w))
+two_numbers_then (Value type null value place) b span next =
+    rw (number_then b span (next value)) (needs_then (is_number type) _ span value (λ v. passing (number_of b span Passes) (next v)))
+two_numbers_then (AStruct struct place) b span next = refl
+
+pub two_scalars_then : {A : Type 0} (a b : Typed) (span : Span) (next : core.Expression → core.Expression → Verdict A)
+    → two_scalars a b span next ≡ passing (scalar_of a span Passes) (λ v. passing (scalar_of b span Passes) (λ w. next v w))
+two_scalars_then (Value type null value place) (Value other zero second at) span next = refl
+two_scalars_then (Value type null value place) (AStruct struct at) span next = refl
+two_scalars_then (AStruct struct place) b span next = refl
 
 update_value : {A : Type 0} (right : Typed) (span : Span) (single unbounded scalar : Bool) (next : core.Expression → Verdict A)
     → needs (not single) E19 span (needs (not unbounded) E18 span (needs scalar E13 span (number_of right span next)))
@@ -61,6 +73,13 @@ pub writes_parts : (of : core.Expression → core.Statement) (arguments : List (
 writes_parts of [] span = refl
 writes_parts of (a ∷ []) span = rw (converted_then a.0 Int a.1) (one_value (converted a.0 Int a.1 Passes) (λ values. Passes (GivesNothing (first_of of values))))
 writes_parts of (a ∷ b ∷ others) span = grind arith
+
+-- the length of the only argument
+pub measures_parts : (arguments : List (Typed × Span)) (site : Site) (span : Span)
+    → measures arguments site span ≡ passing (only_argument arguments span) (λ a. converted a.0 text_pointer a.1 (λ v. length_typed a.0 site span))
+measures_parts [] site span = refl
+measures_parts (a ∷ []) site span = refl
+measures_parts (a ∷ b ∷ others) site span = grind arith
 
 -- what converts to a text
 text_converts : (type : CType) (null : Bool) → converts type null text_pointer ≡ (null || is_text type)

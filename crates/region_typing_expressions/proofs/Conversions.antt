@@ -14,7 +14,7 @@ use Rattle.region_typing_rules.specs.Operands.{converted}
 use Rattle.region_typing_rules.specs.Calls.{arguments_as}
 use Rattle.region_typing_expressions.specs.declared.calls.Argument as code
 use Rattle.region_typing_scope.specs.OnHeap.{typed}
-use Rattle.region_typing_expressions.specs.Calls.{argument, only_number}
+use Rattle.region_typing_expressions.specs.Calls.{argument, only_argument}
 use Rattle.region_typing_scope.proofs.Entailing.{converted_then}
 use Rattle.region_typing_expressions.proofs.CoreRows.{joined, joined_none, joined_one}
 
@@ -76,11 +76,11 @@ none_left [] none = refl
 none_left (a ∷ items) none = absurd (omega arith)
 
 -- more than one argument
-pub one_too_many : (a : code.Argument) (rest items : List code.Argument) (b : Bool) (span : Span) (stop : Stop) → items ≡ a ∷ rest → b ≡ (length rest == 0) → needs {A = Unit {0}} b E14 span (Passes tt) ≡ Stops stop → only_number (map argument items) span ≡ Stops stop
+pub one_too_many : (a : code.Argument) (rest items : List code.Argument) (b : Bool) (span : Span) (stop : Stop) → items ≡ a ∷ rest → b ≡ (length rest == 0) → needs {A = Unit {0}} b E14 span (Passes tt) ≡ Stops stop → only_argument (map argument items) span ≡ Stops stop
 one_too_many a [] items b span stop are empty breaks = absurd (cc (rw empty at breaks))
 one_too_many a (x ∷ rest) items b span stop are empty breaks =
     let some : (length (x ∷ rest) == 0) ≡ false = grind arith in
     let broken = rw (empty, some) at breaks in
     let same : Stop = Broken (record { code = E14; span = span }) in
     let is : same ≡ stop = cc in
-    ap (λ ws. only_number (map argument ws) span) are ∙ ap Stops is
+    ap (λ ws. only_argument (map argument ws) span) are ∙ ap Stops is

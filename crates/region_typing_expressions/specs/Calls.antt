@@ -1,10 +1,10 @@
 -- Inside: calls and their arguments, as the code holds them.
-use Rattle.std.specs.Prelude.{ℕ, List, [], ◌∷◌}
+use Rattle.std.specs.Prelude.{ℕ, ◌==◌, List, [], ◌∷◌, length}
 use Rattle.ckc_text.specs.declared.place.Span.{Span}
 use Rattle.ckc_text.specs.declared.code.Code.TheVariants.{E14}
 use Rattle.ckc_core.specs.declared.program.Site.{Site}
 use Rattle.ckc_core.specs.Core as core
-use Rattle.region_typing_rules.specs.Verdicts.{Verdict, Passes, passing, breaks}
+use Rattle.region_typing_rules.specs.Verdicts.{Verdict, Passes, passing, needs, breaks}
 use Rattle.region_typing_rules.specs.Scopes.{Scope, Signature, function_named}
 use Rattle.ckc_tree.specs.Expressions.{Expressions}
 use Rattle.pointer_modes.specs.Types.{Int, ctype}
@@ -28,11 +28,19 @@ called (calls.GivesNothing call) = GivesNothing (statement call.value)
 abbrev pub argument : code_argument.Argument → Typed × Span
 argument a = (typed a.typed, a.span)
 
--- the only argument of a call, as a number: E14, E13
+-- the only argument of a call: E14
+abbrev pub only_argument : List (Typed × Span) → Span → Verdict (Typed × Span)
+only_argument [] span = breaks E14 span
+only_argument (a ∷ []) span = Passes a
+only_argument (a ∷ b ∷ others) span = breaks E14 span
+
+-- the same as a number: E13
 abbrev pub only_number : List (Typed × Span) → Span → Verdict core.Expression
-only_number [] span = breaks E14 span
-only_number (a ∷ []) span = converted a.0 Int a.1 Passes
-only_number (a ∷ b ∷ others) span = breaks E14 span
+only_number arguments span = passing (only_argument arguments span) (λ a. converted a.0 Int a.1 Passes)
+
+-- a call of `next_input`: E14
+abbrev pub reads : List (Typed × Span) → Span → Verdict Called
+reads arguments span = needs (length arguments == 0) E14 span (Passes (Gives Int core.NextInput))
 
 -- a call of a declared function, where the arguments convert (E13) and their bounds are met (E17)
 abbrev pub converted_call : Scope → Signature → List (Typed × Span) → Site → Verdict Called

@@ -4,8 +4,8 @@ use Rattle.ckc_text.specs.declared.place.Span.{Span}
 use Rattle.ckc_text.specs.declared.code.Code.TheVariants.{E13}
 use Rattle.act_words.specs.declared.operator.Comparison.TheVariants as comparisons
 use Rattle.ckc_core.specs.Core as core
-use Rattle.region_typing_rules.specs.Verdicts.{Verdict, Passes, needs, picked}
-use Rattle.region_typing_rules.specs.Operands.{Typed}
+use Rattle.region_typing_rules.specs.Verdicts.{Verdict, Passes, passing, needs, picked}
+use Rattle.region_typing_rules.specs.Operands.{Typed, scalar_of}
 use Rattle.region_typing_rules.specs.Items.{is_zero}
 use Rattle.region_typing_expressions.specs.declared.equality.Equality.{Equality}
 use Rattle.region_typing_expressions.specs.declared.equality.Equality.TheVariants.{Numbers, Pointers, RightNull, LeftNull}
@@ -29,3 +29,8 @@ equated_by LeftNull v w = core.Same core.Null w
 abbrev pub tested_by : (tests_zero : Bool) → Equality → core.Expression → core.Expression → core.Expression
 tested_by true how v w = core.Not v
 tested_by false how v w = equated_by how v w
+
+-- equality of two scalars by how they are compared
+abbrev pub tested_equality : (tests_zero : Bool) → Typed → Typed → Span → Verdict core.Expression
+tested_equality tests_zero a b span =
+    passing (equality a b span) (λ how. passing (scalar_of a span Passes) (λ v. passing (scalar_of b span Passes) (λ w. Passes (tested_by tests_zero how v w))))

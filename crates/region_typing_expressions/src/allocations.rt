@@ -1,19 +1,20 @@
 // New memory.
 
-ghost use Rattle.std.specs.Prelude.{◌≡◌, IfOk, is_some};
+ghost use Rattle.std.specs.Prelude.{◌≡◌, false, Some, None, IfOk};
 ghost use Rattle.std.specs.Option.{option_map};
 ghost use Rattle.ckc_text.specs.Places.{place_at};
 ghost use Rattle.pointer_modes.specs.Types.{ctype as ctype_of};
 ghost use Rattle.ckc_tree.specs.Expressions.{expression as expression_of};
 ghost use Rattle.ckc_core.specs.Core.{Expression, expression};
 ghost use Rattle.ckc_core.specs.Steps.{is_char as char_type};
+ghost use Rattle.region_typing_rules.specs.Verdicts.{picked};
 ghost use Rattle.region_typing_rules.specs.Operands.{site_at};
-ghost use Rattle.region_typing_rules.specs.NewMemory.{is_size as size_of_type, first_factor as first_factor_of, second_factor as second_factor_of, factor_beside, elements_in as elements_in_size, row_counted as row_counted_of, allocation as allocation_of, ended_allocation as ended_allocation_of, allocated_in as allocated_in_size, allocated_of as allocated_of_count, ended_of as ended_of_count, malloc_typed, calloc_typed};
+ghost use Rattle.region_typing_rules.specs.NewMemory.{is_size as size_of_type, factor_beside, elements_in as elements_in_size, row_counted as row_counted_of, allocation as allocation_of, ended_allocation as ended_allocation_of, allocated_in as allocated_in_size, allocated_of as allocated_of_count, ended_of as ended_of_count, malloc_typed, calloc_typed};
 ghost use Rattle.region_typing_rules.specs.Statements.{array_kind as array_kind_of};
 ghost use Rattle.region_typing_scope.specs.Answering.{Answers};
 ghost use Rattle.region_typing_scope.specs.OnHeap.{typed, expression as boxed_expression};
 ghost use Rattle.region_typing_scope.specs.Views.{scope as scope_of};
-ghost use Rattle.region_typing_expressions.specs.Allocations.{factor_of, factor_in, alone_in, memory_of};
+ghost use Rattle.region_typing_expressions.specs.Allocations.{factor_of, factor_in, alone_in, counted as counted_in, memory_of};
 
 use act_words::operator::{ArithmeticOperator, Operator};
 use bounds_exprs::expression::constant as constant_term;
@@ -34,6 +35,7 @@ use region_typing_scope::refusals::{CheckError, needs, refusal};
 use region_typing_scope::scope::Scope;
 use region_typing_scope::typed::{Typed, plain};
 use region_typing_scope::types::{is_number, same_type, type_named};
+use std::mem;
 
 /// One of the two factors of a product.
 #[derive(Clone, Copy)]
@@ -85,54 +87,26 @@ fn beside_size(
     }
 }
 
-// Whether a value is a product.
-fn is_product(value: &Expr) -> bool
-    ensures { result ≡ is_some (first_factor_of (expression value.now)) }
+// Leaves a factor of a product in its place, and says whether it was a product.
+fn keep_factor(which: Factor, value: &mut Expr) -> bool
+    ensures kept { factor_of which (expression value.old) ≡ picked result (Some (expression value.new)) None }
+    ensures other { result ≡ false → value.new ≡ value.old }
 {
-    matches!(
-        value,
-        Expr::Arithmetic {
-            operator: Operator::Arithmetic(ArithmeticOperator::Multiply),
-            ..
-        }
-    )
-}
-
-// The first factor of a product.
-fn first_factor(value: Box<Expr>) -> Option<Box<Expr>>
-    ensures { option_map boxed_expression result ≡ first_factor_of (boxed_expression value) }
-{
-    match Box::into_inner(value) {
+    match value {
         Expr::Arithmetic {
             operator: Operator::Arithmetic(ArithmeticOperator::Multiply),
             left,
-            ..
-        } => Some(left),
-        _ => None,
-    }
-}
-
-// The second factor of a product.
-fn second_factor(value: Box<Expr>) -> Option<Box<Expr>>
-    ensures { option_map boxed_expression result ≡ second_factor_of (boxed_expression value) }
-{
-    match Box::into_inner(value) {
-        Expr::Arithmetic {
-            operator: Operator::Arithmetic(ArithmeticOperator::Multiply),
             right,
             ..
-        } => Some(right),
-        _ => None,
-    }
-}
-
-// A factor of a product.
-fn take_factor(which: Factor, value: Box<Expr>) -> Option<Box<Expr>>
-    ensures { option_map boxed_expression result ≡ factor_of which (boxed_expression value) }
-{
-    match which {
-        Factor::First => first_factor(value),
-        Factor::Second => second_factor(value),
+        } => {
+            let factor = match which {
+                Factor::First => mem::replace(&mut **left, Expr::Null),
+                Factor::Second => mem::replace(&mut **right, Expr::Null),
+            };
+            *value = factor;
+            true
+        }
+        _ => false,
     }
 }
 
@@ -169,15 +143,15 @@ fn elements_in(
     scope: &Scope,
     t: &CType,
     size: &expr::Expr,
-    value: Box<Expr>,
+    mut value: Box<Expr>,
 ) -> Result<Option<Box<Expr>>, NoMemory>
     ensures { IfOk result (λ count. option_map boxed_expression count ≡ elements_in_size (scope_of scope.now) (ctype_of t.now) (expression_of size.now) (boxed_expression value)) }
 {
     let beside = beside_size(context, scope, t, size)?;
     match beside {
         Some(which) => {
-            if is_product(&value) {
-                Ok(take_factor(which, value))
+            if keep_factor(which, &mut value) {
+                Ok(Some(value))
             } else {
                 elements_alone(context, scope, t, size, value)
             }
@@ -303,6 +277,22 @@ fn allocated_in(
     }
 }
 
+// A number of elements, with the size of one behind it.
+fn counted(
+    context: &Context,
+    scope: &Scope,
+    t: &CType,
+    count: Box<Typed>,
+    size: &expr::Expr,
+    span: Span,
+) -> Result<Box<Expr>, CheckError>
+    ensures { Answers boxed_expression (counted_in (scope_of scope.now) (ctype_of t.now) (typed count) (expression_of size.now) span) result }
+{
+    let count = number(context, count, span)?;
+    needs(is_size(context, scope, t, size)?, Code::E13, span)?;
+    Ok(count)
+}
+
 // New memory of a number of elements, with the size of one.
 fn allocated_of(
     context: &Context,
@@ -314,8 +304,7 @@ fn allocated_of(
 ) -> Result<Box<Typed>, CheckError>
     ensures { Answers typed (allocated_of_count (scope_of scope.now) (ctype_of t) (typed count) (expression_of size.now) (site_at (place_at context.now) span) span) result }
 {
-    let count = number(context, count, span)?;
-    needs(is_size(context, scope, &t, size)?, Code::E13, span)?;
+    let count = counted(context, scope, &t, count, size, span)?;
     allocation(context, scope, t, count, span)
 }
 
@@ -330,8 +319,7 @@ fn ended_of(
 ) -> Result<Box<Typed>, CheckError>
     ensures { Answers typed (ended_of_count (scope_of scope.now) (ctype_of t) (typed count) (expression_of size.now) (site_at (place_at context.now) span) span) result }
 {
-    let count = number(context, count, span)?;
-    needs(is_size(context, scope, &t, size)?, Code::E13, span)?;
+    let count = counted(context, scope, &t, count, size, span)?;
     let before = term(scope.locals.as_slice(), &count);
     ended_allocation(context, scope, t, count, Terminator::Behind, before, span)
 }

@@ -231,14 +231,14 @@ fn store_sum(
     object: u32,
     declared: &Bounds,
     ctype: CType,
-    sum: program::Expr,
+    sum: Box<program::Expr>,
     span: Span,
 ) -> Result<Stmt, CheckError>
-    ensures { Answers statement (bounded_sum (scope_of scope.now).flow object declared.now (ctype_of ctype) (expression sum) span) result }
+    ensures { Answers statement (bounded_sum (scope_of scope.now).flow object declared.now (ctype_of ctype) (expression sum.value) span) result }
 {
     let met = value_meets(&scope.flow, &sum, declared)?;
     needs(met, Code::E17, span)?;
-    Ok(store_object(object, ctype, sum))
+    Ok(store_object(object, ctype, Box::into_inner(sum)))
 }
 
 // No sum is stored in a cell, whether it meets the bounds that are asked there or not.
@@ -267,8 +267,8 @@ fn sum_of_cell(
     bounds: Option<PointerBounds>,
     number: Box<program::Expr>,
     site: Site,
-) -> Result<program::Expr, NoMemory>
-    ensures { IfOk result (λ sum. expression sum ≡ sum_of (scope_of scope.now) direction (Load (ctype_of ctype.now) (place_of cell) bounds) (expression number.value) site) }
+) -> Result<Box<program::Expr>, NoMemory>
+    ensures { IfOk result (λ sum. expression sum.value ≡ sum_of (scope_of scope.now) direction (Load (ctype_of ctype.now) (place_of cell) bounds) (expression number.value) site) }
 {
     let held = program::Expr::Load {
         ctype: copied(context, ctype)?,
@@ -276,7 +276,7 @@ fn sum_of_cell(
         bounds,
     };
     let pointer = context.boxed(held)?;
-    Ok(pointer_sum(scope, direction, pointer, number, site))
+    context.boxed(pointer_sum(scope, direction, pointer, number, site))
 }
 
 // A pointer in a place becomes a sum of it.

@@ -14,7 +14,7 @@ ghost use Rattle.region_typing_scope.specs.Answering.{Answers};
 ghost use Rattle.region_typing_rules.specs.Verdicts.{Passes};
 ghost use Rattle.region_typing_scope.specs.Typed.{typed as inline_typed};
 ghost use Rattle.region_typing_scope.specs.OnHeap.{typed};
-ghost use Rattle.region_typing_expressions.specs.Calls.{argument, called as called_as, converted_call, only_number};
+ghost use Rattle.region_typing_expressions.specs.Calls.{argument, called as called_as, converted_call, only_argument as only_argument_in, only_number, reads as reads_in};
 
 use crate::argument_bounds::{bounds_at_call, unless_unmet};
 use bounds_exprs::term::Bounds;
@@ -71,21 +71,29 @@ fn arguments_as(
     Ok(built)
 }
 
-// The only argument of a call, as a number.
-fn one_number(
-    context: &Context,
-    mut arguments: VecDeque<Argument>,
-    span: Span,
-) -> Result<Expr, CheckError>
-    ensures { Answers expression (only_number (map argument arguments.items) span) result }
+// The only argument of a call.
+fn only_argument(mut arguments: VecDeque<Argument>, span: Span) -> Result<Argument, CheckError>
+    ensures { Answers argument (only_argument_in (map argument arguments.items) span) result }
 {
     match arguments.pop_front() {
         Some(argument) => {
             needs(arguments.is_empty(), Code::E14, span)?;
-            converted(context, argument.typed, &CType::Int, argument.span)
+            Ok(argument)
         }
         None => Err(refusal(Code::E14, span)),
     }
+}
+
+// The only argument of a call, as a number.
+fn one_number(
+    context: &Context,
+    arguments: VecDeque<Argument>,
+    span: Span,
+) -> Result<Expr, CheckError>
+    ensures { Answers expression (only_number (map argument arguments.items) span) result }
+{
+    let argument = only_argument(arguments, span)?;
+    converted(context, argument.typed, &CType::Int, argument.span)
 }
 
 // A call of `print_int`.
@@ -164,19 +172,26 @@ fn text_length(
 // A call of `strlen`.
 fn measures(
     context: &Context,
-    mut arguments: VecDeque<Argument>,
+    arguments: VecDeque<Argument>,
     site: Site,
     span: Span,
 ) -> Result<Called, CheckError>
     ensures { Answers called_as (measures_in (map argument arguments.items) site span) result }
 {
-    match arguments.pop_front() {
-        Some(argument) => {
-            needs(arguments.is_empty(), Code::E14, span)?;
-            text_length(context, argument, site, span)
-        }
-        None => Err(refusal(Code::E14, span)),
-    }
+    let argument = only_argument(arguments, span)?;
+    text_length(context, argument, site, span)
+}
+
+// A call of `next_input`.
+fn reads(context: &Context, arguments: VecDeque<Argument>, span: Span) -> Result<Called, CheckError>
+    ensures { Answers called_as (reads_in (map argument arguments.items) span) result }
+{
+    needs(arguments.is_empty(), Code::E14, span)?;
+    let value = context.boxed(Expr::NextInput)?;
+    Ok(Called::Gives {
+        ctype: CType::Int,
+        value,
+    })
 }
 
 // A call of a function that is there before the program.
@@ -191,12 +206,7 @@ fn predefined(
     ensures { Answers called_as (predefined_in given name (map argument arguments.items) site span) result }
 {
     if name == given.next_input {
-        needs(arguments.is_empty(), Code::E14, span)?;
-        let value = context.boxed(Expr::NextInput)?;
-        return Ok(Called::Gives {
-            ctype: CType::Int,
-            value,
-        });
+        return reads(context, arguments, span);
     }
     if name == given.print_int {
         return prints(context, arguments, span);

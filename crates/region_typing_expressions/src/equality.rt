@@ -52,8 +52,8 @@ pub fn equality_of(left: &Typed, right: &Typed, span: Span) -> Result<Equality, 
     Ok(Equality::LeftNull)
 }
 
-/// Whether two values are equal.
-pub fn equated_by(
+// Whether two values are equal.
+fn equated_by(
     context: &Context,
     how: Equality,
     left: Box<Expr>,

@@ -3,7 +3,7 @@
 ghost use Rattle.std.specs.Prelude.{◌≡◌, IfOk, map, false};
 ghost use Rattle.ckc_text.specs.Places.{place_at};
 ghost use Rattle.ckc_tree.specs.Types.{type_name as type_name_of};
-ghost use Rattle.ckc_tree.specs.Expressions.{expression as expression_of, bounds as bounds_tree, Call, Cast, BoundedCast, Malloc, Name, Index, Dot, Arrow, Unary};
+ghost use Rattle.ckc_tree.specs.Expressions.{expression as expression_of, bounds as bounds_tree, Binary, Call, Calloc, Cast, BoundedCast, Malloc, Name, Index, Dot, Arrow, Unary};
 ghost use Rattle.pointer_modes.specs.Types.{Int};
 ghost use Rattle.ckc_core.specs.Core.{Number};
 ghost use Rattle.region_typing_rules.specs.Verdicts.{Passes};
@@ -31,7 +31,9 @@ use ckc_core::program::{CellPlace, Site};
 use ckc_text::code::Code;
 use ckc_text::fault::NoMemory;
 use ckc_text::place::Span;
-use ckc_tree::expr::{BinaryOperator, BoundsText, CastWord, Expr, MallocWord, UnaryOperator};
+use ckc_tree::expr::{
+    BinaryOperator, BoundsText, CallocWord, CastWord, Expr, MallocWord, UnaryOperator,
+};
 use ckc_tree::identifier::Identifier;
 use ckc_tree::type_form::TypeName;
 use pointer_modes::ctype::{CType, Kind, Mode};
@@ -227,11 +229,7 @@ fn typed_at(context: &Context, point: &Point<'_>, e: &Expr) -> Result<Box<Typed>
             span,
         } => call_value(context, point, callee, arguments.as_slice(), *span),
         Expr::SizeOf { type_name, .. } => size_of(context, point.scope, type_name),
-        Expr::Index { base, index, span } => {
-            let base = typed_at(context, point, base)?;
-            let index = typed_at(context, point, index)?;
-            element_of(context, point.scope, base, index, *span)
-        }
+        Expr::Index { base, index, span } => element_value(context, point, base, index, *span),
         Expr::Dot { base, member, span } => member_of(context, point, base, member, *span),
         Expr::Arrow { base, member, span } => member_through(context, point, base, member, *span),
         Expr::Unary {
@@ -244,11 +242,7 @@ fn typed_at(context: &Context, point: &Point<'_>, e: &Expr) -> Result<Box<Typed>
             left,
             right,
             span,
-        } => {
-            let left = typed_at(context, point, left)?;
-            let right = right_typed(context, point, *operator, right, &left)?;
-            binary(context, point.scope, *operator, left, right, *span)
-        }
+        } => binary_of(context, point, *operator, left, right, *span),
         Expr::Cast {
             word,
             type_name,
@@ -273,13 +267,41 @@ fn typed_at(context: &Context, point: &Point<'_>, e: &Expr) -> Result<Box<Typed>
             count,
             size,
             span,
-        } => {
-            let t = type_named(context, point.scope, type_name)?;
-            let count = typed_at(context, point, count)?;
-            let _size = typed_at(context, point, size)?;
-            calloc(context, point.scope, *word, t, count, size, *span)
-        }
+        } => calloc_of(context, point, *word, type_name, count, size, *span),
     }
+}
+
+// An element, by the expressions of its base and its index.
+#[cycle(expressions)]
+fn element_value(
+    context: &Context,
+    point: &Point<'_>,
+    base: &Expr,
+    index: &Expr,
+    span: Span,
+) -> Result<Box<Typed>, CheckError>
+    ensures { Answers typed_view (typed_of (place_at context.now) (point_of point.now) (Index (expression_of base.now) (expression_of index.now) span)) result }
+{
+    let base = typed_at(context, point, base)?;
+    let index = typed_at(context, point, index)?;
+    element_of(context, point.scope, base, index, span)
+}
+
+// An operator between its operands.
+#[cycle(expressions)]
+fn binary_of(
+    context: &Context,
+    point: &Point<'_>,
+    operator: BinaryOperator,
+    left: &Expr,
+    right: &Expr,
+    span: Span,
+) -> Result<Box<Typed>, CheckError>
+    ensures { Answers typed_view (typed_of (place_at context.now) (point_of point.now) (Binary operator (expression_of left.now) (expression_of right.now) span)) result }
+{
+    let left = typed_at(context, point, left)?;
+    let right = right_typed(context, point, operator, right, &left)?;
+    binary(context, point.scope, operator, left, right, span)
 }
 
 // What the right operand of an operator is: that of `&&` and that of `||` know what the left one told.
@@ -372,6 +394,25 @@ fn malloc_of(
     let t = type_named(context, point.scope, t)?;
     let value = typed_at(context, point, size)?;
     malloc(context, point.scope, word, t, size, value, span)
+}
+
+// New memory of a number of elements.
+#[cycle(expressions)]
+fn calloc_of(
+    context: &Context,
+    point: &Point<'_>,
+    word: CallocWord,
+    t: &TypeName,
+    count: &Expr,
+    size: &Expr,
+    span: Span,
+) -> Result<Box<Typed>, CheckError>
+    ensures { Answers typed_view (typed_of (place_at context.now) (point_of point.now) (Calloc word (type_name_of t.now) (expression_of count.now) (expression_of size.now) span)) result }
+{
+    let t = type_named(context, point.scope, t)?;
+    let count = typed_at(context, point, count)?;
+    let _size = typed_at(context, point, size)?;
+    calloc(context, point.scope, word, t, count, size, span)
 }
 
 // A member of a struct, before its bounds are noted.

@@ -11,9 +11,10 @@ ghost use Rattle.region_typing_scope.specs.OnHeap.{typed};
 ghost use Rattle.region_typing_scope.specs.Operands.{and_also, or_else, operand as operand_view};
 ghost use Rattle.region_typing_scope.specs.Views.{scope as scope_of};
 ghost use Rattle.region_typing_expressions.specs.Comparing.{compared as comparison_of, ordered_pointers, related as related_in};
+ghost use Rattle.region_typing_expressions.specs.Equality.{tested_equality as tested_in};
 ghost use Rattle.region_typing_expressions.specs.Moves.{moved as moved_by};
 
-use crate::equality::{equality_of, equated_by, tested_by};
+use crate::equality::{equality_of, tested_by};
 use crate::operand_tests::{
     are_comparable_values, are_related_values, is_pointer_value, is_zero_test, without_ptr,
 };
@@ -232,19 +233,20 @@ fn disjunction(
     numeric(context, Expr::OrElse { left, right })
 }
 
-// Whether two expressions are equal.
-fn equated(
+// Whether two expressions are equal, where an element of a null-terminated pointer may be compared with the constant 0.
+fn tested(
     context: &Context,
+    tests_zero: bool,
     left: Box<Typed>,
     right: Box<Typed>,
     span: Span,
 ) -> Result<Expr, CheckError>
-    ensures { Answers expression (equated_in (typed left) (typed right) span) result }
+    ensures { Answers expression (tested_in tests_zero (typed left) (typed right) span) result }
 {
     let how = equality_of(&left, &right, span)?;
     let left = scalar(context, left, span)?;
     let right = scalar(context, right, span)?;
-    Ok(equated_by(context, how, left, right)?)
+    Ok(tested_by(context, tests_zero, how, left, right)?)
 }
 
 // Whether two expressions are equal, as a number.
@@ -256,7 +258,7 @@ fn equal(
 ) -> Result<Box<Typed>, CheckError>
     ensures { Answers typed (passing (equated_in (typed left) (typed right) span) number_typed) result }
 {
-    let value = equated(context, left, right, span)?;
+    let value = tested(context, false, left, right, span)?;
     numeric(context, value)
 }
 
@@ -270,11 +272,8 @@ fn different(
 ) -> Result<Box<Typed>, CheckError>
     ensures { Answers typed (passing (equated_in (typed left) (typed right) span) (λ v. number_typed (Not (zero_test (typed left) (typed right) v)))) result }
 {
-    let how = equality_of(&left, &right, span)?;
     let tests_zero = is_zero_test(&left, &right);
-    let left = scalar(context, left, span)?;
-    let right = scalar(context, right, span)?;
-    let equal = tested_by(context, tests_zero, how, left, right)?;
+    let equal = tested(context, tests_zero, left, right, span)?;
     let equal = context.boxed(equal)?;
     numeric(context, Expr::Not(equal))
 }

@@ -6,6 +6,7 @@ pub mod Validity
 pub mod Sure
 pub mod Goes
 pub mod Accesses
+pub mod CallsGo
 pub mod Operations
 pub mod Soundness
 pub mod Programs

@@ -1,21 +1,17 @@
--- What has types is never stuck and never unsound: calls, and what expressions do with the values of their operands.
-use Rattle.std.proofs.Common.{◌≡◌, ◌+ℤ◌, ℕ, suc, ◌+◌, ◌<◌, ◌≤◌, Bool, true, false, ℤ, List, replicate, length, cond, Option, Some, None, refl, sym, ap, ◌∙◌, subst, arith}
+-- What has types is never stuck and never unsound: what expressions do with the values of their operands.
+use Rattle.std.proofs.Common.{◌≡◌, ◌+ℤ◌, ℕ, suc, ◌+◌, ◌<◌, ◌≤◌, Bool, true, false, ℤ, List, length, cond, Option, Some, None, refl, sym, ap, ◌∙◌, subst, arith}
 use Rattle.std.specs.Prelude.{◌==◌, is_some, slice_get, option_map, pos}
 use Rattle.std.proofs.lemmas.Int.{ints}
 use Rattle.std.proofs.lemmas.Bool.Decides.{nat_tests}
 use Rattle.std.proofs.lemmas.Bool.{le-leb}
 use Rattle.std.proofs.lemmas.Option.{cond_some, same_Some, slice_get_within}
-use Rattle.std.proofs.lemmas.List.{length-replicate}
 use Rattle.ckc_core.specs.Outcome.{Gives, and_then}
 use Rattle.act_words.specs.Operators.{holds}
-use Rattle.act_words.specs.Acts.{Passed}
 use Rattle.ckc_text.specs.declared.code.Code.TheVariants.{C5}
 use Rattle.pointer_modes.specs.Layout.{size_of}
-use Rattle.act_words.specs.Touches.{spend_tick, enter_call, touch}
 use Rattle.ckc_core.specs.declared.program.Site.{Site}
 use Rattle.act_words.specs.declared.operator.Comparison.{Comparison}
 use Rattle.ckc_core.specs.declared.program.Callee.{Callee}
-use Rattle.ckc_core.specs.declared.program.Callee.TheVariants as callees
 use Rattle.pointer_modes.specs.declared.ctype.Mode.{Mode}
 use Rattle.pointer_modes.specs.declared.ctype.Mode.TheVariants as modes
 use Rattle.pointer_modes.specs.declared.ctype.Kind.{Kind}
@@ -25,12 +21,12 @@ use Rattle.ckc_core.specs.Core as core
 use Rattle.ckc_core.specs.States.{Value, Number, Null, At, Local, Grows, State, shape, shapes, has_type, object_block}
 use Rattle.ckc_core.specs.declared.program.PointerBounds.{PointerBounds}
 use Rattle.ckc_core.specs.declared.program.Terminator.{Terminator}
-use Rattle.ckc_core.specs.Programs.{Import, Initial, Variable}
+use Rattle.ckc_core.specs.Programs.{Initial, Variable}
 use Rattle.ckc_core.specs.declared.program.Direction.{Direction}
 use Rattle.bounds_exprs.specs.declared.term.Bounds.{Bounds}
 use Rattle.ckc_core.specs.Bounds.{Ends as EndsOf, base_byte, ends_at, term_value, with_ends}
 use Rattle.ckc_core.specs.Pointers.{allocated, is_terminated, are_within, not_null, ordered, ordered_if, number_given, checked_if}
-use Rattle.ckc_core.specs.Steps.{Result, locals_for, given, truth, number_of_test, asked, words_of, reply_as, back, passed, cross, cross_if, call_tainted, takes, parameters_of, enter_if, call_trusted, result_given, choose, called}
+use Rattle.ckc_core.specs.Steps.{Result, given, truth, number_of_test, asked, back, passed, takes, result_given, choose, called}
 use Rattle.ckc_core.specs.Meaning.{Knot, Setting, audit, bounds_of, cast_if, cast_to, cast_within, element, summed, value, values, place}
 use Rattle.region_typing_rules.specs.Scopes.{Scope}
 use Rattle.region_typing_rules.specs.Knowing.{when}
@@ -39,7 +35,7 @@ use Rattle.region_typing_rules.specs.DeclaredBounds.{row_of}
 use Rattle.bounds_flow_meaning.specs.Holding.{is_ended}
 use Rattle.region_typing_rules.specs.Verdicts.{picked}
 use Rattle.region_typing_rules.specs.Readings.{with_base, based_bounds, own_bounds, constant, constant_of, is_null, pointer_local, term}
-use Rattle.region_typing_rules.specs.KnownIsSo.{HasLocals, IsAlike, WhereGiven, IsKnown}
+use Rattle.region_typing_rules.specs.KnownIsSo.{IsAlike, WhereGiven, IsKnown}
 use Rattle.region_typing_rules.specs.Typed as typed
 use Rattle.bounds_exprs.specs.Values.{value as term_number}
 use Rattle.bounds_exprs.specs.declared.term.Term.{Term}
@@ -47,17 +43,14 @@ use Rattle.bounds_exprs.specs.Normal.{constant as constant_term}
 use Rattle.bounds_exprs.specs.Terms.{is_within, term_limit}
 use Rattle.bounds_flow.specs.Conditions.{IsFlow}
 use Rattle.bounds_flow_meaning.specs.Holding.{AreInts, HasSize, HaveTypes as AreTyped, IsInt, IsValid, at_node, numbers_in, types_of}
-use Rattle.bounds_flow_meaning.specs.Calls.{HoldTerms}
-use Rattle.bounds_exprs.specs.Changes.{ends_filled_in}
 use Rattle.bounds_flow_meaning.specs.Sums.{counted, IsBeforeZero}
 use Rattle.bounds_flow_meaning.proofs.Numbers.{int_term, same_number}
 use Rattle.bounds_flow_meaning.proofs.Validity.{base_found, ends_parts, null_valid, valid_from}
-use Rattle.region_typing_rules.specs.Typed.{IsBoundedObject, AreNewBounds, IsBaseOf, Frame, HasBounds, IsBoundedBy, HasValue, IsNumberResult, IsCallee, HasCallBounds, HasResultBounds, AreAsked, terms_of, pointers_of, AreRows, AreSumBounds, CountsAs, HasCellBounds, HasElements, IsNodeOf, IsEndedRow}
+use Rattle.region_typing_rules.specs.Typed.{IsBoundedObject, AreNewBounds, IsBaseOf, Frame, HasBounds, IsBoundedBy, HasValue, IsCallee, HasCallBounds, AreAsked, terms_of, pointers_of, AreRows, AreSumBounds, CountsAs, HasCellBounds, HasElements, IsNodeOf, IsEndedRow}
 use Rattle.region_typing_rules.specs.Types.{Counts}
-use Rattle.region_typing_rules.proofs.Worlds.{Anything, tick_answers, enter_answers, touch_answers}
-use Rattle.region_typing_rules.proofs.BoundedObjects.{constant_stays, held_same}
-use Rattle.region_typing_rules.proofs.Values.{mapped_there, grows_here, grows_on, value_grown, values_count, values_fit, local_there, values_grown, locals_grown}
-use Rattle.region_typing_rules.proofs.Validity.{same_pointer, sound}
+use Rattle.region_typing_rules.proofs.BoundedObjects.{constant_stays}
+use Rattle.region_typing_rules.proofs.Values.{mapped_there, grows_here, value_grown, local_there}
+use Rattle.region_typing_rules.proofs.Validity.{same_pointer}
 use Rattle.region_typing_rules.proofs.Verdicts.{Extends}
 use Rattle.region_typing_rules.proofs.Sure.{sure_further, sure_both, sure_given}
 use Rattle.region_typing_rules.proofs.Keeping.{IsAfter, after_here}
@@ -68,120 +61,18 @@ use Rattle.region_typing_rules.proofs.Given.{IsGivenIf, AreGivenAt, AreGiven, bo
 use Rattle.region_typing_rules.proofs.Assigns.{IsGivenTo}
 use Rattle.region_typing_rules.proofs.ReadElements.{AreRight}
 use Rattle.region_typing_rules.proofs.Told.{null_given, pointer_so, told_fits, told_here, told_is}
-use Rattle.region_typing_rules.proofs.Calls.{AreEntered, ArePassed, IsPassed, entered, entered_later, hold, result_valid}
+use Rattle.region_typing_rules.proofs.Calls.{ArePassed, IsPassed}
 use Rattle.region_typing_rules.proofs.Elements.{AreOf, pointing, ends_there, size_there, IsSum, sum_among, sum_based, sum_valid, array_valid, one_valid}
 use Rattle.region_typing_rules.proofs.EndedRows.{cell_valid, valid_as_array, valid_as_single, row_valid, value_as}
 use Rattle.region_typing_rules.proofs.LastZeros.{IsNewRow}
-use Rattle.region_typing_rules.proofs.Goes.{Goes, HasResult, IsAnswer, IsBounded, IsKept, IsKnot, IsReply, IsResult, OfNode, OfType, OfTypes, asked_goes, goes_further, goes_on, has_locals, lowered, shaped}
-use Rattle.region_typing_rules.proofs.Accesses.{IsAimed, aimed_here, aimed_later, allocated_goes, audited_goes, bounded_goes, given_back, new_valid, reply_goes, summed_goes, test_goes, valid_back, words_there}
+use Rattle.region_typing_rules.proofs.Goes.{Goes, IsBounded, IsKept, IsKnot, OfNode, OfType, OfTypes, goes_further, goes_on, has_locals, shaped}
+use Rattle.region_typing_rules.proofs.Accesses.{IsAimed, aimed_here, aimed_later, allocated_goes, audited_goes, bounded_goes, given_back, new_valid, summed_goes, test_goes, valid_back}
+use Rattle.region_typing_rules.proofs.CallsGo.{setting as setting_of, AreBegun, IsBack, begun_so, called_goes}
 
 module _ (g : Frame) (budget ticks : ℕ) where
   module _ (sandbox trusted : ℕ) (k : Knot) (is : IsKnot g budget ticks k) where
     abbrev pub setting : Setting
-    setting = record { program = g.program; budget = budget; sandbox = sandbox; trusted = trusted }
-
-    module _ (types : List CType) where
-      -- back in the function that called, whose locals were left
-      back_kept : (low : ℕ) (s t : State) → IsAfter s t → IsKept g budget ticks low types s → IsKept g budget ticks low types t → IsKept g budget ticks low types (record t { locals = s.locals; depth = s.depth })
-      back_kept low s t grown kept after =
-          record { grown = after.grown; cells = after.cells; locals = locals_grown g.structs (shaped s) (shaped t) grown.0 types s.locals kept.locals; world = after.world; enough = after.enough; held = held_same g t (record t { locals = s.locals; depth = s.depth }) refl after.held; zeros = after.zeros; short = after.short }
-
-      passed_goes : (low : ℕ) (s : State) (i : Import) (site : Site) → IsNumberResult i.result → suc budget ≤ low + ticks → IsKept g budget ticks low types s → Goes g budget ticks low types s (IsAnswer g i.result) (passed k i site s)
-      passed_goes low s i site crosses enough kept =
-          let inside : State = record s { depth = s.depth + 1 } in
-          goes_on g budget ticks low types s IsReply (IsAnswer g i.result) (and_then (k.sandbox inside) (back s)) (reply_as i.result site)
-          (goes_on g budget ticks low types s IsReply IsReply (k.sandbox inside) (back s)
-          (is.sandbox low types inside enough (record { grown = kept.grown; cells = kept.cells; locals = kept.locals; world = kept.world; enough = kept.enough; held = held_same g s inside refl kept.held; zeros = kept.zeros; short = kept.short }))
-          (λ reply t grown small t_kept. (small, (grows_here (shaped t), sym grown.1), back_kept low s t grown kept t_kept)))
-          (λ reply t grown small t_kept. reply_goes g budget ticks low types t i.result site reply crosses small t_kept)
-
-      cross_goes : (low : ℕ) (s : State) (import : ℕ) (i : Import) (site : Site) (o : Option (List ℕ)) (words : List ℕ) → o ≡ Some words → IsNumberResult i.result → IsKept g budget ticks low types s → Goes g budget ticks low types s (IsAnswer g i.result) (cross setting k import i site o s)
-      cross_goes low s import i site None words e crosses kept = absurd (cc)
-      cross_goes low s import i site (Some sent) words e crosses kept =
-          lowered g budget ticks low types s (IsAnswer g i.result) (cross setting k import i site (Some sent) s) kept.enough
-          (asked_goes g budget ticks low (suc low) types Anything (IsAnswer g i.result) (spend_tick budget s.world) s _ (tick_answers budget low s.world kept.world) (let few = kept.enough in omega arith) kept
-          (λ _ t _ _ t_kept. asked_goes g budget ticks (suc low) (suc low) types Anything (IsAnswer g i.result) (enter_call t.depth t.world) t _ (enter_answers budget (suc low) t.depth t.world t_kept.world) t_kept.enough t_kept
-          (λ _ u _ _ u_kept. asked_goes g budget ticks (suc low) (suc low) types Anything (IsAnswer g i.result) (touch (Passed import sent) u.world) u _ (touch_answers budget (suc low) (Passed import sent) u.world u_kept.world) u_kept.enough u_kept
-          (λ _ v _ _ v_kept. passed_goes (suc low) v i site crosses (let few = kept.enough in omega arith) v_kept))))
-
-      tainted_goes : (low : ℕ) (s : State) (import : ℕ) (i : Import) (site : Site) (vs : List Value) → slice_get g.program.imports import ≡ Some i → IsNumberResult i.result → OfTypes g (replicate i.parameters Int) vs s → IsKept g budget ticks low types s
-          → Goes g budget ticks low types s (IsAnswer g i.result) (call_tainted setting k import (slice_get g.program.imports import) site vs s)
-      tainted_goes low s import i site vs found crosses h kept =
-          let words = words_there g budget ticks (shaped s) i.parameters vs h in
-          let many : length vs ≡ i.parameters = values_count g.structs (shaped s) (replicate i.parameters Int) vs h ∙ length-replicate i.parameters Int in
-          let test : (i.parameters == length vs) ≡ true = grind (arith, nat_tests) in
-          subst (λ o. Goes g budget ticks low types s (IsAnswer g i.result) (call_tainted setting k import o site vs s)) (sym found)
-          (subst (λ yes. Goes g budget ticks low types s (IsAnswer g i.result) (cross_if yes setting k import i site vs s)) (sym test) (cross_goes low s import i site (words_of vs) words.0 words.1 crosses kept))
-
-      entered_goes : (low : ℕ) (s : State) (function : ℕ) (f : core.Function) (bs : List (Option Bounds)) (r : Option Bounds) (vs : List Value) (test : Bool) → test ≡ true → slice_get g.program.functions function ≡ Some f → slice_get g.bounds function ≡ Some bs
-          → slice_get g.result_bounds function ≡ Some r → OfTypes g (parameters_of f) vs s → AreEntered g.structs bs (record s { locals = locals_for f.locals vs }) → IsKept g budget ticks low types s → Goes g budget ticks low types s (IsResult g budget ticks f.result r f.locals vs) (enter_if test setting k function vs s)
-      entered_goes low s function f bs r vs false e found known told h begun kept = absurd (cc)
-      entered_goes low s function f bs r vs true e found known told h begun kept =
-          let enough : suc budget ≤ suc low + ticks = let few = kept.enough in omega arith in
-          lowered g budget ticks low types s (IsResult g budget ticks f.result r f.locals vs) (enter_if true setting k function vs s) kept.enough
-          (asked_goes g budget ticks low (suc low) types Anything (IsResult g budget ticks f.result r f.locals vs) (spend_tick budget s.world) s _ (tick_answers budget low s.world kept.world) (let few = kept.enough in omega arith) kept
-          (λ _ t more _ t_kept. asked_goes g budget ticks (suc low) (suc low) types Anything (IsResult g budget ticks f.result r f.locals vs) (enter_call t.depth t.world) t _ (enter_answers budget (suc low) t.depth t.world t_kept.world) t_kept.enough t_kept
-          (λ _ u more' _ u_kept.
-          let grown = grows_on (shaped s) (shaped t) (shaped u) more.0 more'.0 in
-          is.call (suc low) types function f vs u found bs known r told (values_grown g.structs (shaped s) (shaped u) grown (parameters_of f) vs h)
-          (entered_later g.structs bs (record s { locals = locals_for f.locals vs }) (record u { locals = locals_for f.locals vs }) grown refl begun) enough u_kept)))
-
-      trusted_goes : (low : ℕ) (s : State) (function : ℕ) (f : core.Function) (bs : List (Option Bounds)) (r : Option Bounds) (vs : List Value) → slice_get g.program.functions function ≡ Some f → slice_get g.bounds function ≡ Some bs → slice_get g.result_bounds function ≡ Some r
-          → OfTypes g (parameters_of f) vs s → AreEntered g.structs bs (record s { locals = locals_for f.locals vs }) → IsKept g budget ticks low types s → Goes g budget ticks low types s (IsResult g budget ticks f.result r f.locals vs) (call_trusted setting k function vs s)
-      trusted_goes low s function f bs r vs found known told h begun kept =
-          let test = ap (λ (o : Option core.Function). takes o vs) found ∙ values_fit g.structs (shaped s) (parameters_of f) vs h in
-          entered_goes low s function f bs r vs (takes (slice_get g.program.functions function) vs) test found known told h begun kept
-
-      -- what a call enters its function with
-      abbrev AreBegun : {callee : Callee} {ts : List CType} {bs : List (Option Bounds)} {result : Option CType} {r : Option Bounds} → IsCallee g callee ts bs result r → List Value → State → Type 0
-      AreBegun (typed.trusted {f = f} {bounds = bs} found known told rows sound) vs s = AreEntered g.structs bs (record s { locals = locals_for f.locals vs })
-      AreBegun (typed.tainted found crosses) vs s = Unit {0}
-
-      begun_so : {callee : Callee} {ts : List CType} {bs : List (Option Bounds)} {result : Option CType} {r : Option Bounds} (enters : IsCallee g callee ts bs result r) (here : Scope) (arguments : core.Arguments) (vs : List Value) (s : State) → IsKnown g.structs here s → HasLocals here.locals s
-          → AreAsked g.structs here (terms_of here.locals arguments ts) (pointers_of here.locals arguments) arguments bs → ArePassed g.structs (length here.locals) here.locals ts arguments vs s → AreBegun enters vs s
-      begun_so (typed.trusted {f = f} {bounds = bs} found known told rows sound) here arguments vs s is_known has asked passed = entered g.structs here s is_known has f.locals f.parameters arguments vs bs rows passed asked
-      begun_so (typed.tainted found crosses) here arguments vs s is_known has asked passed = tt
-
-      -- what it gives back: a result that is valid, over what stands for the parameters, with the bounds that are declared for it
-      abbrev pub IsBack : List (Option Term) → Option CType → Option Bounds → Option Value → State → Type 0
-      IsBack terms result r v s = IsAnswer g result v s × ((b d : Bounds) → r ≡ Some b → ends_filled_in terms b ≡ Some d → HasResult g.structs result (Some d) v s)
-
-      back_so : (terms : List (Option Term)) (result : Option CType) (r : Option Bounds) (types' : List CType) (locals : List CType) (vs : List Value) (v : Option Value) (s : State) → HasResultBounds types' result r → HoldTerms terms s.locals (locals_for locals vs) → IsResult g budget ticks result r locals vs v s → IsBack terms result r v s
-      back_so terms result None types' locals vs v s sound hold h = (h.0, λ b d is at. absurd (cc))
-      back_so terms None (Some b) types' locals vs v s sound hold h = (h.0, λ b d is at. tt)
-      back_so terms (Some Int) (Some b) types' locals vs v s sound hold h = (h.0, λ b d is at. tt)
-      back_so terms (Some Char) (Some b) types' locals vs v s sound hold h = (h.0, λ b d is at. tt)
-      back_so terms (Some (Struct number)) (Some b) types' locals vs v s sound hold h = (h.0, λ b d is at. tt)
-      back_so terms (Some (Pointer m kinds.One t)) (Some b) types' locals vs v s sound hold h = (h.0, λ b d is at. tt)
-      back_so terms (Some (Pointer m kinds.Nt t)) (Some b) types' locals vs None s sound hold h = (h.0, λ b d is at. tt)
-      back_so terms (Some (Pointer m kinds.Nt t)) (Some b) types' locals vs (Some v) s sound hold h = (
-        h.0,
-        λ c d is at.
-            let same : b ≡ c = cc in
-            let it = sound b refl in
-            result_valid g.structs terms s (record s { locals = locals_for locals vs }) hold b d (record { type = Pointer m kinds.Nt t; value = v }) it.base (ap (ends_filled_in terms) same ∙ at) (grows_here (shaped s)) h.1,
-      )
-      back_so terms (Some (Pointer m kinds.Array t)) (Some b) types' locals vs None s sound hold h = (h.0, λ b d is at. tt)
-      back_so terms (Some (Pointer m kinds.Array t)) (Some b) types' locals vs (Some v) s sound hold h = (
-        h.0,
-        λ c d is at.
-            let same : b ≡ c = cc in
-            let it = sound b refl in
-            result_valid g.structs terms s (record s { locals = locals_for locals vs }) hold b d (record { type = Pointer m kinds.Array t; value = v }) it.base (ap (ends_filled_in terms) same ∙ at) (grows_here (shaped s)) h.1,
-      )
-
-      called_goes : (low : ℕ) (s : State) (here : Scope) (arguments : core.Arguments) {callee : Callee} {ts : List CType} {bs : List (Option Bounds)} {result : Option CType} {r : Option Bounds} (enters : IsCallee g callee ts bs result r) (vs : List Value) → OfTypes g ts vs s
-          → IsKnown g.structs here s → HasLocals here.locals s → ArePassed g.structs (length here.locals) here.locals ts arguments vs s → AreBegun enters vs s → IsKept g budget ticks low types s
-          → Goes g budget ticks low types s (IsBack (terms_of here.locals arguments ts) result r) (called setting k callee vs s)
-      called_goes low s here arguments (typed.trusted {n = function} {f = f} {bounds = bs} {result_bounds = r} found known told rows sound) vs h is_known has passed begun kept =
-          let terms = terms_of here.locals arguments (parameters_of f) in
-          let held = hold g.structs here s is_known has f.locals f.parameters arguments vs bs rows passed in
-          sure_further (λ v u. IsResult g budget ticks f.result r f.locals vs v u × IsAfter s u × IsKept g budget ticks low types u) (λ v u. IsBack terms f.result r v u × IsAfter s u × IsKept g budget ticks low types u) (called setting k (callees.Trusted function) vs s)
-          (trusted_goes low s function f bs r vs found known told h begun kept)
-          (λ v u x. (back_so terms f.result r (parameters_of f) f.locals vs v u sound (subst (λ ls. HoldTerms terms ls (locals_for f.locals vs)) (sym x.1.1) held) x.0, x.1, x.2))
-      called_goes low s here arguments (typed.tainted {n = import} {i = i} {site = site} found crosses) vs h is_known has passed begun kept =
-          goes_further g budget ticks low types s (IsAnswer g i.result) (IsBack (terms_of here.locals arguments (replicate i.parameters Int)) i.result None) (called setting k (callees.Tainted import site) vs s) (tainted_goes low s import i site vs found crosses h kept)
-          (λ v u answered. (answered, λ b d is at. absurd (cc)))
+    setting = setting_of g budget ticks sandbox trusted k is
 
     -- ---- expressions
 
@@ -604,15 +495,15 @@ module _ (g : Frame) (budget ticks : ℕ) where
 
       -- where it is known, and the locals are there
       begun_later : (s u : State) → IsAfter s u → IsHere s → IsKept g budget ticks low types u → {callee : Callee} {ts : List CType} {bs : List (Option Bounds)} {result : Option CType} {r : Option Bounds} (enters : IsCallee g callee ts bs result r) (arguments : core.Arguments) (vs : List Value)
-          → AreAsked g.structs here (terms_of here.locals arguments ts) (pointers_of here.locals arguments) arguments bs → ArePassed g.structs (length here.locals) here.locals ts arguments vs u → AreBegun types enters vs u
+          → AreAsked g.structs here (terms_of here.locals arguments ts) (pointers_of here.locals arguments) arguments bs → ArePassed g.structs (length here.locals) here.locals ts arguments vs u → AreBegun g budget ticks sandbox trusted k is types enters vs u
       begun_later s u after h kept enters arguments vs asked passed =
-          begun_so types enters here arguments vs u (here_later s u after h kept).0 (has_locals g.structs (shaped u) here.locals types u.locals reaches kept.locals) asked passed
+          begun_so g budget ticks sandbox trusted k is types enters here arguments vs u (here_later s u after h kept).0 (has_locals g.structs (shaped u) here.locals types u.locals reaches kept.locals) asked passed
 
       pub answered : (s : State) → IsHere s → {callee : Callee} {ts : List CType} {bs : List (Option Bounds)} {result : Option CType} {r : Option Bounds} (enters : IsCallee g callee ts bs result r) (arguments : core.Arguments)
           → AreAsked g.structs here (terms_of here.locals arguments ts) (pointers_of here.locals arguments) arguments bs → (vs : List Value) (u : State) → IsAfter s u → OfTypes g ts vs u × ArePassed g.structs (length here.locals) here.locals ts arguments vs u → IsKept g budget ticks low types u
-          → Goes g budget ticks low types u (IsBack types (terms_of here.locals arguments ts) result r) (called setting k callee vs u)
+          → Goes g budget ticks low types u (IsBack g budget ticks sandbox trusted k is types (terms_of here.locals arguments ts) result r) (called setting k callee vs u)
       answered s here' enters arguments asked vs u after x kept =
-          called_goes types low u here arguments enters vs x.0 (here_later s u after here' kept).0 (has_locals g.structs (shaped u) here.locals types u.locals reaches kept.locals) x.1 (begun_later s u after here' kept enters arguments vs asked x.1) kept
+          called_goes g budget ticks sandbox trusted k is types low u here arguments enters vs x.0 (here_later s u after here' kept).0 (has_locals g.structs (shaped u) here.locals types u.locals reaches kept.locals) x.1 (begun_later s u after here' kept enters arguments vs asked x.1) kept
 
       -- those that are declared for a result
       freely_given : (e : core.Expression) (m : Mode) (kind : Kind) (t : CType) (p : PointerBounds) (s : State) → bounds_of e ≡ Some p → based_bounds e ≡ None → p.bounds.base ≡ None → AreInts here.locals p.bounds → Goes g budget ticks low types s (OfNode g e (Pointer m kind t)) (value true setting k e s)
@@ -666,11 +557,11 @@ module _ (g : Frame) (budget ticks : ℕ) where
           with_none (core.Call callee arguments b) t s (plain_bounded t b bounds)
           (goes_on g budget ticks low types s (λ vs u. OfTypes g ts vs u × ArePassed g.structs (length here.locals) here.locals ts arguments vs u) (OfType g t) (values true setting k arguments s) _ goes
           (λ vs u after x u_kept. audited_goes g budget ticks low types u t b (and_then (called setting k callee vs u) result_given) bounds
-          (goes_on g budget ticks low types u (IsBack types (terms_of here.locals arguments ts) (Some t) r) (OfType g t) (called setting k callee vs u) result_given (answered s here' enters arguments asked vs u after x u_kept) (λ v w _ back w_kept. given_back g budget ticks low types w t v back.0 w_kept))))
+          (goes_on g budget ticks low types u (IsBack g budget ticks sandbox trusted k is types (terms_of here.locals arguments ts) (Some t) r) (OfType g t) (called setting k callee vs u) result_given (answered s here' enters arguments asked vs u after x u_kept) (λ v w _ back w_kept. given_back g budget ticks low types w t v back.0 w_kept))))
       call_goes callee arguments ts bs _ _ _ enters (typed.by_result {mode = m} {kind = kind} {target = t} {declared = r} {p = p} at counts size some limited none ints) asked s here' goes =
           goes_on g budget ticks low types s (λ vs u. OfTypes g ts vs u × ArePassed g.structs (length here.locals) here.locals ts arguments vs u) (OfNode g (core.Call callee arguments (Some p)) (Pointer m kind t)) (values true setting k arguments s) _ goes
           (λ vs u after x u_kept. goes_on g budget ticks low types u (λ v w. OfType g (Pointer m kind t) v w × IsBounded g (Pointer m kind t) (Some p) v w) (OfNode g (core.Call callee arguments (Some p)) (Pointer m kind t)) (and_then (called setting k callee vs u) result_given) (audit true (Some p))
-          (goes_on g budget ticks low types u (IsBack types (terms_of here.locals arguments ts) (Some (Pointer m kind t)) (Some r)) (λ v w. OfType g (Pointer m kind t) v w × IsBounded g (Pointer m kind t) (Some p) v w) (called setting k callee vs u) result_given
+          (goes_on g budget ticks low types u (IsBack g budget ticks sandbox trusted k is types (terms_of here.locals arguments ts) (Some (Pointer m kind t)) (Some r)) (λ v w. OfType g (Pointer m kind t) v w × IsBounded g (Pointer m kind t) (Some p) v w) (called setting k callee vs u) result_given
           (answered s here' enters arguments asked vs u after x u_kept) (λ v w _ back w_kept. valid_back g budget ticks low types w m kind t p v counts back.0 (back.1 r p.bounds refl at) w_kept))
           (λ v w _ y w_kept. bounded_goes g budget ticks low types w m kind t (Some p) v size y.0 y.1 w_kept))
 

@@ -61,7 +61,8 @@ use Rattle.region_typing_rules.proofs.LastZeros.{zeros_stored, AreShort, array_r
 use Rattle.region_typing_rules.proofs.Goes.{Goes, HasResult, IsAccessed, IsBounded, IsKept, IsKnot, IsNext, IsPlaced, OfNode, OfType, OfTypes, Runs, asked_goes, base_of, further_parts, goes_further, goes_on, has_locals, local_parts, runs_of, runs_on, shaped}
 use Rattle.region_typing_rules.proofs.Accesses.{IsAimed, IsUpTo, accessed_goes, aimed_later, arithmetic_goes, audited_goes, bounded_goes, bounded_load, bounded_place, byte_goes, byte_number_goes, compared_goes, complemented_goes, direct_goes, element_goes, element_member_goes, first_goes, given_goes, length_goes, load_goes, member_goes, negated_goes, nothing_back, number_goes, object_there, pointed_goes, same_goes, start_goes, test_goes, upper_goes, variable_goes, widened_goes}
 use Rattle.region_typing_rules.proofs.RightNodes.{right_typed}
-use Rattle.region_typing_rules.proofs.Operations.{GivenTo, IsArgument, IsBack, IsCast, IsHere, IsLocalOf, IsSummed, aimed_goes, allocate_given, allocate_goes, answered, array_bounded, array_given, as_kind, as_row, based_there, behind, bounded_given, call_given, call_goes, cell_audited, cell_given, cast_given, cast_step, chosen_goes, flow_told, forced, given_by_kind, given_none, given_stays, here_later, known_too, local_given_by, local_read, none_bounded, number_goes_on, ordered_goes, passed_so, plain_bounded, plainly_given, row_bounded, row_given, same_value, setting, single_bounded, single_unbased, sum_bounded, sum_given, sum_goes, sum_typed, told_too, tracked_told, truth_goes, typed_alone, typed_given, unbounded_goes, with_given, with_none}
+use Rattle.region_typing_rules.proofs.CallsGo.{IsBack}
+use Rattle.region_typing_rules.proofs.Operations.{GivenTo, IsArgument, IsCast, IsHere, IsLocalOf, IsSummed, aimed_goes, allocate_given, allocate_goes, answered, array_bounded, array_given, as_kind, as_row, based_there, behind, bounded_given, call_given, call_goes, cell_audited, cell_given, cast_given, cast_step, chosen_goes, flow_told, forced, given_by_kind, given_none, given_stays, here_later, known_too, local_given_by, local_read, none_bounded, number_goes_on, ordered_goes, passed_so, plain_bounded, plainly_given, row_bounded, row_given, same_value, setting, single_bounded, single_unbased, sum_bounded, sum_given, sum_goes, sum_typed, told_too, tracked_told, truth_goes, typed_alone, typed_given, unbounded_goes, with_given, with_none}
 
 module _ (g : Frame) (budget ticks : ℕ) where
   module _ (sandbox trusted : ℕ) (k : Knot) (is : IsKnot g budget ticks k) where

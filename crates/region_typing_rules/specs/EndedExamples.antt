@@ -23,7 +23,8 @@ use Rattle.region_typing_rules.specs.Scopes.{Scope, Object, Array}
 use Rattle.region_typing_rules.specs.DeclaredBounds.{row_of, unwritten_bounds}
 use Rattle.region_typing_rules.specs.Readings.{told}
 use Rattle.region_typing_rules.specs.Knowing.{assigned_by}
-use Rattle.region_typing_rules.specs.Operands.{Typed, Value, ForNothing, ForArray, For, OfCell, OfUnknown, address, binary_typed, Gives, element_at, name_typed, number, plain, pointed_at}
+use Rattle.region_typing_rules.specs.Operands.{Typed, Value, ForNothing, ForArray, For, OfCell, OfUnknown, address}
+use Rattle.region_typing_rules.specs.Operands.{binary_typed, Gives, element_at, name_typed, number, plain, pointed_at}
 use Rattle.region_typing_rules.specs.Calls.{length_typed, measures}
 use Rattle.region_typing_rules.specs.NewMemory.{calloc_typed}
 use Rattle.region_typing_rules.specs.Statements.{array_memory}

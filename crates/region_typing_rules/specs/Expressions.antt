@@ -13,7 +13,8 @@ use Rattle.region_typing_rules.specs.Scopes.{Scope}
 use Rattle.region_typing_rules.specs.Scopes.{named, function_named}
 use Rattle.region_typing_rules.specs.Types.{type_named}
 use Rattle.region_typing_rules.specs.Strings.{text_at}
-use Rattle.region_typing_rules.specs.Operands.{Called, ForNothing, Places, Typed, Value, arrowed, beside, binary_typed, bounded, dotted, in_cell, indexed, name_typed}
+use Rattle.region_typing_rules.specs.Operands.{Called, ForNothing, Places, Typed, Value, arrowed, beside}
+use Rattle.region_typing_rules.specs.Operands.{binary_typed, bounded, dotted, in_cell, indexed, name_typed}
 use Rattle.region_typing_rules.specs.Operands.{number, site_at, text_typed, unary_typed}
 use Rattle.region_typing_rules.specs.Calls.{called, with_result}
 use Rattle.region_typing_rules.specs.NewMemory.{calloc_typed, cast_bounds, cast_typed, malloc_typed}

@@ -91,7 +91,12 @@ bounds_at structs Char site = None
 bounds_at structs (Struct number) site = None
 bounds_at structs (Pointer mode kind target) site =
     bounds_by mode kind
-    (record { bounds = record { base = None; lo = constant_term (pos 0); hi = constant_term (pos 1) }; size = size_of structs target; terminated = false; site = site })
+    (record {
+      bounds = record { base = None; lo = constant_term (pos 0); hi = constant_term (pos 1) };
+      size = size_of structs target;
+      terminated = false;
+      site = site;
+    })
 
 -- a value with bounds at its node
 abbrev pub noted : Option PointerBounds → core.Expression → core.Expression
@@ -221,7 +226,8 @@ array_typed structs object type length false site =
     (core.AddressOf (core.Direct object 0) (Some (record { bounds = row_of length; size = size_of structs type; terminated = false; site = site }))) ForArray
 array_typed structs object type length true site =
     Value (Pointer modes.Checked kinds.Nt type) false
-    (core.AddressOf (core.Direct object 0) (Some (record { bounds = row_of (length - 1); size = size_of structs type; terminated = true; site = site }))) ForArray
+    (core.AddressOf (core.Direct object 0)
+    (Some (record { bounds = row_of (length - 1); size = size_of structs type; terminated = true; site = site }))) ForArray
 
 -- a string is a pointer to its first character, with all of them but the zero that ends it
 abbrev pub text_value : List Structure → FoundText → Site → Typed

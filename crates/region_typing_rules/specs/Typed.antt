@@ -336,9 +336,9 @@ mutual
     ended_array : {here : Scope} {object n : ℕ} {t : CType} {p : PointerBounds} {v : Variable} → slice_get g.program.objects object ≡ Some v
         → n ≤ 32768 → IsEndedRow g.structs (shape (object_block v)) t n → p.bounds ≡ row_of n → IsNodeOf g.structs (Pointer modes.Checked kinds.Nt t) p
         → HasType g locals here (core.AddressOf (core.Direct object 0) (Some p)) (Pointer modes.Checked kinds.Nt t)
-    sum : {here : Scope} {e i : Expression} {mode : Mode} {kind : Kind} {t : CType} {direction : Direction} {site : Site} {p : PointerBounds} {b : Option PointerBounds}
-        → Counts kind → HasType g locals here e (Pointer mode kind t) → HasElements g.structs e (Pointer mode kind t) p → HasType g locals here i Int
-        → AreSumBounds here.locals e direction i p b
+    sum : {here : Scope} {e i : Expression} {mode : Mode} {kind : Kind} {t : CType} {direction : Direction} {site : Site} {p : PointerBounds}
+        → {b : Option PointerBounds} → Counts kind → HasType g locals here e (Pointer mode kind t)
+        → HasElements g.structs e (Pointer mode kind t) p → HasType g locals here i Int → AreSumBounds here.locals e direction i p b
         → HasType g locals here (core.Sum e direction i site b) (Pointer mode kind t)
     negate : {here : Scope} {e : Expression} {site : Site} → HasType g locals here e Int → HasType g locals here (core.Negate e site) Int
     complement : {here : Scope} {e : Expression} → HasType g locals here e Int → HasType g locals here (core.Complement e) Int
@@ -378,7 +378,8 @@ mutual
         → HasElements g.structs e (Pointer mode kinds.Nt Char) p → HasType g locals here (core.Length e site) Int
     -- a pointer with other bounds, which count from no base or from one of its own
     cast : {here : Scope} {e : Expression} {mode : Mode} {kind kind' : Kind} {t : CType} {p q : PointerBounds} → HasType g locals here e (Pointer mode kind t)
-        → HasElements g.structs e (Pointer mode kind t) p → CountsAs kind kind' → AreLocalsOf locals here → IsNodeOf g.structs (Pointer mode kind' t) q → AreLimited q.bounds → AreInts here.locals q.bounds
+        → HasElements g.structs e (Pointer mode kind t) p → CountsAs kind kind' → AreLocalsOf locals here → IsNodeOf g.structs (Pointer mode kind' t) q
+        → AreLimited q.bounds → AreInts here.locals q.bounds
         → ((k : ℕ) → q.bounds.base ≡ Some k → IsBaseOf here.locals e k) → HasType g locals here (core.Cast e (Some q)) (Pointer mode kind' t)
     -- one to the element at which it stands
     cast_single : {here : Scope} {e : Expression} {kind : Kind} {t : CType} {p : PointerBounds} {b : Option PointerBounds}

@@ -74,17 +74,6 @@ pub converted_then : {A : Type 0} (t : Typed) (to : CType) (span : Span) (next :
 converted_then (Value type null value place) to span next = needs_then (converts type null to) _ span _ next
 converted_then (AStruct struct place) to span next = refl
 
-both_needed : {A : Type 0} (a b : Bool) (span : Span) (v : A) → needs a E13 span (needs b E17 span (Passes v)) ≡ passing (needs a E13 span (Passes v)) (λ w. passing (needs b E17 span (Passes tt)) (λ (u : Unit {0}). Passes w))
-both_needed true true span v = refl
-both_needed true false span v = refl
-both_needed false b span v = refl
-
--- a value that converts, and whose bounds are met
-pub fitted_parts : (f : Knowledge) (b : Option Bounds) (t : Typed) (to : CType) (span : Span)
-    → fitted f b t to span ≡ passing (converted t to span Passes) (λ v. passing (needs (meets_declared f b t to) E17 span (Passes tt)) (λ (u : Unit {0}). Passes v))
-fitted_parts f b (Value type null value place) to span = both_needed (converts type null to) (meets_declared f b (Value type null value place) to) span _
-fitted_parts f b (AStruct number place) to span = refl
-
 fitting : {A B : Type 0} (a b : Bool) (span : Span) (v : A) (next : A → Verdict B) → needs a E13 span (needs b E17 span (next v)) ≡ passing (needs a E13 span (needs b E17 span (Passes v))) next
 fitting true true span v next = refl
 fitting true false span v next = refl

@@ -1,9 +1,10 @@
 // Values as those of the types that they convert to.
 
 ghost use Rattle.std.specs.Prelude.{◌≡◌};
+ghost use Rattle.ckc_text.specs.declared.code.Code.TheVariants.{E17};
 ghost use Rattle.pointer_modes.specs.Types.{ctype as ctype_of};
 ghost use Rattle.ckc_core.specs.Core.{expression};
-ghost use Rattle.region_typing_rules.specs.Verdicts.{Passes};
+ghost use Rattle.region_typing_rules.specs.Verdicts.{Passes, needs as needs_in};
 ghost use Rattle.region_typing_rules.specs.Operands.{converted as converted_to, in_type as value_in_type, as_pointer};
 ghost use Rattle.region_typing_scope.specs.Answering.{Answers};
 ghost use Rattle.region_typing_scope.specs.Entailing.{fitted as fitted_to};
@@ -45,6 +46,23 @@ fn pointer_value(null: bool, value: Box<Expr>) -> Expr
     }
 }
 
+// A value as one of a type that it converts to, where its bounds were found to meet what they are asked for.
+fn converted_where(
+    context: &Context,
+    met: bool,
+    t: Box<Typed>,
+    to: &CType,
+    span: Span,
+) -> Result<Expr, CheckError>
+    ensures { Answers expression (converted_to (typed t) (ctype_of to.now) span (λ value. needs_in met E17 span (Passes value))) result }
+{
+    let Operand { ctype, zero, value } = value_of(context, t, span)?;
+    needs(converts(&ctype, zero, to), Code::E13, span)?;
+    needs(met, Code::E17, span)?;
+    let null = zero && is_number(&ctype);
+    Ok(in_type(to, null, value))
+}
+
 /// A value as one of a type that it converts to.
 pub fn converted(
     context: &Context,
@@ -54,10 +72,7 @@ pub fn converted(
 ) -> Result<Expr, CheckError>
     ensures { Answers expression (converted_to (typed t) (ctype_of to.now) span Passes) result }
 {
-    let Operand { ctype, zero, value } = value_of(context, t, span)?;
-    needs(converts(&ctype, zero, to), Code::E13, span)?;
-    let null = zero && is_number(&ctype);
-    Ok(in_type(to, null, value))
+    converted_where(context, true, t, to, span)
 }
 
 /// A value as one of a type that it converts to, where its bounds meet those of the type, and those that are declared for
@@ -73,7 +88,5 @@ pub fn fitted(
     ensures { Answers expression (fitted_to (scope_of scope.now).flow declared.now (typed t) (ctype_of to.now) span) result }
 {
     let met = meets_declared(&scope.flow, declared, &t, to)?;
-    let value = converted(context, t, to, span)?;
-    needs(met, Code::E17, span)?;
-    Ok(value)
+    converted_where(context, met, t, to, span)
 }

@@ -1,12 +1,14 @@
 // Bounds as they are written for a local, and their normal form.
 
-ghost use Rattle.std.specs.Prelude.{◌≡◌, Some, length, IfOk};
+ghost use Rattle.std.specs.Prelude.{◌≡◌, ◌&&◌, nat_lt, Some, length, IfOk};
 ghost use Rattle.std.specs.Option.{option_map};
+ghost use Rattle.ckc_text.specs.declared.code.Code.TheVariants.{E16};
 ghost use Rattle.ckc_tree.specs.Expressions.{bounds as bounds_tree};
 ghost use Rattle.bounds_exprs.specs.Normal.{how as how_of};
 ghost use Rattle.pointer_modes.specs.Types.{ctype as ctype_of};
 ghost use Rattle.bounds_flow.specs.Conditions.{AreBoundsBelow};
 ghost use Rattle.region_typing_rules.specs.Types.{is_row as row_type};
+ghost use Rattle.region_typing_rules.specs.Verdicts.{needs as needs_in};
 ghost use Rattle.region_typing_rules.specs.DeclaredBounds.{how_written, normal_bounds as normal_bounds_of, unwritten_bounds as unwritten_bounds_of, declared_bounds as declared_bounds_of};
 ghost use Rattle.region_typing_scope.specs.Answering.{Answers};
 ghost use Rattle.region_typing_scope.specs.Views.{scope as scope_of};
@@ -24,7 +26,6 @@ use bounds_exprs::form::{BoundsForm, BoundsHow};
 use bounds_exprs::normalize::normal;
 use bounds_exprs::term::Bounds;
 use ckc_text::code::Code;
-use ckc_text::place::Span;
 use ckc_tree::expr::BoundsText;
 use pointer_modes::ctype::{CType, Kind};
 
@@ -55,12 +56,11 @@ fn how_form(
     }
 }
 
-// The normal bounds of what is written at a span, of elements of so many bytes.
-fn normal_bounds(how: BoundsHow, size: u32, span: Span) -> Result<Option<Bounds>, CheckError>
-    ensures { Answers (λ b. b) (normal_bounds_of (how_of how) size span) result }
+// The normal bounds of what is written, of elements of so many bytes.
+fn normal_bounds(form: &BoundsForm, size: u32) -> Result<Option<Bounds>, CheckError>
+    ensures { Answers (λ b. b) (normal_bounds_of (how_of form.now.how) size form.now.span) result }
 {
-    let form = BoundsForm { span, how };
-    match normal(&form, size) {
+    match normal(form, size) {
         Ok(bounds) => Ok(bounds),
         Err(fault) => Err(CheckError::Source(fault)),
     }
@@ -74,6 +74,14 @@ fn is_row(t: &CType) -> bool
         CType::Pointer(_, kind, _) => matches!(kind, Kind::Array | Kind::Nt),
         CType::Int | CType::Char | CType::Struct(_) => false,
     }
+}
+
+// The normal bounds of what is written for a local of a type, which has to be a pointer to elements with bytes.
+fn row_bounds(t: &CType, form: &BoundsForm, size: u32) -> Result<Option<Bounds>, CheckError>
+    ensures { Answers (λ b. b) (needs_in (row_type (ctype_of t.now) && nat_lt 0 size) E16 form.now.span (normal_bounds_of (how_of form.now.how) size form.now.span)) result }
+{
+    needs(is_row(t) && 0 < size, Code::E16, form.span)?;
+    normal_bounds(form, size)
 }
 
 /// The bounds that a pointer of a type has where none are written: the end of a null-terminated one may be where it stands.
@@ -103,10 +111,11 @@ fn written_bounds(
     ensures { Answers (λ b. b) (declared_bounds_of (place_view place.now) (ctype_of t.now) own (Some (bounds_tree written.now))) result }
 {
     let p = Bounded::new(own, t);
-    let how = how_form(context, place, &p, written)?;
-    let size = place.scope.structs.size_of(p.element);
-    needs(is_row(t) && 0 < size, Code::E16, written.span())?;
-    normal_bounds(how, size, written.span())
+    let form = BoundsForm {
+        span: written.span(),
+        how: how_form(context, place, &p, written)?,
+    };
+    row_bounds(t, &form, place.scope.structs.size_of(p.element))
 }
 
 /// The bounds that are declared for a local of a type, by its number, where the names in them are looked up in a place: where

@@ -1,6 +1,6 @@
 // What is known of the locals where a walk stands, and how its ways part and meet.
 
-ghost use Rattle.std.specs.Prelude.{◌≡◌, ◌<◌, ◌≤◌, true, false, None, length, IfOk, OnOk};
+ghost use Rattle.std.specs.Prelude.{◌≡◌, ◌<◌, ◌≤◌, true, false, None, Some, length, IfOk, OnOk};
 ghost use Rattle.std.specs.List.{All};
 ghost use Rattle.ckc_core.specs.Core.{expression as expression_of, statement as statement_of};
 ghost use Rattle.bounds_flow.specs.Flows.{at_head, in_bundle};
@@ -25,16 +25,29 @@ use region_typing_flow::steps;
 use std::mem;
 
 // A way more meets those that are there.
-fn with_way(way: Flow, before: Option<Flow>) -> Result<Flow, NoMemory>
-    requires { HasVars way.vars before }
-    ensures { IfOk result (λ flow. flow ≡ with_way_of way before) }
+fn add_way(way: Flow, ways: &mut Option<Flow>) -> Result<(), NoMemory>
+    requires { HasVars way.vars ways.old }
+    ensures known { OnOk result (ways.new ≡ Some (with_way_of way ways.old)) }
+    ensures alike { HasVars way.vars ways.new }
 {
-    match before {
-        None => Ok(way),
-        Some(mut before) => {
-            before.join(&way)?;
-            Ok(before)
+    match ways {
+        None => {
+            *ways = Some(way);
+            Ok(())
         }
+        Some(before) => before.join(&way),
+    }
+}
+
+// A way meets others, if there are some.
+fn meet_others(way: &mut Flow, others: &Option<Flow>) -> Result<(), NoMemory>
+    requires { HasVars way.old.vars others.now }
+    ensures known { OnOk result (way.new ≡ with_others others.now way.old) }
+    ensures size { way.new.vars ≡ way.old.vars }
+{
+    match others {
+        None => Ok(()),
+        Some(others) => way.join(others),
     }
 }
 
@@ -85,10 +98,8 @@ impl Scope {
         ensures locals { OnOk result (self.new.locals.items ≡ self.old.locals.items) }
         ensures size { OnOk result (self.new.flow.vars ≡ self.old.flow.vars) }
     {
-        let mut met = other;
-        met.join(&self.flow)?;
-        self.flow = met;
-        Ok(())
+        let here = mem::replace(&mut self.flow, other);
+        self.flow.join(&here)
     }
 
     /// A bundle begins, in which no assignment is settled.
@@ -159,8 +170,7 @@ impl Scope {
         ensures size { OnOk result (self.new.flow.vars ≡ self.old.flow.vars) }
     {
         let way = self.way_out()?;
-        let before = mem::replace(&mut self.breaks, None);
-        self.breaks = Some(with_way(way, before)?);
+        add_way(way, &mut self.breaks)?;
         self.flow.cut()
     }
 
@@ -171,8 +181,7 @@ impl Scope {
         ensures size { OnOk result (self.new.flow.vars ≡ self.old.flow.vars) }
     {
         let way = self.way_out()?;
-        let before = mem::replace(&mut self.continues, None);
-        self.continues = Some(with_way(way, before)?);
+        add_way(way, &mut self.continues)?;
         self.flow.cut()
     }
 
@@ -204,10 +213,7 @@ impl Scope {
         ensures locals { OnOk result (self.new.locals.items ≡ self.old.locals.items) }
         ensures size { OnOk result (self.new.flow.vars ≡ self.old.flow.vars) }
     {
-        if let Some(others) = &self.continues {
-            self.flow.join(others)?;
-        }
-        Ok(())
+        meet_others(&mut self.flow, &self.continues)
     }
 
     /// Leaves a loop: what is known where its condition came out false meets its `break`s.
@@ -225,14 +231,10 @@ impl Scope {
             breaks,
             continues,
         } = around;
-        let mut behind = over;
-        if let Some(others) = &self.breaks {
-            behind.join(others)?;
-        }
         self.outside = outside;
-        self.flow = behind;
-        self.breaks = breaks;
+        self.flow = over;
         self.continues = continues;
-        Ok(())
+        let ended = mem::replace(&mut self.breaks, breaks);
+        meet_others(&mut self.flow, &ended)
     }
 }

@@ -36,11 +36,9 @@ impl Scope {
         ensures size { OnOk result (self.new.flow.vars ≡ self.old.flow.vars) }
     {
         let local = self.locals.len() as u32;
-        self.locals.reserve(1)?;
+        self.locals.push(ctype)?;
         self.visible.push(Visible { name, local })?;
-        self.flow.enter(local, None)?;
-        self.locals.push_reserved(ctype);
-        Ok(())
+        self.flow.enter(local, None)
     }
 
     /// The local that was added last has these bounds at its declaration, or none.

@@ -21,6 +21,19 @@ use ckc_text::fault::NoMemory;
 use ckc_tree::expr::{BinaryOperator, BoundsText, Expr};
 use ckc_tree::type_form::TypeName;
 
+// Two operands on the heap.
+fn both_boxed(
+    context: &Context,
+    left: SumForm,
+    right: SumForm,
+) -> Result<(Box<SumForm>, Box<SumForm>), NoMemory>
+    ensures { IfOk result (λ both. (both.0.value ≡ left) × (both.1.value ≡ right)) }
+{
+    let left = context.boxed(left)?;
+    let right = context.boxed(right)?;
+    Ok((left, right))
+}
+
 // An operator between two operands, of which only sums, differences and products count.
 fn operation_form(
     context: &Context,
@@ -32,18 +45,15 @@ fn operation_form(
 {
     match operator {
         BinaryOperator::Add => {
-            let left = context.boxed(left)?;
-            let right = context.boxed(right)?;
+            let (left, right) = both_boxed(context, left, right)?;
             Ok(SumForm::Plus(left, right))
         }
         BinaryOperator::Subtract => {
-            let left = context.boxed(left)?;
-            let right = context.boxed(right)?;
+            let (left, right) = both_boxed(context, left, right)?;
             Ok(SumForm::Minus(left, right))
         }
         BinaryOperator::Multiply => {
-            let left = context.boxed(left)?;
-            let right = context.boxed(right)?;
+            let (left, right) = both_boxed(context, left, right)?;
             Ok(SumForm::Times(left, right))
         }
         BinaryOperator::Or
@@ -103,20 +113,11 @@ pub fn sum_form(
             ..
         } => match bounds {
             None => other_form(context, place, p, operand),
-            Some(bounds) => {
-                let _operand = sum_form(context, place, p, operand)?;
-                parts_form(context, place, p, bounds)
-            }
+            Some(bounds) => bounded_form(context, place, p, operand, bounds),
         },
         Expr::Malloc { size, .. } => other_form(context, place, p, size),
-        Expr::Calloc { count, size, .. } => {
-            let _count = sum_form(context, place, p, count)?;
-            other_form(context, place, p, size)
-        }
-        Expr::Index { base, index, .. } => {
-            let _base = sum_form(context, place, p, base)?;
-            other_form(context, place, p, index)
-        }
+        Expr::Calloc { count, size, .. } => both_form(context, place, p, count, size),
+        Expr::Index { base, index, .. } => both_form(context, place, p, base, index),
         Expr::Dot { base, .. } | Expr::Arrow { base, .. } => other_form(context, place, p, base),
         Expr::Unary { operand, .. } => other_form(context, place, p, operand),
         Expr::Binary {
@@ -124,12 +125,25 @@ pub fn sum_form(
             left,
             right,
             ..
-        } => {
-            let left = sum_form(context, place, p, left)?;
-            let right = sum_form(context, place, p, right)?;
-            Ok(operation_form(context, *operator, left, right)?)
-        }
+        } => binary_form(context, place, p, *operator, left, right),
     }
+}
+
+// An operator between two parts.
+#[cycle(sums)]
+fn binary_form(
+    context: &Context,
+    place: &Place,
+    p: &Bounded,
+    operator: BinaryOperator,
+    left: &Expr,
+    right: &Expr,
+) -> Result<SumForm, CheckError>
+    ensures { Answers sum (passing (sum_written (place_view place.now) (bounded_view p.now) (expression_of left.now)) (λ a. passing (sum_written (place_view place.now) (bounded_view p.now) (expression_of right.now)) (λ b. Passes (operation_sum operator a b)))) result }
+{
+    let left = sum_form(context, place, p, left)?;
+    let right = sum_form(context, place, p, right)?;
+    Ok(operation_form(context, operator, left, right)?)
 }
 
 // What has no place in bounds, whose part keeps the rules.
@@ -144,6 +158,21 @@ fn other_form(
 {
     let _part = sum_form(context, place, p, part)?;
     Ok(SumForm::Other)
+}
+
+// What has no place in bounds, whose two parts keep the rules.
+#[cycle(sums)]
+fn both_form(
+    context: &Context,
+    place: &Place,
+    p: &Bounded,
+    first: &Expr,
+    second: &Expr,
+) -> Result<SumForm, CheckError>
+    ensures { Answers sum (passing (sum_written (place_view place.now) (bounded_view p.now) (expression_of first.now)) (λ _. passing (sum_written (place_view place.now) (bounded_view p.now) (expression_of second.now)) (λ _. Passes Other))) result }
+{
+    let _first = sum_form(context, place, p, first)?;
+    other_form(context, place, p, second)
 }
 
 // The arguments of a call, from left to right.
@@ -162,6 +191,21 @@ fn all_forms(
     Ok(SumForm::Other)
 }
 
+// A cast with bounds, which has no place in bounds.
+#[cycle(sums)]
+fn bounded_form(
+    context: &Context,
+    place: &Place,
+    p: &Bounded,
+    operand: &Expr,
+    bounds: &BoundsText,
+) -> Result<SumForm, CheckError>
+    ensures { Answers sum (passing (sum_written (place_view place.now) (bounded_view p.now) (expression_of operand.now)) (λ _. parts_written (place_view place.now) (bounded_view p.now) (bounds_tree bounds.now))) result }
+{
+    let _operand = sum_form(context, place, p, operand)?;
+    parts_form(context, place, p, bounds)
+}
+
 // The bounds of a cast, which has no place in bounds.
 #[cycle(sums)]
 fn parts_form(
@@ -177,9 +221,6 @@ fn parts_form(
             other_form(context, place, p, count)
         }
         BoundsText::Unknown { .. } => Ok(SumForm::Other),
-        BoundsText::Range { low, high, .. } => {
-            let _low = sum_form(context, place, p, low)?;
-            other_form(context, place, p, high)
-        }
+        BoundsText::Range { low, high, .. } => both_form(context, place, p, low, high),
     }
 }

@@ -6,6 +6,7 @@ pub mod Verdicts
 pub mod Locals
 pub mod Loops
 pub mod Sequences
+pub mod InOrder
 pub mod Settling
 pub mod Ways
 pub mod MarkedLocals

@@ -21,31 +21,35 @@ use Rattle.region_typing_scope.specs.OnHeap as on_heap
 use Rattle.region_typing_statements.specs.Walks.{Walks}
 use Rattle.region_typing_statements.proofs.Walking.{left, left_walk, grown, other_loop, refused_walk}
 use Rattle.region_typing_statements.proofs.Verdicts.{same_behind, in_parts}
-use Rattle.region_typing_statements.specs.Parts.{Branch, nested, then_branch, if_alone, otherwise, after_turn, behind, turns, while_loop, for_loop, call_statement}
+use Rattle.region_typing_statements.specs.Parts.{Branch, nested, guarded, then_branch, branch_ended, if_alone, otherwise, step_behind, loop_ended, turns, while_loop, for_loop, call_statement}
 
 -- behind a statement whose locals are gone
 nested_on : {B : Type 0} (at : Places) (g h : Scope) (s : Statement) (next : core.Statement × Scope → Verdict B) → passing (passing (statement at h s) (λ x. Passes (x.0, behind_block g x.1))) next ≡ passing (statement at h s) (λ x. next (x.0, behind_block g x.1))
 nested_on at g h s next = in_parts (statement at h s) (λ x. Passes (x.0, behind_block g x.1)) next
 
-branch_on : {B : Type 0} (at : Places) (g : Scope) (test : Expression) (consequent : Statement) (next : Branch × Scope → Verdict B)
-    → passing (then_branch at g test consequent) next ≡ passing (condition at g test) (λ c. passing (statement at (when c true g) consequent) (λ x. next ((c, x.0, told g.locals c false g.flow), behind_block g x.1)))
-branch_on at g test consequent next =
+guarded_on : {B : Type 0} (at : Places) (g : Scope) (looped : Bool) (c : core.Expression) (body : Statement) (next : Branch × Scope → Verdict B)
+    → passing (guarded at g looped c body) next ≡ passing (statement at (record (when c true g) { in_loop = looped }) body) (λ x. next ((c, x.0, told g.locals c false g.flow), behind_block g x.1))
+guarded_on at g looped c body next =
+    in_parts (nested at (when c true g) looped body) _ next
+    ∙ nested_on at (when c true g) (record (when c true g) { in_loop = looped }) body (λ x. next ((c, x.0, told g.locals c false g.flow), x.1))
+
+branch_on : {B : Type 0} (at : Places) (g : Scope) (looped : Bool) (test : Expression) (consequent : Statement) (next : Branch × Scope → Verdict B)
+    → passing (then_branch at g looped test consequent) next ≡ passing (condition at g test) (λ c. passing (statement at (record (when c true g) { in_loop = looped }) consequent) (λ x. next ((c, x.0, told g.locals c false g.flow), behind_block g x.1)))
+branch_on at g looped test consequent next =
     in_parts (condition at g test) _ next
-    ∙ same_behind (condition at g test) _ _ (λ c. in_parts (nested at (when c true g) g.in_loop consequent) _ next ∙ nested_on at (when c true g) (when c true g) consequent (λ x. next ((c, x.0, told g.locals c false g.flow), x.1)))
+    ∙ same_behind (condition at g test) _ _ (λ c. guarded_on at g looped c consequent next)
 
 pub if_parts : (at : Places) (g : Scope) (test : Expression) (consequent : Statement) (span : Span) → statement at g (s.If test consequent span) ≡ if_alone at g test consequent
-if_parts at g test consequent span = sym (branch_on at g test consequent (λ b. Passes (core.If b.0.0 b.0.1 core.Nothing, meeting b.0.2 b.1)))
+if_parts at g test consequent span = sym (branch_on at g g.in_loop test consequent (λ b. branch_ended b.0 (core.Nothing, b.1)))
 
 pub if_else_parts : (at : Places) (g : Scope) (test : Expression) (consequent alternative : Statement) (span : Span)
-    → statement at g (s.IfElse test consequent alternative span) ≡ passing {B = core.Statement × Scope} (then_branch at g test consequent) (λ b. otherwise at b alternative)
+    → statement at g (s.IfElse test consequent alternative span) ≡ passing {B = core.Statement × Scope} (then_branch at g g.in_loop test consequent) (λ b. otherwise at b alternative)
 if_else_parts at g test consequent alternative span =
-    sym (branch_on at g test consequent (λ b. otherwise at b alternative)
+    sym (branch_on at g g.in_loop test consequent (λ b. otherwise at b alternative)
     ∙ same_behind (condition at g test) _ _ (λ c. same_behind (statement at (when c true g) consequent) _ _ (λ x. nested_on at (at_alternative g c x.1) (at_alternative g c x.1) alternative (λ y. Passes (core.If c x.0 y.0, meeting (behind_block g x.1).flow y.1)))))
 
 pub while_parts : (at : Places) (g : Scope) (test : Expression) (body : Statement) (span : Span) → statement at g (s.While test body span) ≡ while_loop at g test body
-while_parts at g test body span =
-    let head = at_loop body None g in
-    same_behind (condition at head test) _ _ (λ c. sym (nested_on at (when c true head) (in_loop (when c true head)) body (λ x. Passes (core.Loop c x.0 core.Nothing, behind g head c x.1))))
+while_parts at g test body span = sym (branch_on at (at_loop body None g) true test body (λ b. loop_ended g b.0 (core.Nothing, b.1)))
 
 turned : (at : Places) (g outside : Scope) (first : core.Statement) (test : Option Expression) (step : Option Assignment) (body : Statement)
     → passing {B = core.Statement × Scope} (turns at g body test step) (λ t. Passes (both first t.0, behind_block outside t.1))
@@ -53,13 +57,14 @@ turned : (at : Places) (g outside : Scope) (first : core.Statement) (test : Opti
 turned at g outside first test step body =
     let head = at_loop body step g in
     let last : core.Statement × Scope → Verdict (core.Statement × Scope) = λ t. Passes (both first t.0, behind_block outside t.1) in
+    let rest : Branch × Scope → Verdict (core.Statement × Scope) = λ b. passing (step_behind at b.1 step) (loop_ended g b.0) in
     in_parts (optional_condition at head test) _ last
-    ∙ same_behind (optional_condition at head test) _ _ (λ c. in_parts (nested at (when c true head) true body) _ last
-    ∙ nested_on at (when c true head) (in_loop (when c true head)) body (λ x. passing {B = core.Statement × Scope} (passing {B = core.Statement × Scope} (optional_step at (after_turn x.1) step) (λ y. Passes (core.Loop c x.0 y.0, behind g head c y.1))) last)
-    ∙ same_behind (statement at (in_loop (when c true head)) body) _ _ (λ x. in_parts (optional_step at (before_step g x.1) step) (λ y. Passes (core.Loop c x.0 y.0, behind g head c y.1)) last
+    ∙ same_behind (optional_condition at head test) _ _ (λ c. in_parts (guarded at head true c body) rest last
+    ∙ guarded_on at head true c body (λ b. passing (rest b) last)
+    ∙ same_behind (statement at (in_loop (when c true head)) body) _ _ (λ x. in_parts (optional_step at (before_step g x.1) step) (loop_ended g (c, x.0, told head.locals c false head.flow)) last
     ∙ same_behind (optional_step at (before_step g x.1) step) _ _ (λ y. ended first outside g body step c x.0 y)))
   where
-    ended : (first : core.Statement) (outside g : Scope) (body : Statement) (step : Option Assignment) (c : core.Expression) (x : core.Statement) (y : core.Statement × Scope) → passing {A = core.Statement × Scope} {B = core.Statement × Scope} (Passes (core.Loop c x y.0, behind g (at_loop body step g) c y.1)) (λ t. Passes (both first t.0, behind_block outside t.1)) ≡ Passes (both first (core.Loop c x y.0), behind_block outside (behind_loop g (at_loop body step g) c y.1))
+    ended : (first : core.Statement) (outside g : Scope) (body : Statement) (step : Option Assignment) (c : core.Expression) (x : core.Statement) (y : core.Statement × Scope) → passing {A = core.Statement × Scope} {B = core.Statement × Scope} (loop_ended g (c, x, told (at_loop body step g).locals c false (at_loop body step g).flow) y) (λ t. Passes (both first t.0, behind_block outside t.1)) ≡ Passes (both first (core.Loop c x y.0), behind_block outside (behind_loop g (at_loop body step g) c y.1))
     ended first outside g body step c x y = refl
 
 pub for_parts : (at : Places) (g : Scope) (initial : ForInitial) (test : Option Expression) (step : Option Assignment) (body : Statement) (span : Span) → statement at g (s.For initial test step body span) ≡ for_loop at g initial test step body
@@ -72,7 +77,7 @@ pub if_walk : {old new : code.Scope.Scope} {r : Result (Box Stmt Global) CheckEr
 if_walk {old = old} at x test consequent span is walk = rw (is, if_parts at (scope old) test consequent span) walk
 
 pub if_else_walk : {old new : code.Scope.Scope} {r : Result (Box Stmt Global) CheckError} (at : Places) (x : Statement) (test : Expression) (consequent alternative : Statement) (span : Span) → x ≡ s.IfElse test consequent alternative span
-    → Walks on_heap.statement (passing {B = core.Statement × Scope} (then_branch at (scope old) test consequent) (λ b. otherwise at b alternative)) old r new → Walks on_heap.statement (statement at (scope old) x) old r new
+    → Walks on_heap.statement (passing {B = core.Statement × Scope} (then_branch at (scope old) old.in_loop test consequent) (λ b. otherwise at b alternative)) old r new → Walks on_heap.statement (statement at (scope old) x) old r new
 if_else_walk {old = old} at x test consequent alternative span is walk = rw (is, if_else_parts at (scope old) test consequent alternative span) walk
 
 pub while_walk : {old new : code.Scope.Scope} {r : Result (Box Stmt Global) CheckError} (at : Places) (x : Statement) (test : Expression) (body : Statement) (span : Span) → x ≡ s.While test body span → Walks on_heap.statement (while_loop at (scope old) test body) old r new → Walks on_heap.statement (statement at (scope old) x) old r new

@@ -36,7 +36,8 @@ behind_one : (built : List Stmt) (x : Stmt) (rest : Verdict (core.Statements × 
 behind_one built x (Passes w) = ap (λ xs. Passes (xs, w.1)) (sym (joined_one built x w.0))
 behind_one built x (Stops stop) = refl
 
-left_at : (xs : List trees.Stmt) (i : ℕ) (x : trees.Stmt) → i < length xs → x ≡ get_or xs i x → statement_list (drop i xs) ≡ s.Then (s.statement x) (statement_list (drop (i + 1) xs))
+-- those that are left are the next one before the others
+pub left_at : (xs : List trees.Stmt) (i : ℕ) (x : trees.Stmt) → i < length xs → x ≡ get_or xs i x → statement_list (drop i xs) ≡ s.Then (s.statement x) (statement_list (drop (i + 1) xs))
 left_at xs i x less is = ap statement_list (drop_more xs i x less ∙ ap (λ y. y ∷ drop (i + 1) xs) (sym is))
 
 -- a statement more

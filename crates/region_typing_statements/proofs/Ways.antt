@@ -1,7 +1,7 @@
 -- Ways that part and meet between other steps of a walk.
-use Rattle.std.proofs.Common.{◌≡◌, ℕ, Bool, true, false, Option, Result, Box, Global, ap, sym, ◌∙◌}
-use Rattle.ckc_tree.specs.Statements.{Statement}
-use Rattle.bounds_flow.specs.Flows.{Knowledge}
+use Rattle.std.proofs.Common.{◌≡◌, ℕ, Bool, true, false, Option, None, length, Result, Box, Global, ap, sym, ◌∙◌}
+use Rattle.ckc_tree.specs.Statements.{Statement, Assignment}
+use Rattle.bounds_flow.specs.Flows.{Knowledge, at_head}
 use Rattle.ckc_core.specs.declared.program.Expr.{Expr}
 use Rattle.ckc_core.specs.Core as core
 use Rattle.region_typing_scope.specs.declared.refusals.CheckError.{CheckError}
@@ -9,20 +9,31 @@ use Rattle.region_typing_rules.specs.Verdicts.{Verdict, passing}
 use Rattle.region_typing_rules.specs.Scopes.{Scope}
 use Rattle.region_typing_rules.specs.Operands.{Places}
 use Rattle.region_typing_rules.specs.Readings.{told}
-use Rattle.region_typing_rules.specs.Knowing.{knowing, when, with_others}
+use Rattle.region_typing_rules.specs.Knowing.{knowing, when, assigned_in, at_loop}
 use Rattle.region_typing_scope.specs.declared.scope as code
 use Rattle.region_typing_scope.specs.Views.{scope}
 use Rattle.region_typing_scope.specs.OnHeap.{expression}
+use Rattle.region_typing_scope.specs.Locals.{Grows}
 use Rattle.region_typing_statements.specs.Walks.{Walks}
-use Rattle.region_typing_statements.specs.Parts.{nested, over}
+use Rattle.region_typing_statements.specs.Parts.{nested}
 use Rattle.region_typing_statements.proofs.Walking.{from_more, other_turns, other_flow}
 
 -- from the head of a loop
-pub headed : {B D : Type 0} (view : D → B) (of : Scope → Verdict (B × Scope)) (outside : ℕ) (f : Knowledge) (bs cs : Option Knowledge) (a b new : code.Scope.Scope) (r : Result D CheckError)
+headed : {B D : Type 0} (view : D → B) (of : Scope → Verdict (B × Scope)) (outside : ℕ) (f : Knowledge) (bs cs : Option Knowledge) (a b new : code.Scope.Scope) (r : Result D CheckError)
     → scope b ≡ record (scope a) { outside = outside; flow = f; breaks = bs; continues = cs } → b.visible.items ≡ a.visible.items → b.flow.vars ≡ a.flow.vars
     → Walks view (of (scope b)) b r new → Walks view (of (record (scope a) { outside = outside; flow = f; breaks = bs; continues = cs })) a r new
 headed view of outside f bs cs a b new r known seen size walk =
     from_more view (of (record (scope a) { outside = outside; flow = f; breaks = bs; continues = cs })) (of (scope b)) a b new r (ap of (sym known)) (other_turns outside f bs cs a b known seen size) walk
+
+pub from_head : {B D : Type 0} (view : D → B) (of : Scope → Verdict (B × Scope)) (body : Statement) (step : Option Assignment) (a b new : code.Scope.Scope) (r : Result D CheckError)
+    → scope b ≡ at_loop body step (scope a) → b.visible.items ≡ a.visible.items → b.flow.vars ≡ a.flow.vars
+    → Walks view (of (scope b)) b r new → Walks view (of (at_loop body step (scope a))) a r new
+from_head view of body step a b new r known seen size walk =
+    headed view of (length (scope a).locals) (at_head (assigned_in (scope a) body step) (scope a).flow) None None a b new r known seen size walk
+
+-- the head of a loop is in a scope with as many locals
+pub head_grows : (body : Statement) (step : Option Assignment) (a b : code.Scope.Scope) → scope b ≡ at_loop body step (scope a) → b.visible.items ≡ a.visible.items → b.flow.vars ≡ a.flow.vars → Grows a b
+head_grows body step a b known seen size = other_turns (length (scope a).locals) (at_head (assigned_in (scope a) body step) (scope a).flow) None None a b known seen size
 
 -- behind a step that speaks of numbers and pointers alone
 pub stepped : {B D : Type 0} (view : D → B) (of : Scope → Verdict (B × Scope)) (f : Knowledge) (bs cs : Option Knowledge) (a b new : code.Scope.Scope) (r : Result D CheckError)
@@ -47,8 +58,3 @@ pub turned : {B D : Type 0} (at : Places) (s : Statement) (view : D → B) (f : 
     → Walks view (passing (nested at (knowing f (scope a)) (scope a).in_loop s) next) a r new
 turned at s view f next a b new r known seen size walk =
     stepped view (λ g. passing (nested at g (scope a).in_loop s) next) f (scope a).breaks (scope a).continues a b new r known seen size walk
-
--- behind a loop
-pub left_loop : (a n l : code.Scope.Scope) (o : Knowledge) (around : code.Ways.Ways) → scope l ≡ record (scope n) { outside = around.outside; flow = with_others (scope n).breaks o; breaks = around.breaks; continues = around.continues }
-    → around ≡ record { outside = a.outside; breaks = a.breaks; continues = a.continues } → scope l ≡ over a.outside o (scope a).breaks (scope a).continues (scope n)
-left_loop a n l o around known ways = known ∙ ap (λ (w : code.Ways.Ways). over w.outside o w.breaks w.continues (scope n)) ways

@@ -14,8 +14,8 @@ use Rattle.region_typing_rules.specs.Verdicts.{Verdict, Passes, passing, needs, 
 use Rattle.region_typing_rules.specs.Operands.{Places, converted}
 use Rattle.region_typing_rules.specs.Expressions.{typed, call_typed}
 use Rattle.region_typing_rules.specs.Readings.{told}
-use Rattle.region_typing_rules.specs.Knowing.{knowing, settling, when, with_others, at_loop}
-use Rattle.region_typing_rules.specs.Statements.{both, alone, assignments, are_locals, statement, behind_block, meeting}
+use Rattle.region_typing_rules.specs.Knowing.{assigned_by, knowing, settling, when, with_others, at_loop}
+use Rattle.region_typing_rules.specs.Statements.{both, alone, assignment, assignments, are_locals, statement, behind_block, meeting}
 use Rattle.region_typing_rules.specs.Statements.{condition, optional_condition, optional_step, first_part, meets_declared, returned}
 use Rattle.region_typing_rules.specs.Scopes.{Scope}
 use Rattle.region_typing_statements.specs.declared.statements.Branch as code
@@ -40,18 +40,23 @@ Branch = core.Expression × core.Statement × Knowledge
 abbrev pub branched : code.Branch → Branch
 branched b = (on_heap.expression b.condition, on_heap.statement b.consequent, b.otherwise)
 
-abbrev pub then_branch : Places → Scope → Expression → Statement → Verdict (Branch × Scope)
-then_branch at g test consequent =
-    passing (condition at g test) (λ c. passing (nested at (when c true g) g.in_loop consequent)
-    (λ x. Passes ((c, x.0, told g.locals c false g.flow), x.1)))
+-- a statement on the way on which a condition came out true, in a loop or not
+abbrev pub guarded : Places → Scope → Bool → core.Expression → Statement → Verdict (Branch × Scope)
+guarded at g looped c s = passing (nested at (when c true g) looped s) (λ x. Passes ((c, x.0, told g.locals c false g.flow), x.1))
+
+abbrev pub then_branch : Places → Scope → Bool → Expression → Statement → Verdict (Branch × Scope)
+then_branch at g looped test consequent = passing (condition at g test) (λ c. guarded at g looped c consequent)
+
+-- the ways of a branch meet behind its alternative
+abbrev pub branch_ended : Branch → core.Statement × Scope → Verdict (core.Statement × Scope)
+branch_ended b y = Passes (core.If b.0 b.1 y.0, meeting b.2 y.1)
 
 -- a branch alone, and one with an alternative
 abbrev pub if_alone : Places → Scope → Expression → Statement → Verdict (core.Statement × Scope)
-if_alone at g test consequent = passing (then_branch at g test consequent) (λ x. Passes (core.If x.0.0 x.0.1 core.Nothing, meeting x.0.2 x.1))
+if_alone at g test consequent = passing (then_branch at g g.in_loop test consequent) (λ x. branch_ended x.0 (core.Nothing, x.1))
 
 abbrev pub otherwise : Places → Branch × Scope → Statement → Verdict (core.Statement × Scope)
-otherwise at b alternative =
-    passing (nested at (knowing b.0.2 b.1) b.1.in_loop alternative) (λ y. Passes (core.If b.0.0 b.0.1 y.0, meeting b.1.flow y.1))
+otherwise at b alternative = passing (nested at (knowing b.0.2 b.1) b.1.in_loop alternative) (branch_ended (b.0.0, b.0.1, b.1.flow))
 
 -- the end of a loop's body, where its `continue`s meet it
 abbrev pub after_turn : Scope → Scope
@@ -62,31 +67,25 @@ abbrev pub over : (outside : ℕ) → Knowledge → Option Knowledge → Option 
 over outside otherwise breaks continues g =
     record g { outside = outside; flow = with_others g.breaks otherwise; breaks = breaks; continues = continues }
 
-abbrev pub behind : Scope → Scope → core.Expression → Scope → Scope
-behind g head c inside = over g.outside (told head.locals c false head.flow) g.breaks g.continues inside
+-- a loop of its turns and the step behind each, in a scope
+abbrev pub loop_ended : Scope → Branch → core.Statement × Scope → Verdict (core.Statement × Scope)
+loop_ended g turn step = Passes (core.Loop turn.0 turn.1 step.0, over g.outside turn.2 g.breaks g.continues step.1)
 
--- the step of a loop behind its body, from what is known before it
-abbrev pub step_ended : Places → Scope → core.Expression → Option Assignment → core.Statement → Knowledge → Scope → Verdict (core.Statement × Scope)
-step_ended at g c step body otherwise before =
-    passing (optional_step at before step) (λ y. Passes (core.Loop c body y.0, over g.outside otherwise g.breaks g.continues y.1))
-
-abbrev pub turn_ended : Places → Scope → core.Expression → Option Assignment → core.Statement × Scope → Knowledge → Verdict (core.Statement × Scope)
-turn_ended at g c step x otherwise = step_ended at g c step x.0 otherwise (after_turn x.1)
+-- the step of a loop, behind its body
+abbrev pub step_behind : Places → Scope → Option Assignment → Verdict (core.Statement × Scope)
+step_behind at g step = optional_step at (after_turn g) step
 
 -- the turns of a loop, from its head
 abbrev pub turns_from : Places → Scope → Scope → Statement → Option Expression → Option Assignment → Verdict (core.Statement × Scope)
 turns_from at g head body test step =
-    passing (optional_condition at head test) (λ c. passing (nested at (when c true head) true body)
-    (λ x. turn_ended at g c step x (told head.locals c false head.flow)))
+    passing (optional_condition at head test) (λ c. passing (guarded at head true c body) (λ b. passing (step_behind at b.1 step) (loop_ended g b.0)))
 
 abbrev pub turns : Places → Scope → Statement → Option Expression → Option Assignment → Verdict (core.Statement × Scope)
 turns at g body test step = turns_from at g (at_loop body step g) body test step
 
 -- a loop with a condition alone, and one with a head
 abbrev pub while_from : Places → Scope → Scope → Expression → Statement → Verdict (core.Statement × Scope)
-while_from at g head test body =
-    passing (condition at head test) (λ c. passing (nested at (when c true head) true body)
-    (λ x. Passes (core.Loop c x.0 core.Nothing, behind g head c x.1)))
+while_from at g head test body = passing (then_branch at head true test body) (λ b. loop_ended g b.0 (core.Nothing, b.1))
 
 abbrev pub while_loop : Places → Scope → Expression → Statement → Verdict (core.Statement × Scope)
 while_loop at g test body = while_from at g (at_loop body None g) test body
@@ -99,6 +98,13 @@ for_loop at g initial test step body =
 abbrev pub joined : List Stmt → core.Statements → core.Statements
 joined [] others = others
 joined (x ∷ xs) others = core.Then (core.statement x) (joined xs others)
+
+-- an assignment in a bundle, and what is known behind it
+abbrev pub after : Scope → core.Statement → Scope
+after g x = knowing (assigned_by g.locals x g.flow) g
+
+abbrev pub unsettled_assignment : Places → Scope → Assignment → Verdict (core.Statement × Scope)
+unsettled_assignment at g a = passing (assignment at g a) (λ x. Passes (x, after g x))
 
 -- assignments in a bundle, and what is known behind them
 abbrev pub unsettled : Places → Scope → List Assignment → Verdict (core.Statements × Scope)

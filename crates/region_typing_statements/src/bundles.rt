@@ -9,10 +9,10 @@ ghost use Rattle.region_typing_rules.specs.Statements.{are_locals as are_locals_
 ghost use Rattle.region_typing_scope.specs.OnHeap.{statement as statement_of};
 ghost use Rattle.region_typing_scope.specs.Views.{scope as scope_of};
 ghost use Rattle.region_typing_statements.specs.Marks.{seen};
-ghost use Rattle.region_typing_statements.specs.Parts.{unsettled};
+ghost use Rattle.region_typing_statements.specs.Parts.{unsettled_assignment as unsettled_in, unsettled};
 ghost use Rattle.region_typing_statements.specs.Walks.{Walks};
 
-use crate::core_forms::block;
+use crate::core_forms::{block, push};
 use ckc_core::program::Stmt;
 use ckc_text::code::Code;
 use ckc_text::place::Span;
@@ -45,6 +45,19 @@ fn are_locals(visible: &[Visible], written: &[Assignment]) -> bool
     written.iter().all(|a| is_to_local(visible, a))
 }
 
+// An assignment, and what it makes known, which isn't settled.
+fn unsettled_assignment(
+    context: &Context,
+    scope: &mut Scope,
+    written: &Assignment,
+) -> Result<Box<Stmt>, CheckError>
+    ensures { Walks statement_of (unsettled_in (place_at context.now) (scope_of scope.old) (assignment_tree written.now)) scope.old result scope.new }
+{
+    let built = assignment(context, scope, written)?;
+    scope.assign(&built)?;
+    Ok(built)
+}
+
 // Assignments in their order, of which none is settled.
 fn assignments(
     context: &Context,
@@ -55,10 +68,8 @@ fn assignments(
 {
     let mut built = Vec::new(context.alloc());
     for listed in written {
-        let next = assignment(context, scope, listed)?;
-        scope.assign(&next)?;
-        built.reserve(1)?;
-        built.push_reserved(Box::into_inner(next));
+        let next = unsettled_assignment(context, scope, listed)?;
+        push(&mut built, next)?;
     }
     Ok(built)
 }

@@ -1,7 +1,7 @@
 // Statements of the core that have statements. What is built stays behind a `Box` while more is walked.
 
-ghost use Rattle.std.specs.Prelude.{◌≡◌, IfOk};
-ghost use Rattle.ckc_core.specs.Core.{statements_of, Block, If, Loop};
+ghost use Rattle.std.specs.Prelude.{◌≡◌, ◌++◌, ◌∷◌, [], IfOk, OnOk};
+ghost use Rattle.ckc_core.specs.Core.{statements_of, Nothing, Block, If, Loop};
 ghost use Rattle.region_typing_rules.specs.Statements.{both as both_of};
 ghost use Rattle.region_typing_scope.specs.OnHeap.{expression as expression_of, statement as statement_of};
 
@@ -9,11 +9,27 @@ use ckc_core::program::{Expr, Stmt};
 use ckc_text::fault::NoMemory;
 use region_typing_scope::context::Context;
 
+/// Nothing.
+pub fn nothing(context: &Context) -> Result<Box<Stmt>, NoMemory>
+    ensures { IfOk result (λ s. statement_of s ≡ Nothing) }
+{
+    context.boxed(Stmt::Nothing)
+}
+
 /// Statements in their order.
 pub fn block(context: &Context, statements: Vec<Stmt>) -> Result<Box<Stmt>, NoMemory>
     ensures { IfOk result (λ s. statement_of s ≡ Block (statements_of statements.items)) }
 {
     context.boxed(Stmt::Block(statements))
+}
+
+/// A statement more.
+pub fn push(statements: &mut Vec<Stmt>, next: Box<Stmt>) -> Result<(), NoMemory>
+    ensures { OnOk result (statements.new.items ≡ statements.old.items ++ next.value ∷ []) }
+{
+    statements.reserve(1)?;
+    statements.push_reserved(Box::into_inner(next));
+    Ok(())
 }
 
 /// Two statements in a row.

@@ -12,7 +12,7 @@ ghost use Rattle.region_typing_scope.specs.Views.{scope as scope_of};
 ghost use Rattle.region_typing_scope.specs.OnHeap.{statement};
 ghost use Rattle.region_typing_statements.specs.Walks.{Walks, declared_local};
 
-use crate::core_forms::both;
+use crate::core_forms::{both, nothing};
 use crate::initial_values::from_zero;
 use crate::local_arrays::{array_local, first_length};
 use ckc_core::program::Stmt;
@@ -103,7 +103,7 @@ fn declarators(
     ensures { Walks statement (declarators_of (place_at context.now) (scope_of scope.old) (type_tree base.now) (ctype_of t.now) span (map declarator_tree ds.now)) scope.old result scope.new }
 {
     match ds {
-        [] => Ok(context.boxed(Stmt::Nothing)?),
+        [] => Ok(nothing(context)?),
         [first, others @ ..] => {
             let first = declarator(context, scope, base, t, span, first)?;
             let rest = declarators(context, scope, base, t, span, others)?;

@@ -9,6 +9,7 @@ ghost use Rattle.region_typing_scope.specs.Views.{scope as scope_of};
 ghost use Rattle.region_typing_scope.specs.OnHeap.{expression, statement};
 ghost use Rattle.region_typing_statements.specs.Walks.{Walks};
 
+use crate::core_forms::nothing;
 use crate::declarations::declaration;
 use crate::simple_statements::assign;
 use ckc_core::program::{Expr, Stmt};
@@ -42,7 +43,7 @@ pub fn optional_step(
     ensures { Walks statement (optional_step_of (place_at context.now) (scope_of scope.old) (option_map assignment_tree written.now)) scope.old result scope.new }
 {
     match written {
-        None => Ok(context.boxed(Stmt::Nothing)?),
+        None => Ok(nothing(context)?),
         Some(written) => assign(context, scope, written),
     }
 }
@@ -56,7 +57,7 @@ pub fn first_part(
     ensures { Walks statement (first_part_of (place_at context.now) (scope_of scope.old) (initial_tree written.now)) scope.old result scope.new }
 {
     match written {
-        ForInitial::Nothing => Ok(context.boxed(Stmt::Nothing)?),
+        ForInitial::Nothing => Ok(nothing(context)?),
         ForInitial::Declare {
             declaration: written,
         } => declaration(context, scope, written),

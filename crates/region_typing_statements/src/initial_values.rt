@@ -12,7 +12,7 @@ ghost use Rattle.region_typing_scope.specs.Views.{scope as scope_of};
 ghost use Rattle.region_typing_scope.specs.OnHeap.{statement as statement_of};
 ghost use Rattle.region_typing_statements.specs.Walks.{Walks, initial_value as initial_value_as, chosen, from_zero as from_zero_as};
 
-use crate::core_forms::both;
+use crate::core_forms::{both, nothing};
 use crate::zero_values::set_to_zero;
 use ckc_core::program::Stmt;
 use ckc_text::code::Code;
@@ -55,7 +55,7 @@ fn initialised(
     ensures { Answers statement_of (initialised_as (place_at context.now) (scope_of scope.now) (option_map initializer_tree written.now) (ctype_of t.now) local span) result }
 {
     match written {
-        None => Ok(context.boxed(Stmt::Nothing)?),
+        None => Ok(nothing(context)?),
         Some(Initializer::Value { value }) => {
             initial_value(context, scope, value, t, local, span)
         }

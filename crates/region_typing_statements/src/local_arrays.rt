@@ -187,8 +187,8 @@ fn made(
     ensures { Walks statement (made_array (scope_of scope.old) local (typed_on_heap memory) (ctype_of t.now) span) scope.old result scope.new }
 {
     let value = converted(context, memory, t, span)?;
-    let first = context.boxed(set_to_zero(local, t))?;
     let made = context.boxed(Stmt::SetLocal { local, value })?;
+    let first = context.boxed(set_to_zero(local, t))?;
     scope.settle(&made, span)?;
     Ok(both(context, first, made)?)
 }

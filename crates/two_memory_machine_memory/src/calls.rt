@@ -1,6 +1,6 @@
 // The open calls of the trusted side: the words of their frames lie one behind the other.
 
-ghost use Rattle.std.specs.Prelude.{◌≡◌, ◌+◌, ◌-◌, ◌^◌, ◌<◌, ◌≤◌, ◌++◌, ◌∷◌, List, length, take, drop, replicate, nat_lt, if◌then◌else◌, IfOk, IfSome, Some, [], slice_get, slice_set, All};
+ghost use Rattle.std.specs.Prelude.{◌≡◌, ◌+◌, ◌-◌, ◌^◌, ◌<◌, ◌≤◌, ◌++◌, ◌∷◌, List, length, take, drop, replicate, nat_lt, if◌then◌else◌, IfOk, IfSome, IfNone, Some, [], slice_get, slice_set, All};
 ghost use Rattle.std.specs.Option.{option_copied};
 ghost use Rattle.code_words.specs.Functions.{Func as FuncData};
 ghost use Rattle.two_memory_machine_memory.specs.CallInsides.{window};
@@ -186,6 +186,7 @@ impl<'a> CallWords<'a> {
     #[inline(always)]
     pub fn ahead(&self) -> Option<&'a [Op]>
         ensures ops { IfSome result (λ ops. ops.now ≡ drop self.now.frame.next self.now.fun.ops) }
+        ensures past { IfNone result (length self.now.fun.ops < self.now.frame.next) }
         ensures within { IfSome result (λ ops. self.now.frame.next + length ops.now < 2 ^ 64) }
     {
         self.ops.get(self.next..)

@@ -12,23 +12,16 @@ core_of_items-requires c =
     let inside : c.deref_mut.result.now ≡ c.in_ok-walk.walk.value = c.deref_mut.ensures.value in
     rw inside (outside_at_start (walk c.in_ok-walk.walk.value) c.given-given.result (variables_declared (map item c.as_slice-written.result.now)) c.in_ok-walk.ensures)
 
-pub returns-in-Ok : goal.returns-in-Ok
-returns-in-Ok c =
+pub answered-requires : goal.answered-requires
+answered-requires c = λ unnamed.
     let inside : c.deref_mut.result.now ≡ c.in_ok-walk.walk.value = c.deref_mut.ensures.value in
     let at_start = ap walk inside ∙ c.in_ok-walk.ensures in
-    let answer = rw (at_start, c.as_slice-written.ensures.value, c.program-program.ensures.value, c.in_ok-context.ensures, c.given-given.ensures, c.in-Ok.is) at c.core_of_items.ensures in
-    answer.so
-
-pub returns-in-Err-Source : goal.returns-in-Err-Source
-returns-in-Err-Source c =
-    let inside : c.deref_mut.result.now ≡ c.in_ok-walk.walk.value = c.deref_mut.ensures.value in
-    let at_start = ap walk inside ∙ c.in_ok-walk.ensures in
-    let answer = rw (at_start, c.as_slice-written.ensures.value, c.program-program.ensures.value, c.in_ok-context.ensures, c.given-given.ensures, c.in-Err-Source.is, c.in-Err-Source.field-0-is) at c.core_of_items.ensures in
-    answer.so
-
-pub unreachable-requires : goal.unreachable-requires
-unreachable-requires c =
-    let inside : c.deref_mut.result.now ≡ c.in_ok-walk.walk.value = c.deref_mut.ensures.value in
-    let at_start = ap walk inside ∙ c.in_ok-walk.ensures in
-    let answer = rw (at_start, c.as_slice-written.ensures.value, c.program-program.ensures.value, c.in_ok-context.ensures, c.given-given.ensures, c.in-Err-Unnamed.is, c.in-Err-Unnamed.field-0-is) at c.core_of_items.ensures in
+    let answer = rw (at_start, c.as_slice-written.ensures.value, c.program-program.ensures.value, c.in_ok-context.ensures, c.given-given.ensures, unnamed) at c.core_of_items.ensures in
     never_unnamed (place_at c.args.src.now) (named_tree c.args.source.now) c.requires.forms (rw c.program-program.ensures.value at c.program-program.ensures.named) answer.so
+
+pub returns : goal.returns
+returns c =
+    let inside : c.deref_mut.result.now ≡ c.in_ok-walk.walk.value = c.deref_mut.ensures.value in
+    let at_start = ap walk inside ∙ c.in_ok-walk.ensures in
+    let answer = rw (at_start, c.as_slice-written.ensures.value, c.program-program.ensures.value, c.in_ok-context.ensures, c.given-given.ensures) at c.core_of_items.ensures in
+    c.answered.ensures (place_at c.args.src.now) (named_tree c.args.source.now) answer

@@ -15,22 +15,12 @@ returns-in_err-t c =
     rw (global_judged (place_at c.args.context.now) (walk c.args.walk.now) (trees.global c.args.d.now))
     (goes_on _ c.in_ok-room_for_first.ensures (refused _ c.from_residual-in_err-t.result c.from_residual-in_err-t.ensures.1 c.in_err-t.ensures))
 
-pub returns-in_err-vs : goal.returns-in_err-vs
-returns-in_err-vs c =
-    let broken = rw c.as_slice.ensures.value at c.in_err-vs.ensures in
+pub returns-in_err-declared_variables : goal.returns-in_err-declared_variables
+returns-in_err-declared_variables c =
     rw (global_judged (place_at c.args.context.now) (walk c.args.walk.now) (trees.global c.args.d.now))
-    (goes_on _ c.in_ok-room_for_first.ensures (goes_on _ c.in_ok-t.ensures (refused _ c.from_residual-in_err-vs.result c.from_residual-in_err-vs.ensures.1 broken)))
-
-pub returns-in_err-objects : goal.returns-in_err-objects
-returns-in_err-objects c =
-    let passes = rw c.as_slice.ensures.value at c.in_ok-vs.ensures in
-    let broken = rw c.as_slice-2.ensures.value at c.in_err-objects.ensures in
-    rw (global_judged (place_at c.args.context.now) (walk c.args.walk.now) (trees.global c.args.d.now))
-    (goes_on _ c.in_ok-room_for_first.ensures (goes_on _ c.in_ok-t.ensures (goes_on _ passes (refused _ c.from_residual-in_err-objects.result c.from_residual-in_err-objects.ensures.1 broken))))
+    (goes_on _ c.in_ok-room_for_first.ensures (goes_on _ c.in_ok-t.ensures (refused _ c.from_residual-in_err-declared_variables.result c.from_residual-in_err-declared_variables.ensures.1 c.in_err-declared_variables.ensures)))
 
 pub returns : goal.returns
 returns c =
-    let passes = rw c.as_slice.ensures.value at c.in_ok-vs.ensures in
-    let built = rw c.as_slice-2.ensures.value at c.in_ok-objects.ensures in
     rw (global_judged (place_at c.args.context.now) (walk c.args.walk.now) (trees.global c.args.d.now))
-    (goes_on _ c.in_ok-room_for_first.ensures (goes_on _ c.in_ok-t.ensures (goes_on _ passes (goes_on _ built (last _ _ _ _ _ _ c.needs.result refl c.needs.ensures refl)))))
+    (goes_on _ c.in_ok-room_for_first.ensures (goes_on _ c.in_ok-t.ensures (goes_on _ c.in_ok-declared_variables.ensures (last _ _ _ _ _ _ c.needs.result refl c.needs.ensures refl))))

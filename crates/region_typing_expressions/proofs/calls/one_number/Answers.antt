@@ -1,10 +1,8 @@
-use Rattle.std.proofs.Common.{◌==◌, ap, ◌∙◌}
-use Rattle.region_typing_scope.proofs.Going.{refused_by}
-use Rattle.region_typing_expressions.proofs.Conversions.{one_too_many}
+use Rattle.region_typing_scope.proofs.Going.{goes_on, refused}
 use Rattle.region_typing_expressions.proofs.calls.one_number.Goals as goal
 
-pub returns-in_err-needs-in-Some : goal.returns-in_err-needs-in-Some
-returns-in_err-needs-in-Some c =
-    refused_by c.from_residual.result c.from_residual.ensures.1
-    (λ stop breaks. one_too_many c.in-Some.argument c.pop_front.new.self.items c.args.arguments.items c.is_empty.result c.args.span stop c.in-Some.ensures.items (c.is_empty.ensures ∙ ap (λ n. n == 0) c.pop_front.new.self.ok.0) breaks)
-    c.in_err-needs-in-Some.ensures
+pub returns-in_err-argument : goal.returns-in_err-argument
+returns-in_err-argument c = refused _ c.from_residual.result c.from_residual.ensures.1 c.in_err-argument.ensures
+
+pub returns : goal.returns
+returns c = goes_on _ c.in_ok-argument.ensures c.converted.ensures

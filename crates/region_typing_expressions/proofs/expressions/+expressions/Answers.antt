@@ -1,14 +1,15 @@
-use Rattle.std.proofs.Common.{◌≡◌, ◌<◌, length, map, Box, Global, refl, ap, sym, ◌∙◌, arith}
+use Rattle.std.proofs.Common.{◌≡◌, ◌<◌, length, map, Box, Global, ap, sym, ◌∙◌, arith}
 use Rattle.ckc_text.specs.Places.{place_at}
 use Rattle.ckc_text.specs.declared.place.Span.{Span}
 use Rattle.ckc_tree.specs.declared.identifier.Identifier.{Identifier}
 use Rattle.ckc_tree.specs.declared.expr.Expr.{Expr}
 use Rattle.ckc_tree.specs.declared.expr.Expr.TheVariants as exprs
+use Rattle.ckc_tree.specs.declared.expr.BinaryOperator.{BinaryOperator}
 use Rattle.ckc_tree.specs.declared.expr.UnaryOperator.{UnaryOperator}
 use Rattle.ckc_tree.specs.declared.expr.CallocWord.{CallocWord}
 use Rattle.ckc_tree.specs.declared.type_form.TypeName.{TypeName}
 use Rattle.ckc_tree.specs.Types.{type_name}
-use Rattle.ckc_tree.specs.Expressions.{Index, Dot, Arrow, Unary, Calloc, expression}
+use Rattle.ckc_tree.specs.Expressions.{Index, Dot, Arrow, Unary, Binary, Calloc, expression}
 use Rattle.pointer_modes.specs.Types.{ctype}
 use Rattle.region_typing_rules.specs.Operands.{site_at}
 use Rattle.region_typing_scope.specs.Points.{point}
@@ -41,41 +42,56 @@ index_tree : (x a b : Expr) (base index : Box Expr Global) (span : Span) → x �
 index_tree x a b base index span is first second =
     ap expression is ∙ ap (λ e. Index (expression e) (expression index.value) span) (sym first) ∙ ap (λ e. Index (expression a) (expression e) span) (sym second)
 
-pub typed_at-returns-in_err-base-in-Index : goal.typed_at-returns-in_err-base-in-Index
-typed_at-returns-in_err-base-in-Index t c =
+pub typed_at-returns-in-Index : goal.typed_at-returns-in-Index
+typed_at-returns-in-Index t c =
     let i = c.in-Index in
-    let at = place_at c.args.context.now in
-    rw (index_tree c.args.e.now c.deref.result.now i.index.value i.base i.index i.span i.is c.deref.ensures refl, element_parts at (point c.args.point.now) (expression c.deref.result.now) (expression i.index.value) i.span)
-    (refused _ c.from_residual-in_err-base-in-Index.result c.from_residual-in_err-base-in-Index.ensures.1 c.in_err-base-in-Index.ensures)
+    rw (index_tree c.args.e.now c.deref.result.now c.deref-in-Index.result.now i.base i.index i.span i.is c.deref.ensures c.deref-in-Index.ensures) c.element_value.ensures
 
-pub typed_at-returns-in_err-index-in-Index : goal.typed_at-returns-in_err-index-in-Index
-typed_at-returns-in_err-index-in-Index t c =
-    let i = c.in-Index in
-    let at = place_at c.args.context.now in
-    rw (index_tree c.args.e.now c.deref.result.now c.deref-in-Index.result.now i.base i.index i.span i.is c.deref.ensures c.deref-in-Index.ensures, element_parts at (point c.args.point.now) (expression c.deref.result.now) (expression c.deref-in-Index.result.now) i.span)
-    (goes_on _ c.in_ok-base-in-Index.ensures (refused _ c.from_residual-in_err-index-in-Index.result c.from_residual-in_err-index-in-Index.ensures.1 c.in_err-index-in-Index.ensures))
+pub element_value-returns-in_err-base : goal.element_value-returns-in_err-base
+element_value-returns-in_err-base t c = rw (element_parts (place_at c.args.context.now) (point c.args.point.now) (expression c.args.base.now) (expression c.args.index.now) c.args.span) (refused _ c.from_residual.result c.from_residual.ensures.1 c.in_err-base.ensures)
 
-pub typed_at-returns-in_ok-index-in-Index : goal.typed_at-returns-in_ok-index-in-Index
-typed_at-returns-in_ok-index-in-Index t c =
-    let i = c.in-Index in
-    let at = place_at c.args.context.now in
-    rw (index_tree c.args.e.now c.deref.result.now c.deref-in-Index.result.now i.base i.index i.span i.is c.deref.ensures c.deref-in-Index.ensures, element_parts at (point c.args.point.now) (expression c.deref.result.now) (expression c.deref-in-Index.result.now) i.span)
-    (goes_on _ c.in_ok-base-in-Index.ensures (goes_on _ c.in_ok-index-in-Index.ensures c.element_of.ensures))
+pub element_value-returns-in_err-index : goal.element_value-returns-in_err-index
+element_value-returns-in_err-index t c =
+    rw (element_parts (place_at c.args.context.now) (point c.args.point.now) (expression c.args.base.now) (expression c.args.index.now) c.args.span)
+    (goes_on _ c.in_ok-base.ensures (refused _ c.from_residual-in_err-index.result c.from_residual-in_err-index.ensures.1 c.in_err-index.ensures))
+
+pub element_value-returns : goal.element_value-returns
+element_value-returns t c = rw (element_parts (place_at c.args.context.now) (point c.args.point.now) (expression c.args.base.now) (expression c.args.index.now) c.args.span) (goes_on _ c.in_ok-base.ensures (goes_on _ c.in_ok-index.ensures c.element_of.ensures))
+
+binary_tree : (x a b : Expr) (operator : BinaryOperator) (left right : Box Expr Global) (span : Span) → x ≡ exprs.Binary operator left right span → a ≡ left.value → b ≡ right.value → expression x ≡ Binary operator (expression a) (expression b) span
+binary_tree x a b operator left right span is first second =
+    ap expression is ∙ ap (λ e. Binary operator (expression e) (expression right.value) span) (sym first) ∙ ap (λ e. Binary operator (expression a) (expression e) span) (sym second)
+
+pub typed_at-returns-in-Binary : goal.typed_at-returns-in-Binary
+typed_at-returns-in-Binary t c =
+    let i = c.in-Binary in
+    rw (binary_tree c.args.e.now c.deref-in-Binary.result.now c.deref-in-Binary-2.result.now i.operator i.left i.right i.span i.is c.deref-in-Binary.ensures c.deref-in-Binary-2.ensures) c.binary_of.ensures
 
 calloc_tree : (x a b : Expr) (word : CallocWord) (t : TypeName) (count size : Box Expr Global) (span : Span) → x ≡ exprs.Calloc word t count size span → a ≡ count.value → b ≡ size.value
     → expression x ≡ Calloc word (type_name t) (expression a) (expression b) span
 calloc_tree x a b word t count size span is first second =
     ap expression is ∙ ap (λ e. Calloc word (type_name t) (expression e) (expression size.value) span) (sym first) ∙ ap (λ e. Calloc word (type_name t) (expression a) (expression e) span) (sym second)
 
-pub typed_at-returns-in_ok-_size-in-Calloc : goal.typed_at-returns-in_ok-_size-in-Calloc
-typed_at-returns-in_ok-_size-in-Calloc t c =
+pub typed_at-returns-in-Calloc : goal.typed_at-returns-in-Calloc
+typed_at-returns-in-Calloc t c =
     let i = c.in-Calloc in
+    rw (calloc_tree c.args.e.now c.deref-in-Calloc.result.now c.deref-in-Calloc-2.result.now i.word i.type_name i.count i.size i.span i.is c.deref-in-Calloc.ensures c.deref-in-Calloc-2.ensures) c.calloc_of.ensures
+
+pub calloc_of-returns-in_err-t : goal.calloc_of-returns-in_err-t
+calloc_of-returns-in_err-t t c = refused _ c.from_residual.result c.from_residual.ensures.1 c.in_err-t.ensures
+
+pub calloc_of-returns-in_err-count : goal.calloc_of-returns-in_err-count
+calloc_of-returns-in_err-count t c = goes_on _ c.in_ok-t.ensures (refused _ c.from_residual-in_err-count.result c.from_residual-in_err-count.ensures.1 c.in_err-count.ensures)
+
+pub calloc_of-returns-in_err-_size : goal.calloc_of-returns-in_err-_size
+calloc_of-returns-in_err-_size t c =
+    goes_on _ c.in_ok-t.ensures (goes_on _ c.in_ok-count.ensures (refused _ c.from_residual-in_err-_size.result c.from_residual-in_err-_size.ensures.1 c.in_err-_size.ensures))
+
+pub calloc_of-returns : goal.calloc_of-returns
+calloc_of-returns t c =
     let p = c.args.point.now in
-    let size = c.deref-in-Calloc-2.result.now in
-    let made = rw (c.deref-in-Calloc-3.ensures ∙ sym c.deref-in-Calloc-2.ensures) at c.calloc.ensures in
-    rw (calloc_tree c.args.e.now c.deref-in-Calloc.result.now size i.word i.type_name i.count i.size i.span i.is c.deref-in-Calloc.ensures c.deref-in-Calloc-2.ensures)
-    (goes_on _ c.in_ok-t-in-Calloc.ensures (goes_on _ c.in_ok-count-in-Calloc.ensures (goes_on _ c.in_ok-_size-in-Calloc.ensures
-    (rw (calloc_same p.flow.now (scope p.scope.now) i.word (ctype c.in_ok-t-in-Calloc.t) (typed c.in_ok-count-in-Calloc.count) (expression size) (site_at (place_at c.args.context.now) i.span) i.span) made))))
+    goes_on _ c.in_ok-t.ensures (goes_on _ c.in_ok-count.ensures (goes_on _ c.in_ok-_size.ensures
+    (rw (calloc_same p.flow.now (scope p.scope.now) c.args.word (ctype c.in_ok-t.t) (typed c.in_ok-count.count) (expression c.args.size.now) (site_at (place_at c.args.context.now) c.args.span) c.args.span) c.calloc.ensures)))
 
 pub typed_at-returns-in-Unary : goal.typed_at-returns-in-Unary
 typed_at-returns-in-Unary t c = rw (unary_tree c.args.e.now c.deref-in-Unary.result.now c.in-Unary.operator c.in-Unary.operand c.in-Unary.span c.in-Unary.is c.deref-in-Unary.ensures) c.unary_of.ensures

@@ -1,4 +1,4 @@
-use Rattle.std.proofs.Common.{◌≡◌, ◌<◌, length, ap, arith}
+use Rattle.std.proofs.Common.{◌≡◌, ◌<◌, length, arith}
 use Rattle.std.proofs.lemmas.List.{nil_from_length, take_rest}
 use Rattle.ckc_text.specs.Places.{place_at}
 use Rattle.ckc_tree.specs.Types.{type_tree}
@@ -9,10 +9,10 @@ use Rattle.region_typing_statements.proofs.Walking.{walks_on, refused_walk, done
 use Rattle.region_typing_statements.proofs.Locals.{declarators_walk}
 use Rattle.region_typing_statements.proofs.declarations.+declarators.Goals as goal
 
-pub returns-in_ok-boxed-in-empty : goal.returns-in_ok-boxed-in-empty
-returns-in_ok-boxed-in-empty t c =
+pub returns-in_ok-nothing-in-empty : goal.returns-in_ok-nothing-in-empty
+returns-in_ok-nothing-in-empty t c =
     let none : length c.args.ds.now ≡ 0 = omega (arith, c.in-empty.len_below) in
-    rw (nil_from_length c.args.ds.now none) (done statement c.in_ok-boxed-in-empty.field-0 core.Nothing c.args.scope.now (ap core.statement c.in_ok-boxed-in-empty.ensures))
+    rw (nil_from_length c.args.ds.now none) (done statement c.in_ok-nothing-in-empty.field-0 core.Nothing c.args.scope.now c.in_ok-nothing-in-empty.ensures)
 
 pub returns-in_err-first-in-len1-up : goal.returns-in_err-first-in-len1-up
 returns-in_err-first-in-len1-up t c =

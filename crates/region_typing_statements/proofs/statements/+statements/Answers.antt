@@ -1,23 +1,22 @@
-use Rattle.std.proofs.Common.{◌≡◌, ◌<◌, ◌++◌, ◌∷◌, [], true, length, Ok, ap, sym, refl, ◌∙◌, arith}
+use Rattle.std.proofs.Common.{◌<◌, None, length, Ok, ap, sym, refl, ◌∙◌, arith}
 use Rattle.std.specs.Option.{option_map}
 use Rattle.ckc_text.specs.Places.{place_at}
 use Rattle.ckc_text.specs.declared.code.Code.TheVariants.{E15}
 use Rattle.ckc_tree.specs.Statements as s
 use Rattle.ckc_tree.specs.Items.{statement_list}
 use Rattle.ckc_tree.specs.Expressions as trees
-use Rattle.ckc_core.specs.declared.program.Stmt.{Stmt}
 use Rattle.ckc_core.specs.Core as core
 use Rattle.ckc_core.specs.Core.{statements_of}
 use Rattle.region_typing_rules.specs.Statements as rules
 use Rattle.region_typing_scope.specs.Views.{scope}
 use Rattle.region_typing_rules.specs.Verdicts.{Passes}
 use Rattle.region_typing_scope.specs.OnHeap.{statement, expression}
-use Rattle.region_typing_statements.specs.Parts.{branched, over, turn_ended, step_ended, turns_from, while_from}
-use Rattle.region_typing_statements.proofs.Walking.{goes_on, refused, walks_on, refused_walk, refused_by, done, done_in, left, left_walk, grown, size_kept, still_there, still_outside, other_turns, other_flow, other_loop, none_more, kept_as}
+use Rattle.region_typing_statements.specs.Parts.{branched, turns_from, while_from}
+use Rattle.region_typing_statements.proofs.Walking.{goes_on, refused, walks_on, refused_walk, refused_by, done, left, left_walk, grown, size_kept, still_there, still_outside, other_loop, none_more, kept_as}
 use Rattle.region_typing_statements.proofs.Testing.{walk_fails, tested}
 use Rattle.region_typing_statements.proofs.Rows.{block_tree}
 use Rattle.region_typing_statements.proofs.Loops.{call_parts, if_walk, if_else_walk, while_walk, for_walk, nested_walk, nested_broken}
-use Rattle.region_typing_statements.proofs.Ways.{headed, stepped, parted, turned, left_loop}
+use Rattle.region_typing_statements.proofs.Ways.{from_head, head_grows, parted, turned}
 use Rattle.region_typing_statements.proofs.Sequences.{behind_empty, statement_more, statement_breaks, statements_done}
 use Rattle.region_typing_statements.proofs.statements.+statements.Goals as goal
 
@@ -32,143 +31,93 @@ nested-returns t c =
 pub then_branch-returns-in_err-condition-clause-walks : goal.then_branch-returns-in_err-condition-clause-walks
 then_branch-returns-in_err-condition-clause-walks t c = refused _ c.from_residual.result c.from_residual.ensures.1 c.in_err-condition.ensures
 
-pub then_branch-returns-in_err-consequent-clause-walks : goal.then_branch-returns-in_err-consequent-clause-walks
-then_branch-returns-in_err-consequent-clause-walks t c =
-    let known = rw c.deref.ensures at c.in_ok-otherwise.ensures.known in
-    let other = rw c.deref.ensures at c.in_ok-otherwise.ensures.other in
-    goes_on _ c.in_ok-condition.ensures
-    (parted (place_at c.args.context.now) (s.statement c.args.consequent.now) c.args.scope.now.in_loop branched (λ x o. Passes ((expression c.in_ok-condition.condition, x.0, o), x.1)) c.in_ok-condition.condition c.in_ok-otherwise.otherwise c.args.scope.now c.part.new.self c.nested.new.scope c.from_residual-in_err-consequent.result known other c.in_ok-otherwise.ensures.seen c.in_ok-otherwise.ensures.size
-    (refused_walk _ c.from_residual-in_err-consequent.result c.from_residual-in_err-consequent.ensures.1 c.in_err-consequent.ensures))
-
 pub then_branch-returns-clause-walks : goal.then_branch-returns-clause-walks
-then_branch-returns-clause-walks t c =
+then_branch-returns-clause-walks t c = goes_on _ c.in_ok-condition.ensures c.guarded.ensures.walks
+
+pub guarded-returns-in_err-consequent-clause-walks : goal.guarded-returns-in_err-consequent-clause-walks
+guarded-returns-in_err-consequent-clause-walks t c =
     let known = rw c.deref.ensures at c.in_ok-otherwise.ensures.known in
     let other = rw c.deref.ensures at c.in_ok-otherwise.ensures.other in
-    goes_on _ c.in_ok-condition.ensures
-    (parted (place_at c.args.context.now) (s.statement c.args.consequent.now) c.args.scope.now.in_loop branched (λ x o. Passes ((expression c.in_ok-condition.condition, x.0, o), x.1)) c.in_ok-condition.condition c.in_ok-otherwise.otherwise c.args.scope.now c.part.new.self c.nested.new.scope (Ok _) known other c.in_ok-otherwise.ensures.seen c.in_ok-otherwise.ensures.size
-    (walks_on _ c.in_ok-consequent.ensures (done branched (record { condition = c.in_ok-condition.condition; consequent = c.in_ok-consequent.consequent; otherwise = c.in_ok-otherwise.otherwise }) _ c.nested.new.scope refl)))
+    parted (place_at c.args.context.now) (s.statement c.args.written.now) c.args.in_loop branched (λ x o. Passes ((expression c.args.condition, x.0, o), x.1)) c.args.condition c.in_ok-otherwise.otherwise c.args.scope.now c.part.new.self c.nested.new.scope c.from_residual-in_err-consequent.result known other c.in_ok-otherwise.ensures.seen c.in_ok-otherwise.ensures.size
+    (refused_walk _ c.from_residual-in_err-consequent.result c.from_residual-in_err-consequent.ensures.1 c.in_err-consequent.ensures)
 
-pub then_branch-returns-clause-size : goal.then_branch-returns-clause-size
-then_branch-returns-clause-size t c = c.in_ok-otherwise.ensures.sizes ∙ sym c.in_ok-otherwise.ensures.size ∙ sym (size_kept c.in_ok-consequent.ensures.so.1)
+pub guarded-returns-clause-walks : goal.guarded-returns-clause-walks
+guarded-returns-clause-walks t c =
+    let known = rw c.deref.ensures at c.in_ok-otherwise.ensures.known in
+    let other = rw c.deref.ensures at c.in_ok-otherwise.ensures.other in
+    parted (place_at c.args.context.now) (s.statement c.args.written.now) c.args.in_loop branched (λ x o. Passes ((expression c.args.condition, x.0, o), x.1)) c.args.condition c.in_ok-otherwise.otherwise c.args.scope.now c.part.new.self c.nested.new.scope (Ok _) known other c.in_ok-otherwise.ensures.seen c.in_ok-otherwise.ensures.size
+    (walks_on _ c.in_ok-consequent.ensures (done branched (record { condition = c.args.condition; consequent = c.in_ok-consequent.consequent; otherwise = c.in_ok-otherwise.otherwise }) _ c.nested.new.scope refl))
 
-pub if_alone-returns-in_err-condition : goal.if_alone-returns-in_err-condition
-if_alone-returns-in_err-condition t c = refused_walk _ c.from_residual.result c.from_residual.ensures.1 c.in_err-condition.ensures.walks
+pub guarded-returns-clause-size : goal.guarded-returns-clause-size
+guarded-returns-clause-size t c = c.in_ok-otherwise.ensures.sizes ∙ sym c.in_ok-otherwise.ensures.size ∙ sym (size_kept c.in_ok-consequent.ensures.so.1)
+
+pub if_alone-returns-in_err-first : goal.if_alone-returns-in_err-first
+if_alone-returns-in_err-first t c = refused_walk _ c.from_residual.result c.from_residual.ensures.1 c.in_err-first.ensures.walks
 
 pub if_alone-returns : goal.if_alone-returns
 if_alone-returns t c =
-    let built = rw c.in_ok-nothing.ensures at c.in_ok-choice.ensures in
-    let met = c.in_ok-meet.ensures in
-    walks_on _ c.in_ok-condition.ensures.walks (done_in statement c.in_ok-choice.field-0 _ c.then_branch.new.scope c.meet.new.self _ built met.known (other_flow _ _ _ c.then_branch.new.scope c.meet.new.self met.known met.seen met.size))
+    let ended = rw c.in_ok-nothing.ensures at c.branch_ended.ensures in
+    walks_on _ c.in_ok-first.ensures.walks ended
 
 pub otherwise-returns-in_err-second : goal.otherwise-returns-in_err-second
 otherwise-returns-in_err-second t c =
-    turned (place_at c.args.context.now) (s.statement c.args.alternative.now) statement c.args.first.otherwise _ c.args.scope.now c.turn_to-ended.new.self c.nested.new.scope c.from_residual.result c.turn_to-ended.ensures.known c.turn_to-ended.ensures.seen c.turn_to-ended.ensures.size
+    let gone = c.turned-walked.ensures in
+    turned (place_at c.args.context.now) (s.statement c.args.alternative.now) statement c.args.first.otherwise _ c.args.scope.now c.turned-walked.new.scope c.nested.new.scope c.from_residual.result gone.known gone.seen gone.size
     (refused_walk _ c.from_residual.result c.from_residual.ensures.1 c.in_err-second.ensures)
 
 pub otherwise-returns : goal.otherwise-returns
 otherwise-returns t c =
-    let met = c.in_ok-meet.ensures in
-    let known = rw c.turn_to-ended.ensures.here at met.known in
-    turned (place_at c.args.context.now) (s.statement c.args.alternative.now) statement c.args.first.otherwise _ c.args.scope.now c.turn_to-ended.new.self c.meet.new.self (Ok _) c.turn_to-ended.ensures.known c.turn_to-ended.ensures.seen c.turn_to-ended.ensures.size
-    (walks_on _ c.in_ok-second.ensures (done_in statement c.in_ok-choice.field-0 _ c.nested.new.scope c.meet.new.self _ c.in_ok-choice.ensures known (other_flow _ _ _ c.nested.new.scope c.meet.new.self known met.seen met.size)))
+    let gone = c.turned-walked.ensures in
+    let ended = rw gone.kept at c.branch_ended.ensures in
+    turned (place_at c.args.context.now) (s.statement c.args.alternative.now) statement c.args.first.otherwise _ c.args.scope.now c.turned-walked.new.scope c.branch_ended.new.scope c.branch_ended.result gone.known gone.seen gone.size
+    (walks_on _ c.in_ok-second.ensures ended)
 
-pub while_loop-returns-in_err-test : goal.while_loop-returns-in_err-test
-while_loop-returns-in_err-test t c =
-    let entered = c.in_ok-around.ensures in
-    let at_head = rw (c.as_slice.ensures.value, c.in_ok-assigned.ensures.known) at entered.known in
-    headed statement (λ h. while_from (place_at c.args.context.now) (scope c.args.scope.now) h (trees.expression c.args.test.now) (s.statement c.args.body.now)) _ _ _ _ c.args.scope.now c.enter_loop.new.self c.enter_loop.new.self c.from_residual-in_err-test.result at_head entered.seen entered.size
-    (refused _ c.from_residual-in_err-test.result c.from_residual-in_err-test.ensures.1 c.in_err-test.ensures)
+pub otherwise-branch_ended-requires : goal.otherwise-branch_ended-requires
+otherwise-branch_ended-requires t c =
+    let gone = c.turned-walked.ensures in
+    rw gone.kept (sym gone.size ∙ sym (size_kept c.in_ok-second.ensures.so.1))
 
-pub while_loop-returns-in_err-body : goal.while_loop-returns-in_err-body
-while_loop-returns-in_err-body t c =
-    let g = scope c.args.scope.now in
+pub while_loop-returns-in_err-turn : goal.while_loop-returns-in_err-turn
+while_loop-returns-in_err-turn t c =
     let entered = c.in_ok-around.ensures in
-    let at_head = rw (c.as_slice.ensures.value, c.in_ok-assigned.ensures.known) at entered.known in
-    let parts = c.in_ok-over.ensures in
-    let known = rw c.deref.ensures at parts.known in
-    let other = rw c.deref.ensures at parts.other in
-    headed statement (λ h. while_from (place_at c.args.context.now) g h (trees.expression c.args.test.now) (s.statement c.args.body.now)) _ _ _ _ c.args.scope.now c.enter_loop.new.self c.nested.new.scope c.from_residual-in_err-body.result at_head entered.seen entered.size
-    (goes_on _ c.in_ok-test.ensures
-    (parted (place_at c.args.context.now) (s.statement c.args.body.now) true statement (λ x o. Passes (core.Loop (expression c.in_ok-test.test) x.0 core.Nothing, over g.outside o g.breaks g.continues x.1)) c.in_ok-test.test c.in_ok-over.over c.enter_loop.new.self c.part.new.self c.nested.new.scope c.from_residual-in_err-body.result known other parts.seen parts.size
-    (refused_walk _ c.from_residual-in_err-body.result c.from_residual-in_err-body.ensures.1 c.in_err-body.ensures)))
+    from_head statement (λ h. while_from (place_at c.args.context.now) (scope c.args.scope.now) h (trees.expression c.args.test.now) (s.statement c.args.body.now)) (s.statement c.args.body.now) None c.args.scope.now c.loop_head.new.scope c.then_branch.new.scope c.from_residual-in_err-turn.result entered.known entered.seen entered.size
+    (refused_walk _ c.from_residual-in_err-turn.result c.from_residual-in_err-turn.ensures.1 c.in_err-turn.ensures.walks)
 
 pub while_loop-returns : goal.while_loop-returns
 while_loop-returns t c =
-    let g = scope c.args.scope.now in
-    let built = rw c.in_ok-nothing.ensures at c.in_ok-repeated.ensures in
     let entered = c.in_ok-around.ensures in
-    let at_head = rw (c.as_slice.ensures.value, c.in_ok-assigned.ensures.known) at entered.known in
-    let parts = c.in_ok-over.ensures in
-    let known = rw c.deref.ensures at parts.known in
-    let other = rw c.deref.ensures at parts.other in
-    let gone = c.in_ok-leave_loop.ensures in
-    let left = left_loop c.args.scope.now c.nested.new.scope c.leave_loop.new.self c.in_ok-over.over c.in_ok-around.around gone.known entered.around in
-    headed statement (λ h. while_from (place_at c.args.context.now) g h (trees.expression c.args.test.now) (s.statement c.args.body.now)) _ _ _ _ c.args.scope.now c.enter_loop.new.self c.leave_loop.new.self (Ok _) at_head entered.seen entered.size
-    (goes_on _ c.in_ok-test.ensures
-    (parted (place_at c.args.context.now) (s.statement c.args.body.now) true statement (λ x o. Passes (core.Loop (expression c.in_ok-test.test) x.0 core.Nothing, over g.outside o g.breaks g.continues x.1)) c.in_ok-test.test c.in_ok-over.over c.enter_loop.new.self c.part.new.self c.leave_loop.new.self (Ok _) known other parts.seen parts.size
-    (walks_on _ c.in_ok-body.ensures (done_in statement c.in_ok-repeated.field-0 _ c.nested.new.scope c.leave_loop.new.self _ built left (other_turns _ _ _ _ c.nested.new.scope c.leave_loop.new.self left gone.seen gone.size)))))
+    let ended = rw (entered.around, c.in_ok-nothing.ensures) at c.loop_ended.ensures in
+    from_head statement (λ h. while_from (place_at c.args.context.now) (scope c.args.scope.now) h (trees.expression c.args.test.now) (s.statement c.args.body.now)) (s.statement c.args.body.now) None c.args.scope.now c.loop_head.new.scope c.loop_ended.new.scope c.loop_ended.result entered.known entered.seen entered.size
+    (walks_on _ c.in_ok-turn.ensures.walks ended)
 
 pub turns-returns-in_err-test : goal.turns-returns-in_err-test
 turns-returns-in_err-test t c =
     let entered = c.in_ok-around.ensures in
-    let at_head = rw (c.as_slice.ensures.value, c.in_ok-assigned.ensures.known) at entered.known in
-    headed statement (λ h. turns_from (place_at c.args.context.now) (scope c.args.scope.now) h (s.statement c.args.body.now) (option_map s.on_heap c.args.test.now) (option_map s.assignment c.args.step.now)) _ _ _ _ c.args.scope.now c.enter_loop.new.self c.enter_loop.new.self c.from_residual-in_err-test.result at_head entered.seen entered.size
+    let step = option_map s.assignment c.args.step.now in
+    from_head statement (λ h. turns_from (place_at c.args.context.now) (scope c.args.scope.now) h (s.statement c.args.body.now) (option_map s.on_heap c.args.test.now) step) (s.statement c.args.body.now) step c.args.scope.now c.loop_head.new.scope c.loop_head.new.scope c.from_residual-in_err-test.result entered.known entered.seen entered.size
     (refused _ c.from_residual-in_err-test.result c.from_residual-in_err-test.ensures.1 c.in_err-test.ensures)
 
-pub turns-returns-in_err-body : goal.turns-returns-in_err-body
-turns-returns-in_err-body t c =
-    let g = scope c.args.scope.now in
-    let at = place_at c.args.context.now in
-    let step = option_map s.assignment c.args.step.now in
+pub turns-returns-in_err-turn : goal.turns-returns-in_err-turn
+turns-returns-in_err-turn t c =
     let entered = c.in_ok-around.ensures in
-    let at_head = rw (c.as_slice.ensures.value, c.in_ok-assigned.ensures.known) at entered.known in
-    let parts = c.in_ok-over.ensures in
-    let known = rw c.deref.ensures at parts.known in
-    let other = rw c.deref.ensures at parts.other in
-    headed statement (λ h. turns_from at g h (s.statement c.args.body.now) (option_map s.on_heap c.args.test.now) step) _ _ _ _ c.args.scope.now c.enter_loop.new.self c.nested.new.scope c.from_residual-in_err-body.result at_head entered.seen entered.size
-    (goes_on _ c.in_ok-test.ensures
-    (parted at (s.statement c.args.body.now) true statement (λ x o. turn_ended at g (expression c.in_ok-test.test) step x o) c.in_ok-test.test c.in_ok-over.over c.enter_loop.new.self c.part.new.self c.nested.new.scope c.from_residual-in_err-body.result known other parts.seen parts.size
-    (refused_walk _ c.from_residual-in_err-body.result c.from_residual-in_err-body.ensures.1 c.in_err-body.ensures)))
+    let step = option_map s.assignment c.args.step.now in
+    from_head statement (λ h. turns_from (place_at c.args.context.now) (scope c.args.scope.now) h (s.statement c.args.body.now) (option_map s.on_heap c.args.test.now) step) (s.statement c.args.body.now) step c.args.scope.now c.loop_head.new.scope c.guarded.new.scope c.from_residual-in_err-turn.result entered.known entered.seen entered.size
+    (goes_on _ c.in_ok-test.ensures (refused_walk _ c.from_residual-in_err-turn.result c.from_residual-in_err-turn.ensures.1 c.in_err-turn.ensures.walks))
 
 pub turns-returns-in_err-step : goal.turns-returns-in_err-step
 turns-returns-in_err-step t c =
-    let g = scope c.args.scope.now in
-    let at = place_at c.args.context.now in
-    let step = option_map s.assignment c.args.step.now in
     let entered = c.in_ok-around.ensures in
-    let at_head = rw (c.as_slice.ensures.value, c.in_ok-assigned.ensures.known) at entered.known in
-    let parts = c.in_ok-over.ensures in
-    let known = rw c.deref.ensures at parts.known in
-    let other = rw c.deref.ensures at parts.other in
-    let ended = c.in_ok-end_turn.ensures in
-    let last = ended.known in
-    headed statement (λ h. turns_from at g h (s.statement c.args.body.now) (option_map s.on_heap c.args.test.now) step) _ _ _ _ c.args.scope.now c.enter_loop.new.self c.optional_step.new.scope c.from_residual-in_err-step.result at_head entered.seen entered.size
-    (goes_on _ c.in_ok-test.ensures
-    (parted at (s.statement c.args.body.now) true statement (λ x o. turn_ended at g (expression c.in_ok-test.test) step x o) c.in_ok-test.test c.in_ok-over.over c.enter_loop.new.self c.part.new.self c.optional_step.new.scope c.from_residual-in_err-step.result known other parts.seen parts.size
-    (walks_on _ c.in_ok-body.ensures
-    (stepped statement (λ k. step_ended at g (expression c.in_ok-test.test) step (statement c.in_ok-body.body) c.in_ok-over.over k) _ _ _ c.nested.new.scope c.end_turn.new.self c.optional_step.new.scope c.from_residual-in_err-step.result last ended.seen ended.size
-    (refused_walk _ c.from_residual-in_err-step.result c.from_residual-in_err-step.ensures.1 c.in_err-step.ensures)))))
+    let step = option_map s.assignment c.args.step.now in
+    from_head statement (λ h. turns_from (place_at c.args.context.now) (scope c.args.scope.now) h (s.statement c.args.body.now) (option_map s.on_heap c.args.test.now) step) (s.statement c.args.body.now) step c.args.scope.now c.loop_head.new.scope c.step_behind.new.scope c.from_residual-in_err-step.result entered.known entered.seen entered.size
+    (goes_on _ c.in_ok-test.ensures (walks_on _ c.in_ok-turn.ensures.walks (refused_walk _ c.from_residual-in_err-step.result c.from_residual-in_err-step.ensures.1 c.in_err-step.ensures)))
 
 pub turns-returns : goal.turns-returns
 turns-returns t c =
-    let g = scope c.args.scope.now in
-    let at = place_at c.args.context.now in
-    let step = option_map s.assignment c.args.step.now in
     let entered = c.in_ok-around.ensures in
-    let at_head = rw (c.as_slice.ensures.value, c.in_ok-assigned.ensures.known) at entered.known in
-    let parts = c.in_ok-over.ensures in
-    let known = rw c.deref.ensures at parts.known in
-    let other = rw c.deref.ensures at parts.other in
-    let ended = c.in_ok-end_turn.ensures in
-    let last = ended.known in
-    let gone = c.in_ok-leave_loop.ensures in
-    let left = left_loop c.args.scope.now c.optional_step.new.scope c.leave_loop.new.self c.in_ok-over.over c.in_ok-around.around gone.known entered.around in
-    headed statement (λ h. turns_from at g h (s.statement c.args.body.now) (option_map s.on_heap c.args.test.now) step) _ _ _ _ c.args.scope.now c.enter_loop.new.self c.leave_loop.new.self (Ok _) at_head entered.seen entered.size
-    (goes_on _ c.in_ok-test.ensures
-    (parted at (s.statement c.args.body.now) true statement (λ x o. turn_ended at g (expression c.in_ok-test.test) step x o) c.in_ok-test.test c.in_ok-over.over c.enter_loop.new.self c.part.new.self c.leave_loop.new.self (Ok _) known other parts.seen parts.size
-    (walks_on _ c.in_ok-body.ensures
-    (stepped statement (λ k. step_ended at g (expression c.in_ok-test.test) step (statement c.in_ok-body.body) c.in_ok-over.over k) _ _ _ c.nested.new.scope c.end_turn.new.self c.leave_loop.new.self (Ok _) last ended.seen ended.size
-    (walks_on _ c.in_ok-step.ensures (done_in statement c.in_ok-repeated.field-0 _ c.optional_step.new.scope c.leave_loop.new.self _ c.in_ok-repeated.ensures left (other_turns _ _ _ _ c.optional_step.new.scope c.leave_loop.new.self left gone.seen gone.size)))))))
+    let step = option_map s.assignment c.args.step.now in
+    let ended = rw entered.around at c.loop_ended.ensures in
+    from_head statement (λ h. turns_from (place_at c.args.context.now) (scope c.args.scope.now) h (s.statement c.args.body.now) (option_map s.on_heap c.args.test.now) step) (s.statement c.args.body.now) step c.args.scope.now c.loop_head.new.scope c.loop_ended.new.scope c.loop_ended.result entered.known entered.seen entered.size
+    (goes_on _ c.in_ok-test.ensures (walks_on _ c.in_ok-turn.ensures.walks (walks_on _ c.in_ok-step.ensures ended)))
 
 pub for_loop-returns-in_err-first : goal.for_loop-returns-in_err-first
 for_loop-returns-in_err-first t c = refused_walk _ c.from_residual.result c.from_residual.ensures.1 c.in_err-first.ensures
@@ -209,9 +158,8 @@ statements-returns-in_err-next t c =
 pub statements-loop-listed-preserved : goal.statements-loop-listed-preserved
 statements-loop-listed-preserved t c =
     let xs = c.args.written.now in
-    let pushed : c.push_reserved.new.self.items ≡ c.loop-listed.built.items ++ c.in_ok-next.next.value ∷ [] = c.push_reserved.ensures.items ∙ ap (λ ys. ys ++ c.into_inner.result ∷ []) c.reserve.ensures.items ∙ ap (λ (y : Stmt). c.loop-listed.built.items ++ y ∷ []) c.into_inner.ensures in
     record {
-      so_far = statement_more (place_at c.args.context.now) (rules.statements (place_at c.args.context.now) (scope c.args.scope.now) (statement_list xs)) xs c.loop-listed.listed-index c.listed-item.result (scope c.loop-listed.scope) (scope c.statement.new.scope) c.loop-listed.built.items c.push_reserved.new.self.items c.in_ok-next.next.value pushed (omega (arith, c.loop-listed-test.true)) c.listed-item.is c.loop-listed.invariant.so_far c.in_ok-next.ensures.so.0;
+      so_far = statement_more (place_at c.args.context.now) (rules.statements (place_at c.args.context.now) (scope c.args.scope.now) (statement_list xs)) xs c.loop-listed.listed-index c.listed-item.result (scope c.loop-listed.scope) (scope c.statement.new.scope) c.loop-listed.built.items c.push.new.statements.items c.in_ok-next.next.value c.in_ok-push.ensures (omega (arith, c.loop-listed-test.true)) c.listed-item.is c.loop-listed.invariant.so_far c.in_ok-next.ensures.so.0;
       more = grown c.loop-listed.invariant.more c.in_ok-next.ensures.so.1;
     }
 
@@ -236,8 +184,8 @@ statement-returns-in-Call t c =
     let answer = rw c.deref.ensures at c.call_alone.ensures in
     rw c.in-Call.is (kept_as (rules.statement at g (s.CallAlone (trees.expression c.in-Call.call.value) c.in-Call.span)) c.args.scope.now (call_parts at g (trees.expression c.in-Call.call.value) c.in-Call.span) answer)
 
-pub statement-returns-in_ok-boxed-in-Empty : goal.statement-returns-in_ok-boxed-in-Empty
-statement-returns-in_ok-boxed-in-Empty t c = rw c.in-Empty.is (done statement c.in_ok-boxed-in-Empty.field-0 core.Nothing c.args.scope.now (ap core.statement c.in_ok-boxed-in-Empty.ensures))
+pub statement-returns-in_ok-nothing-in-Empty : goal.statement-returns-in_ok-nothing-in-Empty
+statement-returns-in_ok-nothing-in-Empty t c = rw c.in-Empty.is (done statement c.in_ok-nothing-in-Empty.field-0 core.Nothing c.args.scope.now c.in_ok-nothing-in-Empty.ensures)
 
 pub structured-returns-in-While : goal.structured-returns-in-While
 structured-returns-in-While t c =
@@ -290,18 +238,25 @@ nested-leave-requires t c =
     still_there c.args.scope.now c.statement.new.scope c.block_start-start.result c.block_start-start.ensures
     (grown (other_loop c.args.in_loop c.args.scope.now c.set_in_loop.new.self c.set_in_loop.ensures.known c.set_in_loop.ensures.seen) c.in_ok-inner.ensures.so.1)
 
-pub while_loop-leave_loop-requires-clause-outside : goal.while_loop-leave_loop-requires-clause-outside
-while_loop-leave_loop-requires-clause-outside t c =
+pub while_loop-loop_ended-requires : goal.while_loop-loop_ended-requires
+while_loop-loop_ended-requires t c =
     let entered = c.in_ok-around.ensures in
-    let parts = c.in_ok-over.ensures in
-    still_outside (grown (other_turns _ _ _ _ c.args.scope.now c.enter_loop.new.self entered.known entered.seen entered.size)
-    (grown (other_flow _ _ _ c.enter_loop.new.self c.part.new.self parts.known parts.seen parts.size) c.in_ok-body.ensures.so.1)) entered.few
+    let more = grown (head_grows (s.statement c.args.body.now) None c.args.scope.now c.loop_head.new.scope entered.known entered.seen entered.size) c.in_ok-turn.ensures.walks.so.1 in
+    record {
+      outside = still_outside more entered.few;
+      size = c.in_ok-turn.ensures.size;
+      breaks = rw (size_kept more, entered.around) c.args.scope.now.breaks_alike;
+      continues = rw (size_kept more, entered.around) c.args.scope.now.continues_alike;
+    }
 
-pub turns-leave_loop-requires-clause-outside : goal.turns-leave_loop-requires-clause-outside
-turns-leave_loop-requires-clause-outside t c =
+pub turns-loop_ended-requires : goal.turns-loop_ended-requires
+turns-loop_ended-requires t c =
     let entered = c.in_ok-around.ensures in
-    let parts = c.in_ok-over.ensures in
-    let ended = c.in_ok-end_turn.ensures in
-    still_outside (grown (other_turns _ _ _ _ c.args.scope.now c.enter_loop.new.self entered.known entered.seen entered.size)
-    (grown (other_flow _ _ _ c.enter_loop.new.self c.part.new.self parts.known parts.seen parts.size)
-    (grown c.in_ok-body.ensures.so.1 (grown (other_flow _ _ _ c.nested.new.scope c.end_turn.new.self ended.known ended.seen ended.size) c.in_ok-step.ensures.so.1)))) entered.few
+    let last = c.in_ok-step.ensures.so.1 in
+    let more = grown (head_grows (s.statement c.args.body.now) (option_map s.assignment c.args.step.now) c.args.scope.now c.loop_head.new.scope entered.known entered.seen entered.size) (grown c.in_ok-turn.ensures.walks.so.1 last) in
+    record {
+      outside = still_outside more entered.few;
+      size = c.in_ok-turn.ensures.size ∙ sym (size_kept last);
+      breaks = rw (size_kept more, entered.around) c.args.scope.now.breaks_alike;
+      continues = rw (size_kept more, entered.around) c.args.scope.now.continues_alike;
+    }

@@ -1,0 +1,24 @@
+use Rattle.ckc_text.specs.Places.{place_at}
+use Rattle.ckc_tree.specs.Expressions.{expression}
+use Rattle.pointer_modes.specs.Types.{ctype}
+use Rattle.region_typing_rules.specs.Operands.{site_at}
+use Rattle.region_typing_rules.specs.NewMemory.{allocation}
+use Rattle.region_typing_scope.specs.OnHeap.{typed}
+use Rattle.region_typing_scope.specs.Views.{scope}
+use Rattle.region_typing_scope.proofs.Going.{goes_on, refused}
+use Rattle.region_typing_expressions.proofs.Elements.{counted_then}
+use Rattle.region_typing_expressions.proofs.allocations.allocated_of.Goals as goal
+
+pub returns-in_err-count : goal.returns-in_err-count
+returns-in_err-count c =
+    let s = scope c.args.scope.now in
+    let t = ctype c.args.t in
+    rw (counted_then s t (typed c.args.count) (expression c.args.size.now) c.args.span (λ count. allocation s t count (site_at (place_at c.args.context.now) c.args.span) c.args.span))
+    (refused _ c.from_residual.result c.from_residual.ensures.1 c.in_err-count.ensures)
+
+pub returns : goal.returns
+returns c =
+    let s = scope c.args.scope.now in
+    let t = ctype c.args.t in
+    rw (counted_then s t (typed c.args.count) (expression c.args.size.now) c.args.span (λ count. allocation s t count (site_at (place_at c.args.context.now) c.args.span) c.args.span))
+    (goes_on _ c.in_ok-count.ensures c.allocation.ensures)
