@@ -156,7 +156,7 @@ fn join(flow: &mut Flow, other: &Flow) -> Result<(), NoMemory> {
     }
 }
 
-// Whether a test tells something in the branch in which it holds, with what is known in the other one, and nothing behind both.
+// Whether `n < m` tells n <= m alone where it holds, m <= n alone where it doesn't, and neither where the branches meet.
 fn tells_branches(flow: &mut Flow, other: &mut Flow) -> Result<bool, NoMemory> {
     compare(flow, true)?;
     compare(other, false)?;

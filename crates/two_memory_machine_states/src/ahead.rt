@@ -1,6 +1,6 @@
 // What lies ahead of the innermost call, and several of its instructions at once.
 
-ghost use Rattle.std.specs.Prelude.{◌≡◌, ◌+◌, ◌^◌, ◌<◌, ◌≤◌, ◌∷◌, drop, length, IfSome, IsTrue};
+ghost use Rattle.std.specs.Prelude.{◌≡◌, ◌+◌, ◌^◌, ◌<◌, ◌≤◌, ◌∷◌, drop, length, IfNone, IfSome, IsTrue};
 ghost use Rattle.code_words.specs.Paced.{is_paced};
 ghost use Rattle.code_words.specs.Functions.{Func as FuncData};
 ghost use Rattle.two_memory_machine_states.specs.Machines.{Running};
@@ -16,6 +16,7 @@ impl<'a> RunningImage<'a> {
     #[inline(always)]
     pub fn ahead(&self) -> Option<&'a [Op]>
         ensures ops { IfSome result (λ ops. ops.now ≡ ahead_of self.now) }
+        ensures past { IfNone result ((f : FuncData) → IsIn self.now f → length f.ops < self.now.frame.next) }
         ensures within { IfSome result (λ ops. self.now.frame.next + length ops.now < 2 ^ 64) }
         ensures paced { IsTrue (is_paced self.now.image) }
     {
