@@ -6,7 +6,7 @@ use Rattle.ckc_text.specs.declared.fault.Refused.TheVariants.{Source, NoMemory}
 use Rattle.ckc_text.specs.Refusals as refusals
 use Rattle.ckc_text.specs.Places.{place_at}
 use Rattle.ckc_lexer.specs.Tokens.{cut, AreTokens, HasFault, LexAnswers}
-use Rattle.ckc_lexer_tokens.specs.declared.token.Token.{Token}
+use Rattle.ckc_lexer.specs.declared.token.Token.{Token}
 use Rattle.ckc_lexer.proofs.Cuts.{same_answer}
 use Rattle.ckc_tree.specs.Items.{Tree}
 use Rattle.ckc_parser_grammar.specs.Parsing.{IsTree, IsFault, ParseAnswers}

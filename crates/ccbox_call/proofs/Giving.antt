@@ -21,9 +21,9 @@ use Rattle.ckc_core.specs.declared.program as code
 use Rattle.ckc_core.specs.Core.{Core, core}
 use Rattle.code_words.specs.Images.{Image}
 use Rattle.lowering.specs.Correct.{KeepsMeaning}
-use Rattle.run_core_transcript.specs.Asked.{Answering}
-use Rattle.run_core_transcript.specs.declared.fault.RunFault.{RunFault}
-use Rattle.run_core_transcript.specs.declared.fault.RunFault.TheVariants as faults
+use Rattle.run_core.specs.Asked.{Answering}
+use Rattle.run_core.specs.declared.fault.RunFault.{RunFault}
+use Rattle.run_core.specs.declared.fault.RunFault.TheVariants as faults
 use Rattle.run_core.specs.Runs.{Outcome, Ends, LineRefused, FileMissing, Comes, WritesAll, WritesFront, RunWrites, Counts, RunCounts}
 use Rattle.act_recorder.specs.Diagnostics.{refused_text, act_refused_text}
 use Rattle.ccbox_call_words.specs.Statuses.{status_of}

@@ -28,7 +28,7 @@ use Rattle.code_words.specs.Dumps.{blocks_held}
 use Rattle.code_words.proofs.Runs.{one_end, same_ending, same_last}
 use Rattle.code_words.proofs.Worlds.{stay, told as acts_told}
 use Rattle.lowering.specs.Correct.{KeepsMeaning, blocks_meant}
-use Rattle.run_core_transcript.specs.Texts.{run_text, front_text}
+use Rattle.run_core.specs.Texts.{run_text, front_text}
 use Rattle.run_core.specs.Moments.{due_from, due_in, before_due, IsDue}
 use Rattle.run_core.specs.Chains.{Chain, none, more}
 use Rattle.run_core.specs.Gave.{Gave}

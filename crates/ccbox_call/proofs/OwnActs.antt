@@ -13,7 +13,7 @@ use Rattle.code_words.specs.SandboxCode.{State, Frame, Held, Entered, CallsBack,
 use Rattle.sandbox_actor.specs.Answers.{Moment, Gives}
 use Rattle.sandbox_actor_code.specs.Answering.{CodeState, CodeAnswers, code_at_start}
 use Rattle.sandbox_actor_code.proofs.OneAnswer.{one_answer}
-use Rattle.run_core_transcript.specs.Touched.{last_of}
+use Rattle.run_core.specs.Touched.{last_of}
 use Rattle.ccbox_call.specs.Programs.{Coded}
 use Rattle.ccbox_call.specs.Supplies.{IsOwn}
 use Rattle.ccbox_call.proofs.OwnCode.{IsPaced, code_once}

@@ -6,7 +6,7 @@ use Rattle.ckc_text.specs.declared.fault.SourceFault.{SourceFault}
 use Rattle.ckc_text.specs.Places.{place_at}
 use Rattle.ckc_text.specs.Refusals as refusals
 use Rattle.ckc_lexer.specs.Tokens.{AreTokens, HasFault}
-use Rattle.ckc_lexer_tokens.specs.declared.token.Token.{Token}
+use Rattle.ckc_lexer.specs.declared.token.Token.{Token}
 use Rattle.ckc_tree.specs.Items.{Tree}
 use Rattle.ckc_parser_grammar.specs.Parsing.{IsTree, IsFault}
 use Rattle.built_forms.specs.Built.{is_built}

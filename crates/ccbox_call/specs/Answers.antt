@@ -25,7 +25,7 @@ use Rattle.code_words.specs.Images.{Image}
 use Rattle.code_words.specs.Runs.{CodeRun, memory_of}
 use Rattle.code_words.specs.Table as machine
 use Rattle.sandbox_actor.specs.ActLists.{RefusedLine}
-use Rattle.run_core_transcript.specs.Texts.{run_text, front_text}
+use Rattle.run_core.specs.Texts.{run_text, front_text}
 use Rattle.run_core.specs.Moments.{before_due}
 use Rattle.check_insertion.specs.Insert.{inserted}
 use Rattle.code_words_listing.specs.Listings.{listing}

@@ -79,7 +79,8 @@ pub fn ccbox<F: Shelf, K: Sink>(
     ensures listing_refused { Told (F.files shelf.old) (λ files. Exactly 11 (number_of result) (ListingFails files (map (λ word. word.now) words.now))) }
 
     // Words that spell no request touch no file.
-    ensures untouched { request_of (map (λ word. word.now) words.now) ≡ None → IsUntouched (F.misses shelf.old) (F.misses shelf.new) (F.faults shelf.old) (F.faults shelf.new) }
+    ensures untouched { request_of (map (λ word. word.now) words.now) ≡ None
+        → IsUntouched (F.misses shelf.old) (F.misses shelf.new) (F.faults shelf.old) (F.faults shelf.new) }
 
     // A failure is counted.
     ensures misses { Tells (number_of result) 3 (F.misses shelf.old) (F.misses shelf.new)

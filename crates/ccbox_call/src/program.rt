@@ -12,7 +12,7 @@ use ckc_core::program::Core;
 use ckc_io::shelf::Shelf;
 use ckc_io::sink::Sink;
 use ckc_io::whole::{ReadFault, read_whole};
-use ckc_lexer_tokens::limits::MAX_SOURCE;
+use ckc_lexer::limits::MAX_SOURCE;
 use ckc_text::fault::{Refused, SourceFault};
 use ckc_text::place::{Place, place_of};
 use std::alloc::Global;

@@ -3,8 +3,8 @@ use Rattle.std.specs.Prelude.{◌≡◌, ℕ, ◌≤◌, List, length, take, Opt
 use Rattle.act_words.specs.declared.ending.Ending.{Ending}
 use Rattle.ckc_io.specs.Counts.{Rises}
 use Rattle.ckc_io.specs.Written.{grown}
-use Rattle.run_core_transcript.specs.declared.fault.RunFault.{RunFault}
-use Rattle.run_core_transcript.specs.declared.fault.RunFault.TheVariants as faults
+use Rattle.run_core.specs.declared.fault.RunFault.{RunFault}
+use Rattle.run_core.specs.declared.fault.RunFault.TheVariants as faults
 use Rattle.act_recorder.specs.Diagnostics.{act_refused_text}
 use Rattle.ccbox_call_words.specs.Statuses.{status_of}
 

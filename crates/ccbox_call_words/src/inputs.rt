@@ -7,6 +7,7 @@ ghost use Rattle.ccbox_call_words.specs.Pieces.{is_some, pieces_behind};
 
 use crate::numbers::input_number;
 use ckc_text::fault::NoMemory;
+use ckc_text::on_heap::push;
 use std::alloc::Global;
 
 // The most input numbers.
@@ -52,14 +53,6 @@ impl<'a> InputList<'a> {
     }
 }
 
-// One more number.
-fn push(numbers: &mut Vec<i32>, number: i32) -> Result<(), NoMemory>
-    ensures { OnOk result (numbers.new.items ≡ numbers.old.items ++ (number ∷ [])) }
-{
-    numbers.push(number)?;
-    Ok(())
-}
-
 // Whether the text is a list of 1 to 65,536 numbers of 32 bits with commas between them.
 fn is_input_list(text: &str) -> bool
     ensures { result ≡ is_some (input_list text.now) }
@@ -83,7 +76,8 @@ fn is_input_list(text: &str) -> bool
 
 // The number before the first comma, and what stands behind that comma.
 fn first_number(text: &str) -> Option<(i32, Option<&str>)>
-    ensures numbers { numbers_in (pieces_of text.now) ≡ option_and_then (λ found. option_map (λ numbers. found.0 ∷ numbers) (numbers_in (pieces_behind found.1))) result }
+    ensures numbers { numbers_in (pieces_of text.now) ≡ option_and_then
+        (λ found. option_map (λ numbers. found.0 ∷ numbers) (numbers_in (pieces_behind found.1))) result }
     ensures fewer { IfSome result (λ found. length (pieces_of text.now) ≡ suc (length (pieces_behind found.1))) }
 {
     let (first, behind) = first_piece(text);

@@ -20,8 +20,12 @@ pub fn requests()
 
 /// The settings that words ask for are allowed, and their input numbers have 32 bits.
 pub fn allowed()
-    ensures settings { (words : List (List ℕ)) (file : List ℕ) (options : Options) → request_of words ≡ Some (Run file options) → AreAllowed (settings_of options) }
-    ensures inputs { (words : List (List ℕ)) (file : List ℕ) (options : Options) → request_of words ≡ Some (Run file options) → All (λ z. IsTrue (is_word_number z)) (inputs_of options) }
-    ensures listing_settings { (words : List (List ℕ)) (file : List ℕ) (options : Options) → request_of words ≡ Some (Exec file options) → AreAllowed (settings_of options) }
-    ensures listing_inputs { (words : List (List ℕ)) (file : List ℕ) (options : Options) → request_of words ≡ Some (Exec file options) → All (λ z. IsTrue (is_word_number z)) (inputs_of options) }
+    ensures settings { (words : List (List ℕ)) (file : List ℕ) (options : Options) → request_of words ≡ Some (Run file options)
+        → AreAllowed (settings_of options) }
+    ensures inputs { (words : List (List ℕ)) (file : List ℕ) (options : Options) → request_of words ≡ Some (Run file options)
+        → All (λ z. IsTrue (is_word_number z)) (inputs_of options) }
+    ensures listing_settings { (words : List (List ℕ)) (file : List ℕ) (options : Options) → request_of words ≡ Some (Exec file options)
+        → AreAllowed (settings_of options) }
+    ensures listing_inputs { (words : List (List ℕ)) (file : List ℕ) (options : Options) → request_of words ≡ Some (Exec file options)
+        → All (λ z. IsTrue (is_word_number z)) (inputs_of options) }
 {}

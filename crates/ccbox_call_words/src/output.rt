@@ -16,7 +16,7 @@ use ckc_io::whole::write_whole;
 use ckc_text::code::Code;
 use ckc_text::fault::NoMemory;
 use ckc_text::place::Place;
-use run_core_transcript::fault::RunFault;
+use run_core::fault::RunFault;
 use std::alloc::Global;
 
 /// Writes the line that a run leaves to its caller, where the run needs a line of the acts that is refused, and answers the

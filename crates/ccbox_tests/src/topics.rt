@@ -1,4 +1,4 @@
-// The tests, each of several topics, since each test is a program of its own.
+// All topics in one test, since each test is a program of its own, and is built as one.
 
 use crate::acts::acts;
 use crate::exec::runs_of_printed;
@@ -14,27 +14,23 @@ use crate::rows::expect;
 use crate::rules::codes_and_cores;
 use crate::tokens::lexing;
 use crate::trees::parsing;
+use std::alloc::Global;
 use std::test::Fail;
 
-#[test]
-fn front_end(rt: HostRuntime) -> Result<(), Fail> {
-    let alloc = rt.alloc();
+fn front_end(alloc: Global) -> Result<(), Fail> {
     lexing(alloc)?;
     parsing(alloc)?;
     printing(alloc)?;
     codes_and_cores(alloc)
 }
 
-#[test]
-fn calls(rt: HostRuntime) -> Result<(), Fail> {
+fn calls(rt: &HostRuntime) -> Result<(), Fail> {
     many_inputs(rt.alloc())?;
     runs_of_printed(rt.alloc())?;
-    files_and_outputs(&rt)
+    files_and_outputs(rt)
 }
 
-#[test]
-fn libraries(rt: HostRuntime) -> Result<(), Fail> {
-    let alloc = rt.alloc();
+fn libraries(alloc: Global) -> Result<(), Fail> {
     acts(alloc)?;
     expect("kept acts", keeps_acts(alloc))?;
     entailment(alloc)?;
@@ -42,4 +38,11 @@ fn libraries(rt: HostRuntime) -> Result<(), Fail> {
     memories_and_layouts(alloc)?;
     listings(alloc)?;
     printed_listings(alloc)
+}
+
+#[test]
+fn all(rt: HostRuntime) -> Result<(), Fail> {
+    front_end(rt.alloc())?;
+    libraries(rt.alloc())?;
+    calls(&rt)
 }

@@ -114,7 +114,8 @@ fn arithmetic(
     right: &program::Expr,
     site: Site,
 ) -> Result<Expr, NoMemory>
-    ensures { IfOk result (λ e. erased.expression e ≡ erased.Arithmetic operator (insert.expression (core.expression left.now)) (insert.expression (core.expression right.now)) site) }
+    ensures { IfOk result (λ e. erased.expression e ≡ erased.Arithmetic operator (insert.expression (core.expression left.now))
+        (insert.expression (core.expression right.now)) site) }
 {
     let left = boxed(alloc, left)?;
     let right = boxed(alloc, right)?;
@@ -134,7 +135,8 @@ fn compare(
     left: &program::Expr,
     right: &program::Expr,
 ) -> Result<Expr, NoMemory>
-    ensures { IfOk result (λ e. erased.expression e ≡ erased.Compare comparison (insert.expression (core.expression left.now)) (insert.expression (core.expression right.now))) }
+    ensures { IfOk result (λ e. erased.expression e ≡ erased.Compare comparison (insert.expression (core.expression left.now))
+        (insert.expression (core.expression right.now))) }
 {
     let left = boxed(alloc, left)?;
     let right = boxed(alloc, right)?;
@@ -148,7 +150,8 @@ fn compare(
 // Whether two pointers are the same.
 #[cycle(expressions)]
 fn same(alloc: Global, left: &program::Expr, right: &program::Expr) -> Result<Expr, NoMemory>
-    ensures { IfOk result (λ e. erased.expression e ≡ erased.Same (insert.expression (core.expression left.now)) (insert.expression (core.expression right.now))) }
+    ensures { IfOk result (λ e. erased.expression e ≡ erased.Same (insert.expression (core.expression left.now))
+        (insert.expression (core.expression right.now))) }
 {
     let left = boxed(alloc, left)?;
     let right = boxed(alloc, right)?;
@@ -158,7 +161,8 @@ fn same(alloc: Global, left: &program::Expr, right: &program::Expr) -> Result<Ex
 // Two operands of `&&`.
 #[cycle(expressions)]
 fn and_also(alloc: Global, left: &program::Expr, right: &program::Expr) -> Result<Expr, NoMemory>
-    ensures { IfOk result (λ e. erased.expression e ≡ erased.AndAlso (insert.expression (core.expression left.now)) (insert.expression (core.expression right.now))) }
+    ensures { IfOk result (λ e. erased.expression e ≡ erased.AndAlso (insert.expression (core.expression left.now))
+        (insert.expression (core.expression right.now))) }
 {
     let left = boxed(alloc, left)?;
     let right = boxed(alloc, right)?;
@@ -168,7 +172,8 @@ fn and_also(alloc: Global, left: &program::Expr, right: &program::Expr) -> Resul
 // Two operands of `||`.
 #[cycle(expressions)]
 fn or_else(alloc: Global, left: &program::Expr, right: &program::Expr) -> Result<Expr, NoMemory>
-    ensures { IfOk result (λ e. erased.expression e ≡ erased.OrElse (insert.expression (core.expression left.now)) (insert.expression (core.expression right.now))) }
+    ensures { IfOk result (λ e. erased.expression e ≡ erased.OrElse (insert.expression (core.expression left.now))
+        (insert.expression (core.expression right.now))) }
 {
     let left = boxed(alloc, left)?;
     let right = boxed(alloc, right)?;
@@ -184,7 +189,9 @@ fn sum(
     number: &program::Expr,
     site: Site,
 ) -> Result<Expr, NoMemory>
-    ensures { IfOk result (λ e. erased.expression e ≡ erased.Sum (insert.expression (core.expression pointer.now)) direction (insert.expression (core.expression number.now)) (insert.size_of (bounds_of (core.expression pointer.now))) (insert.sum_checks (bounds_of (core.expression pointer.now)) site)) }
+    ensures { IfOk result (λ e. erased.expression e ≡ erased.Sum (insert.expression (core.expression pointer.now)) direction
+        (insert.expression (core.expression number.now)) (insert.size_of (bounds_of (core.expression pointer.now)))
+        (insert.sum_checks (bounds_of (core.expression pointer.now)) site)) }
 {
     let checks = sum_checks(alloc, pointer, site)?;
     let size = size_of(pointer);
@@ -208,7 +215,8 @@ fn order(
     right: &program::Expr,
     site: Site,
 ) -> Result<Expr, NoMemory>
-    ensures { IfOk result (λ e. erased.expression e ≡ erased.Order comparison (insert.expression (core.expression left.now)) (NotNull site ∷ []) (insert.expression (core.expression right.now)) (NotNull site ∷ [])) }
+    ensures { IfOk result (λ e. erased.expression e ≡ erased.Order comparison (insert.expression (core.expression left.now))
+        (NotNull site ∷ []) (insert.expression (core.expression right.now)) (NotNull site ∷ [])) }
 {
     let left = boxed(alloc, left)?;
     let left_checks = not_null(alloc, site)?;
@@ -231,7 +239,8 @@ fn allocate(
     element: &[Initial],
     terminator: Terminator,
 ) -> Result<Expr, NoMemory>
-    ensures { IfOk result (λ e. erased.expression e ≡ erased.Allocate (insert.expression (core.expression count.now)) (map core.initial element.now) terminator) }
+    ensures { IfOk result (λ e. erased.expression e ≡ erased.Allocate (insert.expression (core.expression count.now))
+        (map core.initial element.now) terminator) }
 {
     let count = boxed(alloc, count)?;
     let element = cells(alloc, element)?;
@@ -245,7 +254,8 @@ fn allocate(
 // How many bytes stand before the first zero, behind the checks of their pointer.
 #[cycle(expressions)]
 fn length(alloc: Global, pointer: &program::Expr, site: Site) -> Result<Expr, NoMemory>
-    ensures { IfOk result (λ e. erased.expression e ≡ erased.Length (insert.expression (core.expression pointer.now)) (insert.size_of (bounds_of (core.expression pointer.now))) (insert.sum_checks (bounds_of (core.expression pointer.now)) site)) }
+    ensures { IfOk result (λ e. erased.expression e ≡ erased.Length (insert.expression (core.expression pointer.now))
+        (insert.size_of (bounds_of (core.expression pointer.now))) (insert.sum_checks (bounds_of (core.expression pointer.now)) site)) }
 {
     let checks = sum_checks(alloc, pointer, site)?;
     let size = size_of(pointer);
@@ -264,7 +274,8 @@ fn cast(
     pointer: &program::Expr,
     bounds: Option<PointerBounds>,
 ) -> Result<Expr, NoMemory>
-    ensures { IfOk result (λ e. erased.expression e ≡ erased.Cast (insert.expression (core.expression pointer.now)) (insert.size_of (bounds_of (core.expression pointer.now))) (insert.cast_checks (bounds_of (core.expression pointer.now)) bounds)) }
+    ensures { IfOk result (λ e. erased.expression e ≡ erased.Cast (insert.expression (core.expression pointer.now))
+        (insert.size_of (bounds_of (core.expression pointer.now))) (insert.cast_checks (bounds_of (core.expression pointer.now)) bounds)) }
 {
     let checks = cast_checks(alloc, pointer, bounds)?;
     let size = size_of(pointer);
@@ -349,7 +360,9 @@ fn through(
     offset: u32,
     site: Site,
 ) -> Result<CellPlace, NoMemory>
-    ensures { IfOk result (λ p. erased.place p ≡ erased.Through (insert.expression (core.expression pointer.now)) (insert.index (insert.size_of (bounds_of (core.expression pointer.now))) (core.index which.now)) offset (insert.access_checks (bounds_of (core.expression pointer.now)) (core.index which.now) site)) }
+    ensures { IfOk result (λ p. erased.place p ≡ erased.Through (insert.expression (core.expression pointer.now))
+        (insert.index (insert.size_of (bounds_of (core.expression pointer.now))) (core.index which.now)) offset
+        (insert.access_checks (bounds_of (core.expression pointer.now)) (core.index which.now) site)) }
 {
     let checks = access_checks(alloc, pointer, which, site)?;
     let index = index(alloc, size_of(pointer), which)?;

@@ -36,7 +36,8 @@ fn push_trusted(
     definition: &Definition,
     built: &mut Vec<Function>,
 ) -> Result<(), NoMemory>
-    ensures { IfOk result (λ _. map erased.function built.new.items ≡ map erased.function built.old.items ++ map insert.function (trusted_of (core.definition definition.now ∷ []))) }
+    ensures { IfOk result (λ _. map erased.function built.new.items ≡ map erased.function built.old.items ++ map insert.function
+        (trusted_of (core.definition definition.now ∷ []))) }
 {
     match definition {
         Definition::Trusted(f) => built.push(function(alloc, f)?)?,
@@ -52,7 +53,8 @@ fn push_function(
     number: usize,
     built: &mut Vec<Function>,
 ) -> Result<(), NoMemory>
-    ensures { IfOk result (λ _. map erased.function built.new.items ≡ map erased.function built.old.items ++ map insert.function (trusted_at definitions.now (number ∷ []))) }
+    ensures { IfOk result (λ _. map erased.function built.new.items ≡ map erased.function built.old.items ++ map insert.function
+        (trusted_at definitions.now (number ∷ []))) }
 {
     if let Some(definition) = definitions.get(number) {
         push_trusted(alloc, definition, built)?;

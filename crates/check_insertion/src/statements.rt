@@ -47,7 +47,8 @@ fn store(
     cell: &program::CellPlace,
     value: &program::Expr,
 ) -> Result<Stmt, NoMemory>
-    ensures { IfOk result (λ s. erased.statement s ≡ erased.Store (ctype_of ctype.now) (insert.place (core.place cell.now)) (insert.expression (core.expression value.now)) (insert.end_of (core.place cell.now))) }
+    ensures { IfOk result (λ s. erased.statement s ≡ erased.Store (ctype_of ctype.now) (insert.place (core.place cell.now))
+        (insert.expression (core.expression value.now)) (insert.end_of (core.place cell.now))) }
 {
     let end = end_of(cell);
     let cell = place(alloc, cell)?;
@@ -91,7 +92,8 @@ fn update(
     value: &program::Expr,
     site: Site,
 ) -> Result<Stmt, NoMemory>
-    ensures { IfOk result (λ s. erased.statement s ≡ erased.Update (ctype_of ctype.now) (insert.place (core.place cell.now)) operator (insert.expression (core.expression value.now)) site (insert.end_of (core.place cell.now))) }
+    ensures { IfOk result (λ s. erased.statement s ≡ erased.Update (ctype_of ctype.now) (insert.place (core.place cell.now)) operator
+        (insert.expression (core.expression value.now)) site (insert.end_of (core.place cell.now))) }
 {
     let end = end_of(cell);
     let cell = place(alloc, cell)?;
@@ -176,7 +178,8 @@ fn choice(
     consequent: &program::Stmt,
     alternative: &program::Stmt,
 ) -> Result<Stmt, NoMemory>
-    ensures { IfOk result (λ s. erased.statement s ≡ erased.If (insert.expression (core.expression condition.now)) (insert.statement (core.statement consequent.now)) (insert.statement (core.statement alternative.now))) }
+    ensures { IfOk result (λ s. erased.statement s ≡ erased.If (insert.expression (core.expression condition.now))
+        (insert.statement (core.statement consequent.now)) (insert.statement (core.statement alternative.now))) }
 {
     let consequent = boxed(alloc, consequent)?;
     let alternative = boxed(alloc, alternative)?;
@@ -196,7 +199,8 @@ fn repetition(
     body: &program::Stmt,
     step: &program::Stmt,
 ) -> Result<Stmt, NoMemory>
-    ensures { IfOk result (λ s. erased.statement s ≡ erased.Loop (insert.expression (core.expression condition.now)) (insert.statement (core.statement body.now)) (insert.statement (core.statement step.now))) }
+    ensures { IfOk result (λ s. erased.statement s ≡ erased.Loop (insert.expression (core.expression condition.now))
+        (insert.statement (core.statement body.now)) (insert.statement (core.statement step.now))) }
 {
     let body = boxed(alloc, body)?;
     let step = boxed(alloc, step)?;

@@ -33,7 +33,8 @@ pub fn examples()
 
 /// What a program means is told: it has as many ticks as its budget, and is never short of them.
 pub fn never_short()
-    ensures { (audited : Bool) (program : Core) (settings : Settings) (inputs : List ℤ) (acts : List Act) → run_of audited program settings inputs acts ≡ Short → ⊥ }
+    ensures { (audited : Bool) (program : Core) (settings : Settings) (inputs : List ℤ) (acts : List Act)
+        → run_of audited program settings inputs acts ≡ Short → ⊥ }
 {}
 
 /// Where the audit finds nothing, the meaning is the same without it.

@@ -2,7 +2,7 @@
 use Rattle.std.proofs.Common.{◌≡◌, ℕ, suc, ◌+◌, Bool, true, false, List, take, drop, Option, Some, None, Result, refl, sym, ap, ◌∙◌, subst, arith}
 use Rattle.std.specs.List.{list_any}
 use Rattle.ckc_text.specs.declared.fault.SourceFault.{SourceFault}
-use Rattle.ckc_lexer_tokens.specs.Bytes.{is_control, is_forbidden}
+use Rattle.ckc_lexer.specs.Bytes.{is_control, is_forbidden}
 use Rattle.ckc_lexer.specs.Runs.{Extent, ends, goes}
 use Rattle.ckc_lexer.specs.Quoted.{IsContent, string_piece, character_piece}
 use Rattle.ckc_lexer.specs.Pieces.{comment_piece, closing_len, is_closing, quote_len, is_quote, is_include, IsDirective, IsHash, StandsAs, Stands, front_of}
@@ -11,8 +11,8 @@ use Rattle.ckc_lexer.specs.Tokens.{State, Step, Cut, Lexes, next}
 use Rattle.ckc_lexer.specs.declared.front.Front.{Front}
 use Rattle.ckc_lexer.specs.declared.front.Front.TheVariants.{BlankByte, LineComment, BlockComment, StringQuote, CharacterQuote, Word, Hash, Mark}
 use Rattle.ckc_lexer.specs.declared.run.Run.{Run}
-use Rattle.ckc_lexer_tokens.specs.declared.piece.Piece.{Piece}
-use Rattle.ckc_lexer_tokens.specs.declared.token.Token.{Token}
+use Rattle.ckc_lexer.specs.declared.piece.Piece.{Piece}
+use Rattle.ckc_lexer.specs.declared.token.Token.{Token}
 use Rattle.ckc_lexer.proofs.Meanings.{same_meaning}
 
 -- a run has one length

@@ -2,8 +2,8 @@
 use Rattle.std.proofs.Common.{◌≡◌, ℕ, zero, suc, ◌+◌, ◌<◌, ◌≤◌, Bool, true, false, cond, ◌==◌, ◌&&◌, nat_lt, List, [], ◌∷◌, length, take, drop, Option, Some, None, Result, Ok, Err, refl, arith, length-drop}
 use Rattle.std.proofs.lemmas.Bool.{ltb-true, ltb-false}
 use Rattle.ckc_text.specs.declared.fault.SourceFault.{SourceFault}
-use Rattle.ckc_lexer_tokens.specs.Bytes.{is_hexadecimal_digit}
-use Rattle.ckc_lexer_tokens.specs.Marks.{mark_piece}
+use Rattle.ckc_lexer.specs.Bytes.{is_hexadecimal_digit}
+use Rattle.ckc_lexer.specs.Marks.{mark_piece}
 use Rattle.ckc_lexer.specs.Runs.{width, Extent, ends, goes}
 use Rattle.ckc_lexer.specs.Quoted.{simple_escape, hexadecimal_escape, escape, quoted_byte, nothing, byte, IsContent}
 use Rattle.ckc_lexer.specs.Pieces.{is_include, IsDirective, IsHash, StandsAs, front_of}
@@ -13,8 +13,8 @@ use Rattle.ckc_lexer.specs.declared.front.Front.{Front}
 use Rattle.ckc_lexer.specs.declared.front.Front.TheVariants.{BlankByte, LineComment, BlockComment, StringQuote, CharacterQuote, Word, Hash, Mark}
 use Rattle.ckc_lexer.specs.declared.run.Run.{Run}
 use Rattle.ckc_lexer.specs.declared.run.Run.TheVariants.{Comment, Directive, Quoted}
-use Rattle.ckc_lexer_tokens.specs.declared.piece.Piece.{Piece}
-use Rattle.ckc_lexer_tokens.specs.declared.token.Token.{Token}
+use Rattle.ckc_lexer.specs.declared.piece.Piece.{Piece}
+use Rattle.ckc_lexer.specs.declared.token.Token.{Token}
 use Rattle.ckc_lexer.proofs.Meanings.{no_byte, after_byte}
 use Rattle.ckc_lexer.proofs.Fronts.{width_within}
 use Rattle.ckc_lexer.proofs.Next.{step_advances}

@@ -1,8 +1,8 @@
 -- Cuts of small texts, piece by piece.
 use Rattle.std.proofs.Common.{◌≡◌, ℕ, ◌<◌, List, length, drop, Result, Ok, Err}
 use Rattle.ckc_text.specs.declared.fault.SourceFault.{SourceFault}
-use Rattle.ckc_lexer_tokens.specs.declared.piece.Piece.{Piece}
-use Rattle.ckc_lexer_tokens.specs.declared.token.Token.{Token}
+use Rattle.ckc_lexer.specs.declared.piece.Piece.{Piece}
+use Rattle.ckc_lexer.specs.declared.token.Token.{Token}
 use Rattle.ckc_lexer.specs.Pieces.{Stands}
 use Rattle.ckc_lexer.specs.Tokens.{State, Cut, goes, stops, initial, is_first, next}
 

@@ -4,17 +4,17 @@ use Rattle.std.specs.List.{prefix_len}
 use Rattle.std.proofs.lemmas.Bool.Decides.{nat_tests}
 use Rattle.std.proofs.lemmas.List.Sums.{prefix_len-le-length}
 use Rattle.ckc_text.specs.Names.{is_word_byte}
-use Rattle.ckc_lexer_tokens.specs.Bytes.{is_blank, is_in_line}
-use Rattle.ckc_lexer_tokens.specs.Marks.{mark_piece, marked, long_mark, short_mark}
+use Rattle.ckc_lexer.specs.Bytes.{is_blank, is_in_line}
+use Rattle.ckc_lexer.specs.Marks.{mark_piece, marked, long_mark, short_mark}
 use Rattle.ckc_lexer.specs.Runs.{width, pair_width, Extent, ends, goes}
 use Rattle.ckc_lexer.specs.Pieces.{front_of, slash_front, quote_front, front_len, closing_len, is_closing, quote_len, is_quote, is_include, IsDirective, IsHash, StandsAs, Stands}
 use Rattle.ckc_lexer.specs.declared.front.Front.{Front}
 use Rattle.ckc_lexer.specs.declared.front.Front.TheVariants.{BlankByte, LineComment, BlockComment, StringQuote, CharacterQuote, Word, Hash, Mark}
 use Rattle.ckc_lexer.specs.declared.run.Run.{Run}
 use Rattle.ckc_lexer.specs.declared.run.Run.TheVariants.{Comment, Directive, Quoted}
-use Rattle.ckc_lexer_tokens.specs.declared.piece.Piece.{Piece}
-use Rattle.ckc_lexer_tokens.specs.declared.piece.Piece.TheVariants.{Forbidden}
-use Rattle.ckc_lexer_tokens.specs.declared.token.TokenKind.{TokenKind}
+use Rattle.ckc_lexer.specs.declared.piece.Piece.{Piece}
+use Rattle.ckc_lexer.specs.declared.piece.Piece.TheVariants.{Forbidden}
+use Rattle.ckc_lexer.specs.declared.token.TokenKind.{TokenKind}
 
 -- a choice is as short as both
 either : (c : Bool) (x y : Front) (k : ℕ) → front_len x ≤ k → front_len y ≤ k → front_len (cond c x y) ≤ k

@@ -1,3 +1,4 @@
+pub mod Numerals
 pub mod Defined
 pub mod Meanings
 pub mod Fronts

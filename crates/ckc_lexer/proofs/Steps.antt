@@ -5,7 +5,7 @@ use Rattle.ckc_text.specs.declared.fault.Refused.TheVariants.{Source, NoMemory}
 use Rattle.ckc_lexer.specs.Pieces.{Stands}
 use Rattle.ckc_lexer.specs.Tokens.{is_first, next}
 use Rattle.ckc_lexer.specs.Progress.{state_of, Gives, Steps}
-use Rattle.ckc_lexer_tokens.specs.declared.piece.Piece.{Piece}
+use Rattle.ckc_lexer.specs.declared.piece.Piece.{Piece}
 use Rattle.ckc_lexer.specs.declared.lexer.Lexer.{Lexer}
 use Rattle.ckc_lexer.proofs.Next.{step_advances}
 

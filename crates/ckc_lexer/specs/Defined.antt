@@ -1,7 +1,7 @@
 -- Inside: the definitions that a map from names to numbers holds.
 use Rattle.std.specs.Prelude.{ℕ, Bool, List, map, Vec}
 use Rattle.std.proofs.Common.{Global}
-use Rattle.ckc_lexer_tokens.specs.declared.piece.Definition.{Definition}
+use Rattle.ckc_lexer.specs.declared.piece.Definition.{Definition}
 
 -- a name, and the sign and the number that it stands for
 abbrev pub definition : Vec ℕ Global × (Bool × ℕ) → Definition

@@ -6,12 +6,12 @@ use Rattle.std.specs.Str.{bytes_eq, str_eq_ignore_ascii_case}
 use Rattle.ckc_text.specs.declared.code.Code.{Code}
 use Rattle.ckc_text.specs.declared.code.Code.TheVariants.{E05}
 use Rattle.ckc_text.specs.Names.{is_digit, is_letter, is_word_byte, begins_with}
-use Rattle.ckc_lexer_tokens.specs.Bytes.{is_blank}
-use Rattle.ckc_lexer_tokens.specs.Words.{keywords, listed, number_of}
-use Rattle.ckc_lexer_tokens.specs.declared.piece.ScopeWord.{ScopeWord}
-use Rattle.ckc_lexer_tokens.specs.declared.piece.ScopeWord.TheVariants as scope
-use Rattle.ckc_lexer_tokens.specs.declared.piece.Piece.{Piece}
-use Rattle.ckc_lexer_tokens.specs.declared.piece.Piece.TheVariants.{Define, Scope, Fault}
+use Rattle.ckc_lexer.specs.Bytes.{is_blank}
+use Rattle.ckc_lexer.specs.Words.{keywords, listed, number_of}
+use Rattle.ckc_lexer.specs.declared.piece.ScopeWord.{ScopeWord}
+use Rattle.ckc_lexer.specs.declared.piece.ScopeWord.TheVariants as scope
+use Rattle.ckc_lexer.specs.declared.piece.Piece.{Piece}
+use Rattle.ckc_lexer.specs.declared.piece.Piece.TheVariants.{Define, Scope, Fault}
 
 -- the text from its first byte on that is no blank
 abbrev pub unblanked : List ℕ → List ℕ

@@ -1,3 +1,7 @@
+pub mod Bytes
+pub mod Words
+pub mod Marks
+pub mod Rules
 pub mod Keywords
 pub mod Runs
 pub mod Quoted

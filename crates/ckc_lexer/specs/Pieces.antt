@@ -4,18 +4,18 @@ use Rattle.std.specs.List.{list_any, prefix_len}
 use Rattle.std.specs.Str.{bytes_eq}
 use Rattle.ckc_text.specs.declared.code.Code.TheVariants.{E01, E02}
 use Rattle.ckc_text.specs.Names.{is_word_byte, begins_with}
-use Rattle.ckc_lexer_tokens.specs.Bytes.{is_blank, is_line_feed, is_in_line, is_control, is_forbidden}
-use Rattle.ckc_lexer_tokens.specs.Words.{word_piece}
-use Rattle.ckc_lexer_tokens.specs.Marks.{mark_piece}
-use Rattle.ckc_lexer_tokens.specs.Rules.{comment}
+use Rattle.ckc_lexer.specs.Bytes.{is_blank, is_line_feed, is_in_line, is_control, is_forbidden}
+use Rattle.ckc_lexer.specs.Words.{word_piece}
+use Rattle.ckc_lexer.specs.Marks.{mark_piece}
+use Rattle.ckc_lexer.specs.Rules.{comment}
 use Rattle.ckc_lexer.specs.Runs.{Extent}
 use Rattle.ckc_lexer.specs.Quoted.{IsContent, string_piece, character_piece}
 use Rattle.ckc_lexer.specs.Directives.{part, named_directive}
 use Rattle.ckc_lexer.specs.declared.front.Front.{Front}
 use Rattle.ckc_lexer.specs.declared.front.Front.TheVariants.{BlankByte, LineComment, BlockComment, StringQuote, CharacterQuote, Word, Hash, Mark}
 use Rattle.ckc_lexer.specs.declared.run.Run.TheVariants.{Comment, Directive, Quoted}
-use Rattle.ckc_lexer_tokens.specs.declared.piece.Piece.{Piece}
-use Rattle.ckc_lexer_tokens.specs.declared.piece.Piece.TheVariants.{Gap, Include, CommentFault, Forbidden, Fault}
+use Rattle.ckc_lexer.specs.declared.piece.Piece.{Piece}
+use Rattle.ckc_lexer.specs.declared.piece.Piece.TheVariants.{Gap, Include, CommentFault, Forbidden, Fault}
 
 -- what a slash begins, by what follows it
 abbrev pub slash_front : List ℕ → Front

@@ -2,10 +2,10 @@
 use Rattle.std.specs.Prelude.{◌≡◌, ℕ, ◌+◌, ◌*◌, Bool, true, false, ◌&&◌, cond, List, [], ◌∷◌, drop, ◌==◌, Option, Some, None}
 use Rattle.std.specs.Char.{digit_value}
 use Rattle.ckc_text.specs.declared.code.Code.TheVariants.{E02, E03}
-use Rattle.ckc_lexer_tokens.specs.Bytes.{is_hexadecimal_digit}
-use Rattle.ckc_lexer_tokens.specs.declared.token.TokenKind.TheVariants.{Character, Text}
-use Rattle.ckc_lexer_tokens.specs.declared.piece.Piece.{Piece}
-use Rattle.ckc_lexer_tokens.specs.declared.piece.Piece.TheVariants.{Lexeme, Forbidden, Fault}
+use Rattle.ckc_lexer.specs.Bytes.{is_hexadecimal_digit}
+use Rattle.ckc_lexer.specs.declared.token.TokenKind.TheVariants.{Character, Text}
+use Rattle.ckc_lexer.specs.declared.piece.Piece.{Piece}
+use Rattle.ckc_lexer.specs.declared.piece.Piece.TheVariants.{Lexeme, Forbidden, Fault}
 
 -- `\n \t \r \0 \\ \' \"`, by the byte behind the backslash: the byte that it is, and the escape's length
 abbrev pub simple_escape : ℕ → Option (ℕ × ℕ)

@@ -1,7 +1,7 @@
 -- How far a piece reaches: to the first place where it can end.
 use Rattle.std.specs.Prelude.{◌≡◌, ℕ, suc, ◌+◌, ◌||◌, ◌&&◌, cond, List, [], ◌∷◌, drop, ◌==◌}
 use Rattle.ckc_text.specs.Names.{begins_with}
-use Rattle.ckc_lexer_tokens.specs.Bytes.{is_line_feed}
+use Rattle.ckc_lexer.specs.Bytes.{is_line_feed}
 use Rattle.ckc_lexer.specs.declared.run.Run.{Run}
 use Rattle.ckc_lexer.specs.declared.run.Run.TheVariants.{Comment, Directive, Quoted}
 

@@ -9,18 +9,18 @@ use Rattle.ckc_text.specs.declared.code.Code.TheVariants.{E01, E05, E08}
 use Rattle.ckc_text.specs.declared.fault.SourceFault.{SourceFault}
 use Rattle.ckc_text.specs.declared.fault.Refused.{Refused}
 use Rattle.ckc_text.specs.declared.fault.Refused.TheVariants.{Source, NoMemory}
-use Rattle.ckc_lexer_tokens.specs.Rules.{is_same_number}
+use Rattle.ckc_lexer.specs.Rules.{is_same_number}
 use Rattle.ckc_lexer.specs.Pieces.{Stands}
-use Rattle.ckc_lexer_tokens.specs.declared.token.Token.{Token}
-use Rattle.ckc_lexer_tokens.specs.declared.token.CheckedScope.{CheckedScope}
-use Rattle.ckc_lexer_tokens.specs.declared.token.CheckedScope.TheVariants as scope
-use Rattle.ckc_lexer_tokens.specs.declared.token.TokenKind.{TokenKind}
-use Rattle.ckc_lexer_tokens.specs.declared.token.TokenKind.TheVariants as kind
-use Rattle.ckc_lexer_tokens.specs.declared.piece.Definition.{Definition}
-use Rattle.ckc_lexer_tokens.specs.declared.piece.ScopeWord.{ScopeWord}
-use Rattle.ckc_lexer_tokens.specs.declared.piece.ScopeWord.TheVariants as word
-use Rattle.ckc_lexer_tokens.specs.declared.piece.Piece.{Piece}
-use Rattle.ckc_lexer_tokens.specs.declared.piece.Piece.TheVariants.{Gap, Lexeme, Named, Include, Define, Scope, CommentFault, Forbidden, Fault}
+use Rattle.ckc_lexer.specs.declared.token.Token.{Token}
+use Rattle.ckc_lexer.specs.declared.token.CheckedScope.{CheckedScope}
+use Rattle.ckc_lexer.specs.declared.token.CheckedScope.TheVariants as scope
+use Rattle.ckc_lexer.specs.declared.token.TokenKind.{TokenKind}
+use Rattle.ckc_lexer.specs.declared.token.TokenKind.TheVariants as kind
+use Rattle.ckc_lexer.specs.declared.piece.Definition.{Definition}
+use Rattle.ckc_lexer.specs.declared.piece.ScopeWord.{ScopeWord}
+use Rattle.ckc_lexer.specs.declared.piece.ScopeWord.TheVariants as word
+use Rattle.ckc_lexer.specs.declared.piece.Piece.{Piece}
+use Rattle.ckc_lexer.specs.declared.piece.Piece.TheVariants.{Gap, Lexeme, Named, Include, Define, Scope, CommentFault, Forbidden, Fault}
 use Rattle.ckc_lexer.specs.declared.line.Line.{Line}
 use Rattle.ckc_lexer.specs.declared.line.Line.TheVariants.{Fresh, Marked, Behind}
 

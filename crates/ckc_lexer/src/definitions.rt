@@ -3,7 +3,7 @@
 ghost use Rattle.std.specs.Prelude.{◌≡◌, ◌++◌, ◌∷◌, [], None, OnOk};
 ghost use Rattle.ckc_lexer.specs.Tokens.{definition_for};
 
-use ckc_lexer_tokens::piece::Definition;
+use crate::piece::Definition;
 use ckc_text::fault::NoMemory;
 use indexmap::IndexMap;
 use std::alloc::Global;
@@ -17,7 +17,7 @@ pub struct Definitions {
 
 impl Model for Definitions {
     ghost use Rattle.std.specs.Prelude.{List};
-    ghost use Rattle.ckc_lexer_tokens.specs.declared.piece.Definition.{Definition};
+    ghost use Rattle.ckc_lexer.specs.declared.piece.Definition.{Definition};
     ghost use Rattle.ckc_lexer.specs.Defined.{definitions_of};
 
     ghost Value = { List Definition };

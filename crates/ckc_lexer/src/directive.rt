@@ -3,16 +3,16 @@
 ghost use Rattle.std.specs.Prelude.{◌≡◌, ◌≤◌, true, length, IfOk};
 ghost use Rattle.std.specs.List.{list_all, prefix_len};
 ghost use Rattle.ckc_text.specs.Names.{is_letter, is_word_byte, begins_with, IsName};
-ghost use Rattle.ckc_lexer_tokens.specs.Bytes.{is_blank};
+ghost use Rattle.ckc_lexer.specs.Bytes.{is_blank};
 ghost use Rattle.ckc_lexer.specs.Directives.{part, part_len, unblanked, is_keyword, numbered_definition, signed_definition, definition_of, scope_word, scope_of, pragma_of, named_directive};
 ghost use Rattle.ckc_lexer.specs.Pieces.{word_len, line_len, is_include, include_piece, directive_piece, IsHash};
 
 use crate::front::{is_blank, is_control, is_word_byte};
+use crate::number::number_of;
+use crate::piece::{Definition, Piece, ScopeWord};
 use crate::quoted::{has_control, has_forbidden};
 use crate::run::{Run, extent};
 use crate::word::{begins_with_digit, keyword};
-use ckc_lexer_tokens::number::number_of;
-use ckc_lexer_tokens::piece::{Definition, Piece, ScopeWord};
 use ckc_text::code::Code;
 use ckc_text::fault::NoMemory;
 use ckc_text::name::Name;

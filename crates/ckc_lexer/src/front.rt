@@ -2,7 +2,7 @@
 
 ghost use Rattle.std.specs.Prelude.{◌≡◌, ◌≤◌, length};
 ghost use Rattle.ckc_text.specs.Names.{is_word_byte};
-ghost use Rattle.ckc_lexer_tokens.specs.Bytes.{is_blank, is_control, is_forbidden};
+ghost use Rattle.ckc_lexer.specs.Bytes.{is_blank, is_control, is_forbidden};
 ghost use Rattle.ckc_lexer.specs.Pieces.{front_of, front_len};
 
 /// What the first bytes of a text begin.

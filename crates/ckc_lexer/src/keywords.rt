@@ -1,6 +1,6 @@
 // How keywords are spelled.
 
-use ckc_lexer_tokens::keyword::Keyword;
+use crate::keyword::Keyword;
 
 /// How each keyword is spelled.
 pub const KEYWORDS: [(&[u8], Keyword); 33] = [

@@ -5,8 +5,8 @@ ghost use Rattle.std.specs.Prelude.{◌≡◌, ◌≤◌, ℕ, List, ◌∷◌, 
 ghost use Rattle.ckc_text.specs.declared.code.Code.TheVariants.{E02, E03, E04, E05};
 ghost use Rattle.ckc_text.specs.declared.fault.SourceFault.{SourceFault};
 ghost use Rattle.ckc_lexer.specs.Tokens.{Lexes, AreTokens, HasFault, InOrder, token_at, fault_at};
-ghost use Rattle.ckc_lexer_tokens.specs.declared.token.Token.{Token};
-ghost use Rattle.ckc_lexer_tokens.specs.declared.token.TokenKind.TheVariants.{Name, Number, Minus, LessEqual, Greater, GreaterEqual};
+ghost use Rattle.ckc_lexer.specs.declared.token.Token.{Token};
+ghost use Rattle.ckc_lexer.specs.declared.token.TokenKind.TheVariants.{Name, Number, Minus, LessEqual, Greater, GreaterEqual};
 
 /// A source has one list of tokens or one fault, and never both.
 pub fn one_cut()

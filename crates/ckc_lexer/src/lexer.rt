@@ -3,17 +3,15 @@
 ghost use Rattle.std.specs.Prelude.{◌≡◌, ◌+◌, ◌-◌, ◌<◌, ◌≤◌, length, OnOk};
 ghost use Rattle.ckc_text.specs.declared.fault.Refused.TheVariants.{Source};
 ghost use Rattle.ckc_lexer.specs.Tokens.{fault_at, push, definition_for, number_tokens, name_tokens, behind_mark, forbidden, fault, define, go_on, scope_from, change_scope, is_first, next, LexAnswers};
-ghost use Rattle.ckc_lexer_tokens.specs.declared.piece.Piece.TheVariants.{Gap};
+ghost use Rattle.ckc_lexer.specs.declared.piece.Piece.TheVariants.{Gap};
 ghost use Rattle.ckc_lexer.specs.Progress.{state_of, Gives, Steps};
 
 use crate::definitions::Definitions;
+use crate::limits::{MAX_SOURCE, MAX_TOKENS};
 use crate::line::Line;
+use crate::piece::{Definition, Piece, ScopeWord};
 use crate::pieces::piece_at;
-use ckc_lexer_tokens::definition::is_same_number;
-use ckc_lexer_tokens::limits::{has_room, is_read};
-use ckc_lexer_tokens::piece::{Definition, Piece, ScopeWord};
-use ckc_lexer_tokens::scope;
-use ckc_lexer_tokens::token::{CheckedScope, Token, TokenKind};
+use crate::token::{CheckedScope, Token, TokenKind};
 use ckc_text::code::Code;
 use ckc_text::fault::Refused;
 use ckc_text::name::Name;
@@ -56,7 +54,7 @@ impl Lexer {
     {
         let from = self.at as u32;
         let to = (self.at + len) as u32;
-        if !has_room(self.tokens.len()) {
+        if self.tokens.len() >= MAX_TOKENS {
             return Err(fault_at(Code::E08, from));
         }
         let span = Span { from, to };
@@ -99,7 +97,8 @@ impl Lexer {
                 self.definitions.add(definition)?;
                 Ok(())
             }
-            Some((negative, value)) if is_same_number(negative, value, &definition) => Ok(()),
+            Some((negative, value))
+                if negative == definition.negative && value == definition.value => { Ok(()) }
             Some(_) => Err(fault_at(Code::E05, self.at as u32)),
         }
     }
@@ -128,7 +127,7 @@ impl Lexer {
                 self.kept.push(scope)?;
                 self.scope_from(scope, len)
             }
-            ScopeWord::Pop => match scope::pop(&mut self.kept) {
+            ScopeWord::Pop => match self.kept.pop() {
                 Some(scope) => self.scope_from(scope, len),
                 None => Err(fault_at(Code::E05, self.at as u32)),
             },
@@ -246,7 +245,7 @@ impl Lexer {
 pub fn lex(alloc: Global, src: &[u8]) -> Result<Vec<Token>, Refused>
     ensures { LexAnswers src.now result }
 {
-    if !is_read(src.len()) {
+    if src.len() > MAX_SOURCE {
         return Err(fault_at(Code::E08, 0));
     }
     let mut lexer = Lexer {

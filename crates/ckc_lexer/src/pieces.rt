@@ -2,7 +2,7 @@
 
 ghost use Rattle.std.specs.Prelude.{◌≡◌, ℕ, ◌<◌, length, IfOk};
 ghost use Rattle.std.specs.List.{list_any};
-ghost use Rattle.ckc_lexer_tokens.specs.Bytes.{is_line_feed};
+ghost use Rattle.ckc_lexer.specs.Bytes.{is_line_feed};
 ghost use Rattle.ckc_lexer.specs.Runs.{Extent};
 ghost use Rattle.ckc_lexer.specs.Pieces.{front_of, comment_piece, is_closing, IsBlankByte, IsLineComment, IsBlockComment, IsWord, Stands};
 ghost use Rattle.ckc_lexer.specs.declared.front.Front.TheVariants.{Word};
@@ -11,11 +11,10 @@ ghost use Rattle.ckc_lexer.specs.declared.run.Run.TheVariants.{Comment};
 use crate::directive::{hash, line_len, word_len};
 use crate::front::{Front, front_of};
 use crate::mark::mark_piece;
+use crate::piece::Piece;
 use crate::quoted::{character, has_control, string};
 use crate::run::{Run, extent};
 use crate::word::word_piece;
-use ckc_lexer_tokens::comment::comment;
-use ckc_lexer_tokens::piece::Piece;
 use ckc_text::code::Code;
 use ckc_text::fault::NoMemory;
 use std::alloc::Global;
@@ -37,8 +36,10 @@ fn comment_piece(body: &[u8], closed: bool) -> Piece
 {
     if has_control(body) {
         Piece::CommentFault(Code::E01)
+    } else if closed {
+        Piece::Gap(has_line_feed(body))
     } else {
-        comment(closed, has_line_feed(body))
+        Piece::CommentFault(Code::E03)
     }
 }
 

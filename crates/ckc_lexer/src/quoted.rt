@@ -4,17 +4,17 @@ ghost use Rattle.std.specs.Prelude.{◌≡◌, ◌+◌, ◌<◌, ◌≤◌, leng
 ghost use Rattle.std.specs.Option.{option_map};
 ghost use Rattle.std.specs.Prelude.{ℕ, List, Option, take};
 ghost use Rattle.std.specs.List.{list_any};
-ghost use Rattle.ckc_lexer_tokens.specs.Bytes.{is_hexadecimal_digit, is_control, is_forbidden};
+ghost use Rattle.ckc_lexer.specs.Bytes.{is_hexadecimal_digit, is_control, is_forbidden};
 ghost use Rattle.ckc_lexer.specs.Runs.{Extent};
 ghost use Rattle.ckc_lexer.specs.declared.run.Run.TheVariants.{Quoted};
 ghost use Rattle.ckc_lexer.specs.Pieces.{is_quote, IsString, IsCharacter};
 ghost use Rattle.ckc_lexer.specs.Quoted.{simple_escape, hexadecimal_escape, escape, quoted_byte, IsContent, string_piece, one_byte, character_piece};
 
 use crate::front::{is_control, is_forbidden};
+use crate::number::digit_value;
+use crate::piece::Piece;
 use crate::run::{Run, extent};
-use ckc_lexer_tokens::number::digit_value;
-use ckc_lexer_tokens::piece::Piece;
-use ckc_lexer_tokens::token::TokenKind;
+use crate::token::TokenKind;
 use ckc_text::code::Code;
 use ckc_text::fault::NoMemory;
 use ckc_text::listed::Listed;
@@ -150,7 +150,8 @@ pub fn has_control(bytes: &[u8]) -> bool
 
 /// What stands at a string's quote, by the text behind it, and its length.
 pub fn string(alloc: Global, inner: &[u8]) -> Result<(Piece, usize), NoMemory>
-    ensures { IfOk result (λ found. (m : ℕ) × Extent (Quoted 34) inner.now m × (content : Option (List ℕ)) × IsContent (take m inner.now) content × IsString inner.now m content found.0 found.1) }
+    ensures { IfOk result (λ found. (m : ℕ) × Extent (Quoted 34) inner.now m × (content : Option (List ℕ))
+        × IsContent (take m inner.now) content × IsString inner.now m content found.0 found.1) }
 {
     let len = extent(Run::Quoted(b'"'), inner);
     let (body, rest) = inner.split_at(len);
@@ -172,7 +173,8 @@ pub fn has_forbidden(bytes: &[u8]) -> bool
 
 /// What stands at a character constant's quote, by the text behind it, and its length.
 pub fn character(alloc: Global, inner: &[u8]) -> Result<(Piece, usize), NoMemory>
-    ensures { IfOk result (λ found. (m : ℕ) × Extent (Quoted 39) inner.now m × (content : Option (List ℕ)) × IsContent (take m inner.now) content × IsCharacter inner.now m content found.0 found.1) }
+    ensures { IfOk result (λ found. (m : ℕ) × Extent (Quoted 39) inner.now m × (content : Option (List ℕ))
+        × IsContent (take m inner.now) content × IsCharacter inner.now m content found.0 found.1) }
 {
     let len = extent(Run::Quoted(b'\''), inner);
     let (body, rest) = inner.split_at(len);

@@ -4,13 +4,13 @@ ghost use Rattle.std.specs.Prelude.{◌≡◌, true, IfOk, length, map};
 ghost use Rattle.std.specs.List.{prefix_len};
 ghost use Rattle.ckc_lexer.specs.Keywords.{spelled};
 ghost use Rattle.ckc_text.specs.Names.{is_digit, is_word_byte, begins_with};
-ghost use Rattle.ckc_lexer_tokens.specs.Words.{keywords, listed, number_of, number_piece, word_piece};
+ghost use Rattle.ckc_lexer.specs.Words.{keywords, listed, number_of, number_piece, word_piece};
 
+use crate::keyword::Keyword;
 use crate::keywords::KEYWORDS;
-use ckc_lexer_tokens::keyword::Keyword;
-use ckc_lexer_tokens::number::number_of;
-use ckc_lexer_tokens::piece::Piece;
-use ckc_lexer_tokens::token::TokenKind;
+use crate::number::number_of;
+use crate::piece::Piece;
+use crate::token::TokenKind;
 use ckc_text::fault::NoMemory;
 use ckc_text::name::Name;
 use std::alloc::Global;

@@ -21,7 +21,8 @@ use ckc_tree::type_form::TypeForm;
 
 // The type, the name and the bounds of a member or a parameter.
 fn listed(resolver: &mut Resolver, base: &TypeForm, name: &Identifier, bounds: &Option<BoundsText>)
-    ensures { Passes (type_mentions (type_tree base.now) ++ Declare name.now ∷ optional_mentions bounds_mentions (option_map bounds_of bounds.now)) resolver.old resolver.new }
+    ensures { Passes (type_mentions (type_tree base.now) ++ Declare name.now ∷ optional_mentions bounds_mentions
+        (option_map bounds_of bounds.now)) resolver.old resolver.new }
 {
     type_form(resolver, base);
     resolver.declare(name);
@@ -113,7 +114,8 @@ fn body(resolver: &mut Resolver, written: &Option<Block>)
 
 // The parameters, the result's bounds and the statements of a function.
 fn function_block(resolver: &mut Resolver, written: &Function)
-    ensures { let f = function_of written.now in Passes (parameters_mentions f.parameters ++ (optional_mentions bounds_mentions f.bounds ++ optional_mentions body_mentions f.body)) resolver.old resolver.new }
+    ensures { let f = function_of written.now in Passes (parameters_mentions f.parameters
+        ++ (optional_mentions bounds_mentions f.bounds ++ optional_mentions body_mentions f.body)) resolver.old resolver.new }
 {
     parameter_list(resolver, &written.parameters);
     optional_bounds(resolver, &written.bounds);

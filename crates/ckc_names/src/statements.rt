@@ -33,7 +33,9 @@ fn head(
     condition: &Option<Box<Expr>>,
     step: &Option<Assignment>,
 )
-    ensures { Passes (for_initial_mentions (initial_of initial.now) ++ (optional_mentions expression_mentions (option_map on_heap condition.now) ++ optional_mentions assignment_mentions (option_map assignment_of step.now))) resolver.old resolver.new }
+    ensures { Passes (for_initial_mentions (initial_of initial.now) ++ (optional_mentions expression_mentions
+        (option_map on_heap condition.now) ++ optional_mentions assignment_mentions (option_map assignment_of step.now))) resolver.old
+        resolver.new }
 {
     for_initial(resolver, initial);
     optional_expression(resolver, condition);

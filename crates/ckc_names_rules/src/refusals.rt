@@ -5,7 +5,7 @@ ghost use Rattle.ckc_names_rules.specs.Naming as naming;
 ghost use Rattle.ckc_names_rules.specs.Scopes as scopes;
 
 use ckc_text::code::Code;
-use ckc_text::fault::{Refused, SourceFault};
+use ckc_text::fault::Refused;
 use ckc_text::place::Span;
 use ckc_tree::identifier::Identifier;
 
@@ -13,10 +13,7 @@ use ckc_tree::identifier::Identifier;
 pub fn refusal(code: Code, name: &Identifier) -> Refused
     ensures { result ≡ Refused.Source (scopes.fault code name.now) }
 {
-    Refused::Source(SourceFault {
-        code,
-        span: name.span,
-    })
+    Refused::at(code, name.span)
 }
 
 /// Goes on where a program has a `main`.
@@ -30,9 +27,6 @@ pub fn need_main(has_main: bool) -> Result<(), Refused>
     if has_main {
         Ok(())
     } else {
-        Err(Refused::Source(SourceFault {
-            code: Code::E28,
-            span: Span { from: 0, to: 0 },
-        }))
+        Err(Refused::at(Code::E28, Span { from: 0, to: 0 }))
     }
 }

@@ -1,8 +1,8 @@
 -- Tokens of which several may stand.
 use Rattle.std.proofs.Common.{◌≡◌, false, List, [], ◌∷◌, refl}
-use Rattle.ckc_lexer_tokens.specs.declared.token.Token.{Token}
-use Rattle.ckc_lexer_tokens.specs.declared.token.TokenKind.{TokenKind}
-use Rattle.ckc_lexer_tokens.specs.declared.token.TokenKind.TheVariants as kinds
+use Rattle.ckc_lexer.specs.declared.token.Token.{Token}
+use Rattle.ckc_lexer.specs.declared.token.TokenKind.{TokenKind}
+use Rattle.ckc_lexer.specs.declared.token.TokenKind.TheVariants as kinds
 use Rattle.ckc_parser_grammar.specs.Tokens.{next_is, comma}
 use Rattle.ckc_parser_grammar.specs.StuckStatements.{minus, store_word, constant_token, minus_or_constant, step_word, assign_word, comma_or_brace, close_brace}
 

@@ -1,18 +1,18 @@
 -- What stands behind the target of an assignment, and the assignment.
 use Rattle.std.proofs.Common.{◌≡◌, ◌<◌, ◌≤◌, ℕ, suc, true, false, List, [], ◌∷◌, Result, Ok, Err}
 use Rattle.ckc_text.specs.declared.place.Span.{Span}
-use Rattle.ckc_lexer_tokens.specs.declared.token.Token.{Token}
+use Rattle.ckc_lexer.specs.declared.token.Token.{Token}
 use Rattle.ckc_tree.specs.Expressions.{Expression}
 use Rattle.ckc_tree.specs.declared.stmt as code
 use Rattle.ckc_tree.specs.Statements.{Assignment, assignment}
 use Rattle.ckc_tree.specs.Heights.{expression_reach, assignment_reach}
-use Rattle.ckc_parser_cursor.specs.declared.stuck.Stuck.{Stuck}
+use Rattle.ckc_parser_grammar.specs.declared.stuck.Stuck.{Stuck}
 use Rattle.ckc_parser_grammar.specs.Tokens.{next_is, start_of}
 use Rattle.ckc_parser_grammar.specs.ExpressionGrammar.{SpellsUnary}
 use Rattle.ckc_parser_grammar.specs.StatementGrammar as g
 use Rattle.ckc_parser_grammar.specs.StatementGrammar.{SpellsAssignment}
 use Rattle.ckc_parser_grammar.specs.Failures.{Failure, too_deep, IsLow}
-use Rattle.ckc_parser_cursor.specs.Answers.{Reads}
+use Rattle.ckc_parser_grammar.specs.Answers.{Reads}
 use Rattle.ckc_parser_grammar.specs.StuckTypes.{type_word}
 use Rattle.ckc_parser_grammar.specs.StuckExpressions.{unary_word}
 use Rattle.ckc_parser_grammar.specs.StuckStatements as stuck

@@ -1,8 +1,8 @@
 -- Forms with a name that was read, which has no number: they are spelled as those of its bytes and its span.
 use Rattle.std.proofs.Common.{◌≡◌, ℕ, List, ◌∷◌, Option, sym, subst}
 use Rattle.ckc_text.specs.declared.place.Span.{Span}
-use Rattle.ckc_lexer_tokens.specs.declared.token.Token.{Token}
-use Rattle.ckc_lexer_tokens.specs.declared.token.TokenKind.TheVariants as kinds
+use Rattle.ckc_lexer.specs.declared.token.Token.{Token}
+use Rattle.ckc_lexer.specs.declared.token.TokenKind.TheVariants as kinds
 use Rattle.ckc_tree.specs.declared.identifier.Identifier.{Identifier}
 use Rattle.ckc_tree.specs.declared.stmt.ArrayForm.{ArrayForm}
 use Rattle.ckc_tree.specs.Types.{TypeName}
@@ -14,7 +14,7 @@ use Rattle.ckc_parser_grammar.specs.StatementGrammar as statements
 use Rattle.ckc_parser_grammar.specs.StatementGrammar.{SpellsOptionalArray, SpellsOptionalBounds, SpellsOptionalInitializer, SpellsDeclarator}
 use Rattle.ckc_parser_grammar.specs.ItemGrammar as items
 use Rattle.ckc_parser_grammar.specs.ItemGrammar.{SpellsMember}
-use Rattle.ckc_parser_cursor.proofs.Readings.{named}
+use Rattle.ckc_parser_grammar.proofs.Readings.{named}
 
 pub member_named : {w : Span} {ts us rest : List Token} {written : Option Bounds} {type : TypeName} (x : Identifier) → x.number ≡ 0
     → SpellsTypeName ts type (token (kinds.Name x.name) x.span ∷ us) → SpellsOptionalBounds (from_first ts x.span) us written w rest

@@ -1,9 +1,9 @@
 -- Inside: what the functions that read items answer, and what stands before the parts that they read.
 use Rattle.std.specs.Prelude.{◌≡◌, ℕ, Bool, true, false, List, ◌∷◌, Option, Some, None, Result, Ok, Err}
 use Rattle.ckc_text.specs.declared.place.Span.{Span}
-use Rattle.ckc_lexer_tokens.specs.declared.token.Token.{Token}
-use Rattle.ckc_lexer_tokens.specs.declared.keyword.Keyword.TheVariants as keywords
-use Rattle.ckc_lexer_tokens.specs.declared.token.TokenKind.TheVariants as kinds
+use Rattle.ckc_lexer.specs.declared.token.Token.{Token}
+use Rattle.ckc_lexer.specs.declared.keyword.Keyword.TheVariants as keywords
+use Rattle.ckc_lexer.specs.declared.token.TokenKind.TheVariants as kinds
 use Rattle.ckc_tree.specs.declared.stmt.Mark.{Mark}
 use Rattle.ckc_tree.specs.declared.item.Region.{Region}
 use Rattle.ckc_tree.specs.declared.item.FunctionKind.{FunctionKind}
@@ -11,8 +11,8 @@ use Rattle.ckc_tree.specs.declared.item.FunctionKind.TheVariants.{Trusted, Taint
 use Rattle.ckc_tree.specs.Types.{TypeTree}
 use Rattle.ckc_tree.specs.Items.{ResultForm, RegionItem}
 use Rattle.ckc_tree.specs.Heights.{type_reach, result_reach}
-use Rattle.ckc_parser_cursor.specs.declared.stuck.Stuck.{Stuck}
-use Rattle.ckc_parser_cursor.specs.Answers.{Stops}
+use Rattle.ckc_parser_grammar.specs.declared.stuck.Stuck.{Stuck}
+use Rattle.ckc_parser_grammar.specs.Answers.{Stops}
 use Rattle.ckc_parser_grammar.specs.Tokens.{token, next_is, kind_word, open_paren}
 use Rattle.ckc_parser_grammar.specs.TypeGrammar.{SpellsStars, SpellsType}
 use Rattle.ckc_parser_grammar.specs.ItemGrammar.{SpellsTainted, SpellsKind, SpellsOptionalMark, SpellsResult, SpellsItem}

@@ -8,26 +8,26 @@ ghost use Rattle.ckc_tree.specs.Heights.{around, expression_reach, optional_boun
 ghost use Rattle.ckc_parser_grammar.specs.Tokens.{start_of, from_first, next_is};
 ghost use Rattle.ckc_parser_grammar.specs.StatementGrammar.{SpellsOptionalBounds, SpellsOptionalArray, SpellsSigned, SpellsConstants, SpellsOptionalInitializer, SpellsDeclarator, SpellsDeclarators, SpellsDeclaration, SpellsAssignment};
 ghost use Rattle.ckc_parser_grammar.specs.Failures.{IsLow};
-ghost use Rattle.ckc_parser_cursor.specs.Answers.{Reads};
+ghost use Rattle.ckc_parser_grammar.specs.Answers.{Reads};
 ghost use Rattle.ckc_parser_grammar.specs.StuckTypes.{type_word};
 ghost use Rattle.ckc_parser_grammar.specs.StuckStatements.{step_word, assignment_word, StuckOptionalBounds, StuckOptionalArray, StuckSigned, StuckConstants, StuckOptionalInitializer, StuckDeclarator, StuckDeclarators, StuckDeclaration, StuckAssignment};
 ghost use Rattle.ckc_parser.specs.StatementReadings.{SpellsAssigned, StuckAssigned};
 
-use ckc_lexer_tokens::token::{Token, TokenKind};
-use ckc_parser_cursor::depth::Depth;
-use ckc_parser_cursor::kinds;
-use ckc_parser_cursor::spans::join;
-use ckc_parser_cursor::stuck::Stuck;
-use ckc_parser_cursor::tokens::{
+use crate::bounds::bounds;
+use crate::expressions::{expression, starts_unary, unary};
+use crate::operand::Operand;
+use crate::types::{stars, type_form};
+use ckc_lexer::token::{Token, TokenKind};
+use ckc_parser_grammar::depth::Depth;
+use ckc_parser_grammar::kinds;
+use ckc_parser_grammar::spans::join;
+use ckc_parser_grammar::stuck::Stuck;
+use ckc_parser_grammar::tokens::{
     close_brace, close_bracket, comma, identifier, open_brace, open_bracket,
 };
-use ckc_parser_cursor::words::{
+use ckc_parser_grammar::words::{
     array_word, colon, constant, equal, minus, number, step_operator, store_operator,
 };
-use ckc_parser_expressions::bounds::bounds;
-use ckc_parser_expressions::expressions::{expression, starts_unary, unary};
-use ckc_parser_expressions::operand::Operand;
-use ckc_parser_expressions::types::{stars, type_form};
 use ckc_text::on_heap::push;
 use ckc_text::place::Span;
 use ckc_tree::expr::{BoundsText, Expr};
@@ -71,7 +71,8 @@ pub fn optional_bounds(
     tokens: &mut &[Token],
 ) -> Result<Read<Option<BoundsText>>, Stuck>
     requires { depth ≤ 200 }
-    ensures { Reads (λ x rest. SpellsOptionalBounds so_far tokens.old.now (option_map bounds x.form) x.span rest × IsLow depth (optional_bounds_reach (option_map bounds x.form))) (StuckOptionalBounds depth tokens.old.now) result tokens.new.now }
+    ensures { Reads (λ x rest. SpellsOptionalBounds so_far tokens.old.now (option_map bounds x.form) x.span rest
+        × IsLow depth (optional_bounds_reach (option_map bounds x.form))) (StuckOptionalBounds depth tokens.old.now) result tokens.new.now }
 {
     let Ok(_) = colon(tokens) else {
         let form = None;
@@ -148,7 +149,9 @@ fn optional_initializer(
     tokens: &mut &[Token],
 ) -> Result<Read<Option<Initializer>>, Stuck>
     requires { depth ≤ 200 }
-    ensures { Reads (λ x rest. SpellsOptionalInitializer so_far tokens.old.now (option_map views.initializer x.form) x.span rest × IsLow depth (optional_initializer_reach (option_map views.initializer x.form))) (StuckOptionalInitializer depth tokens.old.now) result tokens.new.now }
+    ensures { Reads (λ x rest. SpellsOptionalInitializer so_far tokens.old.now (option_map views.initializer x.form) x.span rest
+        × IsLow depth (optional_initializer_reach (option_map views.initializer x.form))) (StuckOptionalInitializer depth tokens.old.now)
+        result tokens.new.now }
 {
     let Ok(_) = equal(tokens) else {
         let form = None;
@@ -172,7 +175,8 @@ fn optional_initializer(
 /// One variable of a declaration.
 fn declarator(depth: Depth, tokens: &mut &[Token]) -> Result<Declarator, Stuck>
     requires { depth ≤ 200 }
-    ensures { Reads (λ x rest. SpellsDeclarator tokens.old.now (views.declarator x) rest × IsLow depth (declarator_reach (views.declarator x))) (StuckDeclarator depth tokens.old.now) result tokens.new.now }
+    ensures { Reads (λ x rest. SpellsDeclarator tokens.old.now (views.declarator x) rest
+        × IsLow depth (declarator_reach (views.declarator x))) (StuckDeclarator depth tokens.old.now) result tokens.new.now }
 {
     let whole: &[Token] = *tokens;
     let stars = stars(tokens);
@@ -195,7 +199,9 @@ fn declarator(depth: Depth, tokens: &mut &[Token]) -> Result<Declarator, Stuck>
 /// At least one variable, and all that stand here. The span is that of the last.
 pub fn declarators(depth: Depth, tokens: &mut &[Token]) -> Result<Read<Vec<Declarator>>, Stuck>
     requires { depth ≤ 200 }
-    ensures { Reads (λ x rest. SpellsDeclarators tokens.old.now (map views.declarator x.form.items) x.span rest × IsLow depth (declarators_reach (map views.declarator x.form.items))) (StuckDeclarators depth tokens.old.now) result tokens.new.now }
+    ensures { Reads (λ x rest. SpellsDeclarators tokens.old.now (map views.declarator x.form.items) x.span rest
+        × IsLow depth (declarators_reach (map views.declarator x.form.items))) (StuckDeclarators depth tokens.old.now) result
+        tokens.new.now }
 {
     let mut form = Vec::new(depth.alloc());
     'declarators: loop {
@@ -212,7 +218,9 @@ pub fn declarators(depth: Depth, tokens: &mut &[Token]) -> Result<Read<Vec<Decla
 pub fn declaration(depth: Depth, tokens: &mut &[Token]) -> Result<Declaration, Stuck>
     requires low { depth ≤ 200 }
     requires typed { next_is type_word tokens.old.now ≡ true }
-    ensures { Reads (λ x rest. SpellsDeclaration tokens.old.now (views.declaration x) rest × IsLow depth (around x.span.from (declared_reach (views.declaration x)))) (StuckDeclaration depth tokens.old.now) result tokens.new.now }
+    ensures { Reads (λ x rest. SpellsDeclaration tokens.old.now (views.declaration x) rest
+        × IsLow depth (around x.span.from (declared_reach (views.declaration x)))) (StuckDeclaration depth tokens.old.now) result
+        tokens.new.now }
 {
     depth.check(start_of(tokens))?;
     let below = depth.deeper();
@@ -239,7 +247,8 @@ pub fn starts_assignment(kind: &TokenKind) -> bool
 /// An assignment with at most `depth` nodes around it.
 pub fn assignment(depth: Depth, tokens: &mut &[Token]) -> Result<Assignment, Stuck>
     requires { depth ≤ 200 }
-    ensures { Reads (λ x rest. SpellsAssignment tokens.old.now (views.assignment x) rest × IsLow depth (assignment_reach (views.assignment x))) (StuckAssignment depth tokens.old.now) result tokens.new.now }
+    ensures { Reads (λ x rest. SpellsAssignment tokens.old.now (views.assignment x) rest
+        × IsLow depth (assignment_reach (views.assignment x))) (StuckAssignment depth tokens.old.now) result tokens.new.now }
 {
     let Some((token, _)) = tokens.split_first() else {
         return Err(Stuck::Unexpected);
@@ -262,7 +271,8 @@ pub fn assignment(depth: Depth, tokens: &mut &[Token]) -> Result<Assignment, Stu
 pub fn assigned(depth: Depth, read: Operand, tokens: &mut &[Token]) -> Result<Assignment, Stuck>
     requires deep { depth < 200 }
     requires low { IsLow (suc depth) (expression_reach (expression read.expr.value)) }
-    ensures { Reads (λ x rest. SpellsAssigned (expression read.expr.value) read.outer tokens.old.now (views.assignment x) rest × IsLow depth (assignment_reach (views.assignment x))) (StuckAssigned depth tokens.old.now) result tokens.new.now }
+    ensures { Reads (λ x rest. SpellsAssigned (expression read.expr.value) read.outer tokens.old.now (views.assignment x) rest
+        × IsLow depth (assignment_reach (views.assignment x))) (StuckAssigned depth tokens.old.now) result tokens.new.now }
 {
     if let Ok((operator, end)) = step_operator(tokens) {
         let span = join(read.outer, end);

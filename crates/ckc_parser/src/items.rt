@@ -2,8 +2,8 @@
 
 ghost use Rattle.std.specs.Prelude.{◌≡◌, false, map, None, MatchOption};
 ghost use Rattle.std.specs.Option.{option_map};
-ghost use Rattle.ckc_lexer_tokens.specs.declared.keyword.Keyword.TheVariants as keywords;
-ghost use Rattle.ckc_lexer_tokens.specs.declared.token.TokenKind.TheVariants as kinds;
+ghost use Rattle.ckc_lexer.specs.declared.keyword.Keyword.TheVariants as keywords;
+ghost use Rattle.ckc_lexer.specs.declared.token.TokenKind.TheVariants as kinds;
 ghost use Rattle.ckc_tree.specs.Types.{type_tree, type_name};
 ghost use Rattle.ckc_tree.specs.Expressions.{bounds};
 ghost use Rattle.ckc_tree.specs.Statements as statements;
@@ -12,24 +12,24 @@ ghost use Rattle.ckc_tree.specs.Heights.{type_reach, members_reach, result_reach
 ghost use Rattle.ckc_parser_grammar.specs.ItemGrammar.{SpellsTainted, SpellsKind, SpellsOptionalMark, SpellsMember, SpellsMembers, SpellsListed, SpellsParameters, SpellsResult, SpellsBody, SpellsRegion, SpellsItem, SpellsItems};
 ghost use Rattle.ckc_parser_grammar.specs.TypeGrammar.{SpellsType};
 ghost use Rattle.ckc_parser_grammar.specs.Failures.{IsLow};
-ghost use Rattle.ckc_parser_cursor.specs.Answers.{Reads, ReadsMark};
+ghost use Rattle.ckc_parser_grammar.specs.Answers.{Reads, ReadsMark};
 ghost use Rattle.ckc_parser_grammar.specs.StuckItems as marks;
 ghost use Rattle.ckc_parser_grammar.specs.StuckItems.{IsLowMember, StuckMember, StuckMembers, StuckListed, StuckParameters, StuckBody, StuckItem};
 ghost use Rattle.ckc_parser.specs.ItemReadings.{ReadsRegion, ReadsKind, SideAnswers, IsLed, IsBase, IsStructureHead, IsStructure, IsNamed, StuckNamed, StuckResult, IsHead};
 
 use crate::declarations::{Read, declarators, from_first, optional_bounds};
 use crate::statements::statements;
-use ckc_lexer_tokens::keyword::Keyword;
-use ckc_lexer_tokens::token::{CheckedScope, Token, TokenKind};
-use ckc_parser_cursor::depth::Depth;
-use ckc_parser_cursor::spans::join;
-use ckc_parser_cursor::stuck::Stuck;
-use ckc_parser_cursor::terminal::{Terminal, expect};
-use ckc_parser_cursor::tokens::{
+use crate::types::{stars, type_form, type_name};
+use ckc_lexer::keyword::Keyword;
+use ckc_lexer::token::{CheckedScope, Token, TokenKind};
+use ckc_parser_grammar::depth::Depth;
+use ckc_parser_grammar::spans::join;
+use ckc_parser_grammar::stuck::Stuck;
+use ckc_parser_grammar::terminal::{Terminal, expect};
+use ckc_parser_grammar::tokens::{
     close_brace, close_paren, comma, copied, identifier, name, open_brace, open_paren, semicolon,
 };
-use ckc_parser_cursor::words::mark;
-use ckc_parser_expressions::types::{stars, type_form, type_name};
+use ckc_parser_grammar::words::mark;
 use ckc_text::name::Name;
 use ckc_text::on_heap::push;
 use ckc_text::place::Span;
@@ -127,7 +127,8 @@ fn optional_mark(tokens: &mut &[Token]) -> Option<Mark>
 
 /// One item.
 pub fn item(alloc: Global, tokens: &mut &[Token]) -> Result<Item, Stuck>
-    ensures { Reads (λ x rest. SpellsItem tokens.old.now (views.item x) rest × IsLow 0 (item_reach (views.item x))) (StuckItem tokens.old.now) result tokens.new.now }
+    ensures { Reads (λ x rest. SpellsItem tokens.old.now (views.item x) rest × IsLow 0 (item_reach (views.item x)))
+        (StuckItem tokens.old.now) result tokens.new.now }
 {
     let whole: &[Token] = *tokens;
     if let Ok((region, span)) = region(tokens) {
@@ -275,7 +276,8 @@ fn structure(
 
 /// A type with stars and a name, and bounds where they are written. The span is that of all.
 fn member(alloc: Global, tokens: &mut &[Token]) -> Result<Member, Stuck>
-    ensures { Reads (λ x rest. SpellsMember tokens.old.now (type_name x.type_name) x.name (option_map bounds x.bounds) x.span rest × IsLowMember (type_name x.type_name) (option_map bounds x.bounds)) (StuckMember tokens.old.now) result tokens.new.now }
+    ensures { Reads (λ x rest. SpellsMember tokens.old.now (type_name x.type_name) x.name (option_map bounds x.bounds) x.span rest
+        × IsLowMember (type_name x.type_name) (option_map bounds x.bounds)) (StuckMember tokens.old.now) result tokens.new.now }
 {
     let whole: &[Token] = *tokens;
     let outermost = Depth::new(alloc);
@@ -294,7 +296,8 @@ fn member(alloc: Global, tokens: &mut &[Token]) -> Result<Member, Stuck>
 
 /// At least one member, each with its semicolon, and the brace behind them.
 fn members(alloc: Global, tokens: &mut &[Token]) -> Result<Vec<Member>, Stuck>
-    ensures { Reads (λ x rest. SpellsMembers tokens.old.now (map views.member x.items) rest × IsLow 0 (members_reach (map views.member x.items))) (StuckMembers tokens.old.now) result tokens.new.now }
+    ensures { Reads (λ x rest. SpellsMembers tokens.old.now (map views.member x.items) rest
+        × IsLow 0 (members_reach (map views.member x.items))) (StuckMembers tokens.old.now) result tokens.new.now }
 {
     let mut members = Vec::new(alloc);
     'members: loop {
@@ -330,7 +333,8 @@ fn named<'t>(tokens: &mut &'t [Token]) -> Result<Callee<'t>, Stuck>
 
 /// What a function returns, without stars.
 fn returned(alloc: Global, tokens: &mut &[Token]) -> Result<ResultForm, Stuck>
-    ensures { Reads (λ x rest. SpellsResult tokens.old.now (views.result_form x) rest × IsLow 0 (result_reach (views.result_form x))) (StuckResult tokens.old.now) result tokens.new.now }
+    ensures { Reads (λ x rest. SpellsResult tokens.old.now (views.result_form x) rest × IsLow 0 (result_reach (views.result_form x)))
+        (StuckResult tokens.old.now) result tokens.new.now }
 {
     if let Ok(span) = void_word(tokens) {
         return Ok(ResultForm::Void { span });
@@ -373,7 +377,8 @@ fn function(
 
 /// The parameters of a function, and the parenthesis behind them, whose span is given.
 fn parameters(alloc: Global, tokens: &mut &[Token]) -> Result<Read<Parameters>, Stuck>
-    ensures { Reads (λ x rest. SpellsParameters tokens.old.now (views.parameters x.form) x.span rest × IsLow 0 (parameters_reach (views.parameters x.form))) (StuckParameters tokens.old.now) result tokens.new.now }
+    ensures { Reads (λ x rest. SpellsParameters tokens.old.now (views.parameters x.form) x.span rest
+        × IsLow 0 (parameters_reach (views.parameters x.form))) (StuckParameters tokens.old.now) result tokens.new.now }
 {
     if let Ok(span) = close_paren(tokens) {
         let form = Parameters::Nothing;
@@ -405,7 +410,8 @@ fn parameter(member: Member) -> Parameter
 
 /// At least one parameter, and the parenthesis behind them, whose span is given.
 fn listed(alloc: Global, tokens: &mut &[Token]) -> Result<Read<Vec<Parameter>>, Stuck>
-    ensures { Reads (λ x rest. SpellsListed tokens.old.now (map views.parameter x.form.items) x.span rest × IsLow 0 (members_reach (map views.parameter x.form.items))) (StuckListed tokens.old.now) result tokens.new.now }
+    ensures { Reads (λ x rest. SpellsListed tokens.old.now (map views.parameter x.form.items) x.span rest
+        × IsLow 0 (members_reach (map views.parameter x.form.items))) (StuckListed tokens.old.now) result tokens.new.now }
 {
     let mut form = Vec::new(alloc);
     'listed: loop {
@@ -420,7 +426,8 @@ fn listed(alloc: Global, tokens: &mut &[Token]) -> Result<Read<Vec<Parameter>>, 
 
 /// What ends a function: a semicolon or a body, with its span.
 fn body(alloc: Global, tokens: &mut &[Token]) -> Result<Read<Option<Block>>, Stuck>
-    ensures { Reads (λ x rest. SpellsBody tokens.old.now (option_map views.body x.form) x.span rest × IsLow 0 (optional_body_reach (option_map views.body x.form))) (StuckBody tokens.old.now) result tokens.new.now }
+    ensures { Reads (λ x rest. SpellsBody tokens.old.now (option_map views.body x.form) x.span rest
+        × IsLow 0 (optional_body_reach (option_map views.body x.form))) (StuckBody tokens.old.now) result tokens.new.now }
 {
     if let Ok(span) = semicolon(tokens) {
         let form = None;

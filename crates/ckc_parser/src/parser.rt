@@ -1,7 +1,7 @@
 // Reading a tree from tokens.
 
 ghost use Rattle.std.specs.Prelude.{List, map, Err, MatchResult};
-ghost use Rattle.ckc_lexer_tokens.specs.declared.token.Token.{Token as TokenOf};
+ghost use Rattle.ckc_lexer.specs.declared.token.Token.{Token as TokenOf};
 ghost use Rattle.ckc_parser_grammar.specs.Parsing.{ParseAnswers};
 ghost use Rattle.ckc_parser_grammar.specs.Refusals.{FaultIs};
 ghost use Rattle.ckc_tree.specs.Items.{item};
@@ -9,12 +9,12 @@ ghost use Rattle.ckc_tree.specs.Heights.{items_reach};
 ghost use Rattle.ckc_parser_grammar.specs.ItemGrammar.{SpellsItems};
 ghost use Rattle.ckc_parser_grammar.specs.StuckItems.{StuckItems};
 ghost use Rattle.ckc_parser_grammar.specs.Failures.{IsLow};
-ghost use Rattle.ckc_parser_cursor.specs.Answers.{failure};
+ghost use Rattle.ckc_parser_grammar.specs.Answers.{failure};
 
 use crate::items::item;
-use ckc_lexer_tokens::token::Token;
-use ckc_parser_cursor::faults::{first_span, point};
-use ckc_parser_cursor::stuck::Stuck;
+use ckc_lexer::token::Token;
+use ckc_parser_grammar::faults::{first_span, point};
+use ckc_parser_grammar::stuck::Stuck;
 use ckc_text::code::Code;
 use ckc_text::fault::Refused;
 use ckc_text::on_heap::push;
@@ -47,7 +47,8 @@ pub fn parse(alloc: Global, source_len: u32, tokens: &[Token]) -> Result<Program
 
 /// All items.
 fn items(alloc: Global, tokens: &mut &[Token]) -> Result<Vec<Item>, Stuck>
-    ensures { MatchResult result (λ found. SpellsItems tokens.old.now (map item found.items) × IsLow 0 (items_reach (map item found.items))) (λ e. StuckItems tokens.old.now (failure e tokens.new.now)) }
+    ensures { MatchResult result (λ found. SpellsItems tokens.old.now (map item found.items) × IsLow 0 (items_reach (map item found.items)))
+        (λ e. StuckItems tokens.old.now (failure e tokens.new.now)) }
 {
     let mut items = Vec::new(alloc);
     'items: while let Some(_) = tokens.split_first() {

@@ -2,8 +2,8 @@
 
 ghost use Rattle.std.specs.Prelude.{◌≡◌, ℕ, ◌∷◌, ◌≤◌, ◌<◌, suc, true, false, map, None, Some};
 ghost use Rattle.std.specs.Option.{option_map};
-ghost use Rattle.ckc_lexer_tokens.specs.declared.keyword.Keyword.TheVariants as keywords;
-ghost use Rattle.ckc_lexer_tokens.specs.declared.token.TokenKind.TheVariants as kinds;
+ghost use Rattle.ckc_lexer.specs.declared.keyword.Keyword.TheVariants as keywords;
+ghost use Rattle.ckc_lexer.specs.declared.token.TokenKind.TheVariants as kinds;
 ghost use Rattle.ckc_tree.specs.Expressions.{expression};
 ghost use Rattle.ckc_tree.specs.Statements as views;
 ghost use Rattle.ckc_tree.specs.Items.{statement_list};
@@ -11,23 +11,23 @@ ghost use Rattle.ckc_tree.specs.Heights.{expression_reach, assignments_reach, fo
 ghost use Rattle.ckc_parser_grammar.specs.Tokens.{token, join, next_is};
 ghost use Rattle.ckc_parser_grammar.specs.StatementGrammar.{SpellsAssignments, SpellsForInitial, SpellsForStep, SpellsStatement, SpellsStatements};
 ghost use Rattle.ckc_parser_grammar.specs.Failures.{IsLow};
-ghost use Rattle.ckc_parser_cursor.specs.Answers.{Reads};
+ghost use Rattle.ckc_parser_grammar.specs.Answers.{Reads};
 ghost use Rattle.ckc_parser_grammar.specs.StuckTypes.{type_word, name_token};
 ghost use Rattle.ckc_parser_grammar.specs.StuckStatements.{plain_word, statement_word, assignment_word, StuckAssignments, StuckForInitial, StuckForCondition, StuckForStep, StuckCondition, StuckStatement, StuckStatements};
 ghost use Rattle.ckc_parser.specs.StatementReadings.{SpellsCondition, SpellsEnd, EndsCall, IsForHead, jump_word, jump};
 
 use crate::declarations::{Read, assigned, assignment, declaration, starts_assignment};
-use ckc_lexer_tokens::keyword::Keyword;
-use ckc_lexer_tokens::token::{Token, TokenKind};
-use ckc_parser_cursor::alternative::else_word;
-use ckc_parser_cursor::depth::Depth;
-use ckc_parser_cursor::kinds;
-use ckc_parser_cursor::spans::join;
-use ckc_parser_cursor::stuck::Stuck;
-use ckc_parser_cursor::tokens::{close_brace, close_paren, open_brace, open_paren, semicolon};
-use ckc_parser_cursor::words::mark;
-use ckc_parser_expressions::expressions::{expression, unary};
-use ckc_parser_expressions::types::starts_type;
+use crate::expressions::{expression, unary};
+use crate::types::starts_type;
+use ckc_lexer::keyword::Keyword;
+use ckc_lexer::token::{Token, TokenKind};
+use ckc_parser_grammar::depth::Depth;
+use ckc_parser_grammar::kinds;
+use ckc_parser_grammar::spans::join;
+use ckc_parser_grammar::stuck::Stuck;
+use ckc_parser_grammar::terminal::{Terminal, expect};
+use ckc_parser_grammar::tokens::{close_brace, close_paren, open_brace, open_paren, semicolon};
+use ckc_parser_grammar::words::mark;
 use ckc_text::on_heap::{boxed, push};
 use ckc_text::place::Span;
 use ckc_tree::expr::Expr;
@@ -63,7 +63,8 @@ fn starts_statement(kind: &TokenKind) -> bool
 #[cycle(statements)]
 pub fn statement(depth: Depth, tokens: &mut &[Token]) -> Result<Box<Stmt>, Stuck>
     requires { depth ≤ 200 }
-    ensures { Reads (λ x rest. SpellsStatement tokens.old.now (views.statement x.value) rest × IsLow depth (statement_reach (views.statement x.value))) (StuckStatement depth tokens.old.now) result tokens.new.now }
+    ensures { Reads (λ x rest. SpellsStatement tokens.old.now (views.statement x.value) rest
+        × IsLow depth (statement_reach (views.statement x.value))) (StuckStatement depth tokens.old.now) result tokens.new.now }
 {
     let Some((token, _)) = tokens.split_first() else {
         return Err(Stuck::Unexpected);
@@ -86,7 +87,8 @@ pub fn statement(depth: Depth, tokens: &mut &[Token]) -> Result<Box<Stmt>, Stuck
 fn plain(depth: Depth, tokens: &mut &[Token]) -> Result<Box<Stmt>, Stuck>
     requires deep { depth < 200 }
     requires word { next_is plain_word tokens.old.now ≡ true }
-    ensures { Reads (λ x rest. SpellsStatement tokens.old.now (views.statement x.value) rest × IsLow depth (statement_reach (views.statement x.value))) (StuckStatement depth tokens.old.now) result tokens.new.now }
+    ensures { Reads (λ x rest. SpellsStatement tokens.old.now (views.statement x.value) rest
+        × IsLow depth (statement_reach (views.statement x.value))) (StuckStatement depth tokens.old.now) result tokens.new.now }
 {
     let below = depth.deeper();
     if let Ok((mark, start)) = mark(tokens) {
@@ -123,7 +125,9 @@ fn jump(
     start: Span,
     tokens: &mut &[Token],
 ) -> Result<Box<Stmt>, Stuck>
-    ensures { (depth : ℕ) → depth < 200 → Reads (λ x rest. SpellsStatement (token (jump_word is_break) start ∷ tokens.old.now) (views.statement x.value) rest × IsLow depth (statement_reach (views.statement x.value))) (StuckStatement depth (token (jump_word is_break) start ∷ tokens.old.now)) result tokens.new.now }
+    ensures { (depth : ℕ) → depth < 200 → Reads (λ x rest. SpellsStatement (token (jump_word is_break) start ∷ tokens.old.now)
+        (views.statement x.value) rest × IsLow depth (statement_reach (views.statement x.value)))
+        (StuckStatement depth (token (jump_word is_break) start ∷ tokens.old.now)) result tokens.new.now }
 {
     let end = semicolon(tokens)?;
     let span = join(start, end);
@@ -145,7 +149,8 @@ fn jumped(is_break: bool, span: Span) -> Stmt
 #[cycle(statements)]
 pub fn statements(depth: Depth, tokens: &mut &[Token]) -> Result<Read<Vec<Stmt>>, Stuck>
     requires { depth ≤ 200 }
-    ensures { Reads (λ x rest. SpellsStatements tokens.old.now (statement_list x.form.items) x.span rest × IsLow depth (statements_reach (statement_list x.form.items))) (StuckStatements depth tokens.old.now) result tokens.new.now }
+    ensures { Reads (λ x rest. SpellsStatements tokens.old.now (statement_list x.form.items) x.span rest
+        × IsLow depth (statements_reach (statement_list x.form.items))) (StuckStatements depth tokens.old.now) result tokens.new.now }
 {
     let mut form = Vec::new(depth.alloc());
     'statements: loop {
@@ -173,7 +178,9 @@ fn block(mark: Option<Mark>, start: Span, read: Read<Vec<Stmt>>) -> Stmt
 /// Assignments with a semicolon behind each, and the brace behind them, whose span is given.
 fn assignments(depth: Depth, tokens: &mut &[Token]) -> Result<Read<Vec<Assignment>>, Stuck>
     requires { depth ≤ 200 }
-    ensures { Reads (λ x rest. SpellsAssignments tokens.old.now (map views.assignment x.form.items) x.span rest × IsLow depth (assignments_reach (map views.assignment x.form.items))) (StuckAssignments depth tokens.old.now) result tokens.new.now }
+    ensures { Reads (λ x rest. SpellsAssignments tokens.old.now (map views.assignment x.form.items) x.span rest
+        × IsLow depth (assignments_reach (map views.assignment x.form.items))) (StuckAssignments depth tokens.old.now) result
+        tokens.new.now }
 {
     let mut form = Vec::new(depth.alloc());
     'assignments: loop {
@@ -189,7 +196,9 @@ fn assignments(depth: Depth, tokens: &mut &[Token]) -> Result<Read<Vec<Assignmen
 /// What stands behind the word of a bundle.
 fn bundle(depth: Depth, start: Span, tokens: &mut &[Token]) -> Result<Box<Stmt>, Stuck>
     requires { depth < 200 }
-    ensures { Reads (λ x rest. SpellsStatement (token (kinds.Keyword keywords.Bundled) start ∷ tokens.old.now) (views.statement x.value) rest × IsLow depth (statement_reach (views.statement x.value))) (StuckStatement depth (token (kinds.Keyword keywords.Bundled) start ∷ tokens.old.now)) result tokens.new.now }
+    ensures { Reads (λ x rest. SpellsStatement (token (kinds.Keyword keywords.Bundled) start ∷ tokens.old.now) (views.statement x.value)
+        rest × IsLow depth (statement_reach (views.statement x.value)))
+        (StuckStatement depth (token (kinds.Keyword keywords.Bundled) start ∷ tokens.old.now)) result tokens.new.now }
 {
     open_brace(tokens)?;
     let read = assignments(depth.deeper(), tokens)?;
@@ -202,7 +211,8 @@ fn bundle(depth: Depth, start: Span, tokens: &mut &[Token]) -> Result<Box<Stmt>,
 fn declared(depth: Depth, tokens: &mut &[Token]) -> Result<Box<Stmt>, Stuck>
     requires deep { depth < 200 }
     requires typed { next_is type_word tokens.old.now ≡ true }
-    ensures { Reads (λ x rest. SpellsStatement tokens.old.now (views.statement x.value) rest × IsLow depth (statement_reach (views.statement x.value))) (StuckStatement depth tokens.old.now) result tokens.new.now }
+    ensures { Reads (λ x rest. SpellsStatement tokens.old.now (views.statement x.value) rest
+        × IsLow depth (statement_reach (views.statement x.value))) (StuckStatement depth tokens.old.now) result tokens.new.now }
 {
     let declaration = declaration(depth, tokens)?;
     let end = semicolon(tokens)?;
@@ -214,7 +224,8 @@ fn declared(depth: Depth, tokens: &mut &[Token]) -> Result<Box<Stmt>, Stuck>
 fn stored_or_called(depth: Depth, tokens: &mut &[Token]) -> Result<Box<Stmt>, Stuck>
     requires deep { depth < 200 }
     requires word { next_is assignment_word tokens.old.now ≡ true }
-    ensures { Reads (λ x rest. SpellsStatement tokens.old.now (views.statement x.value) rest × IsLow depth (statement_reach (views.statement x.value))) (StuckStatement depth tokens.old.now) result tokens.new.now }
+    ensures { Reads (λ x rest. SpellsStatement tokens.old.now (views.statement x.value) rest
+        × IsLow depth (statement_reach (views.statement x.value))) (StuckStatement depth tokens.old.now) result tokens.new.now }
 {
     if next_is_name(tokens) {
         named(depth, tokens)
@@ -238,7 +249,8 @@ fn stored(depth: Depth, tokens: &mut &[Token]) -> Result<Box<Stmt>, Stuck>
     requires deep { depth < 200 }
     requires word { next_is assignment_word tokens.old.now ≡ true }
     requires unnamed { next_is name_token tokens.old.now ≡ false }
-    ensures { Reads (λ x rest. SpellsStatement tokens.old.now (views.statement x.value) rest × IsLow depth (statement_reach (views.statement x.value))) (StuckStatement depth tokens.old.now) result tokens.new.now }
+    ensures { Reads (λ x rest. SpellsStatement tokens.old.now (views.statement x.value) rest
+        × IsLow depth (statement_reach (views.statement x.value))) (StuckStatement depth tokens.old.now) result tokens.new.now }
 {
     let assignment = assignment(depth, tokens)?;
     let end = semicolon(tokens)?;
@@ -264,7 +276,8 @@ fn call_end(target: &Expr, tokens: &mut &[Token]) -> Option<Span>
 fn named(depth: Depth, tokens: &mut &[Token]) -> Result<Box<Stmt>, Stuck>
     requires deep { depth < 200 }
     requires named { next_is name_token tokens.old.now ≡ true }
-    ensures { Reads (λ x rest. SpellsStatement tokens.old.now (views.statement x.value) rest × IsLow depth (statement_reach (views.statement x.value))) (StuckStatement depth tokens.old.now) result tokens.new.now }
+    ensures { Reads (λ x rest. SpellsStatement tokens.old.now (views.statement x.value) rest
+        × IsLow depth (statement_reach (views.statement x.value))) (StuckStatement depth tokens.old.now) result tokens.new.now }
 {
     let target = unary(depth.deeper(), tokens)?;
     if let Some(end) = call_end(&target.expr, tokens) {
@@ -281,7 +294,8 @@ fn named(depth: Depth, tokens: &mut &[Token]) -> Result<Box<Stmt>, Stuck>
 /// An expression in parentheses that belong to a statement.
 fn condition(depth: Depth, tokens: &mut &[Token]) -> Result<Box<Expr>, Stuck>
     requires { depth ≤ 200 }
-    ensures { Reads (λ x rest. SpellsCondition tokens.old.now (expression x.value) rest × IsLow depth (expression_reach (expression x.value))) (StuckCondition depth tokens.old.now) result tokens.new.now }
+    ensures { Reads (λ x rest. SpellsCondition tokens.old.now (expression x.value) rest
+        × IsLow depth (expression_reach (expression x.value))) (StuckCondition depth tokens.old.now) result tokens.new.now }
 {
     open_paren(tokens)?;
     let read = expression(depth, tokens)?;
@@ -293,12 +307,15 @@ fn condition(depth: Depth, tokens: &mut &[Token]) -> Result<Box<Expr>, Stuck>
 #[cycle(statements)]
 fn if_statement(depth: Depth, start: Span, tokens: &mut &[Token]) -> Result<Box<Stmt>, Stuck>
     requires { depth < 200 }
-    ensures { Reads (λ x rest. SpellsStatement (token (kinds.Keyword keywords.If) start ∷ tokens.old.now) (views.statement x.value) rest × IsLow depth (statement_reach (views.statement x.value))) (StuckStatement depth (token (kinds.Keyword keywords.If) start ∷ tokens.old.now)) result tokens.new.now }
+    ensures { Reads (λ x rest. SpellsStatement (token (kinds.Keyword keywords.If) start ∷ tokens.old.now) (views.statement x.value) rest
+        × IsLow depth (statement_reach (views.statement x.value))) (StuckStatement depth
+        (token (kinds.Keyword keywords.If) start ∷ tokens.old.now)) result tokens.new.now }
 {
     let below = depth.deeper();
     let condition = condition(below, tokens)?;
     let consequent = statement(below, tokens)?;
-    if let Ok(_) = else_word(tokens) {
+    // The innermost `if` that an `else` stands behind takes it.
+    if let Ok(_) = expect(Terminal::Else, tokens) {
         let alternative = statement(below, tokens)?;
         let span = join(start, alternative.span());
         return Ok(depth.boxed(if_else(condition, consequent, alternative, span))?);
@@ -335,7 +352,9 @@ fn if_else(condition: Box<Expr>, consequent: Box<Stmt>, alternative: Box<Stmt>, 
 #[cycle(statements)]
 fn while_statement(depth: Depth, start: Span, tokens: &mut &[Token]) -> Result<Box<Stmt>, Stuck>
     requires { depth < 200 }
-    ensures { Reads (λ x rest. SpellsStatement (token (kinds.Keyword keywords.While) start ∷ tokens.old.now) (views.statement x.value) rest × IsLow depth (statement_reach (views.statement x.value))) (StuckStatement depth (token (kinds.Keyword keywords.While) start ∷ tokens.old.now)) result tokens.new.now }
+    ensures { Reads (λ x rest. SpellsStatement (token (kinds.Keyword keywords.While) start ∷ tokens.old.now) (views.statement x.value) rest
+        × IsLow depth (statement_reach (views.statement x.value))) (StuckStatement depth
+        (token (kinds.Keyword keywords.While) start ∷ tokens.old.now)) result tokens.new.now }
 {
     let below = depth.deeper();
     let condition = condition(below, tokens)?;
@@ -358,7 +377,8 @@ fn while_loop(condition: Box<Expr>, body: Box<Stmt>, span: Span) -> Stmt
 /// The first part of the head of a `for`, and its semicolon.
 fn for_initial(depth: Depth, tokens: &mut &[Token]) -> Result<ForInitial, Stuck>
     requires { depth ≤ 200 }
-    ensures { Reads (λ x rest. SpellsForInitial tokens.old.now (views.for_initial x) rest × IsLow depth (for_initial_reach (views.for_initial x))) (StuckForInitial depth tokens.old.now) result tokens.new.now }
+    ensures { Reads (λ x rest. SpellsForInitial tokens.old.now (views.for_initial x) rest
+        × IsLow depth (for_initial_reach (views.for_initial x))) (StuckForInitial depth tokens.old.now) result tokens.new.now }
 {
     if let Ok(_) = semicolon(tokens) {
         return Ok(ForInitial::Nothing);
@@ -386,7 +406,9 @@ fn next_starts_type(tokens: &[Token]) -> bool
 /// An expression that may be left out before a semicolon, and the semicolon, whose span is given.
 fn optional_value(depth: Depth, tokens: &mut &[Token]) -> Result<Read<Option<Box<Expr>>>, Stuck>
     requires { depth ≤ 200 }
-    ensures { Reads (λ x rest. SpellsEnd tokens.old.now (option_map views.on_heap x.form) x.span rest × IsLow depth (optional_expression_reach (option_map views.on_heap x.form))) (StuckForCondition depth tokens.old.now) result tokens.new.now }
+    ensures { Reads (λ x rest. SpellsEnd tokens.old.now (option_map views.on_heap x.form) x.span rest
+        × IsLow depth (optional_expression_reach (option_map views.on_heap x.form))) (StuckForCondition depth tokens.old.now) result
+        tokens.new.now }
 {
     if let Ok(span) = semicolon(tokens) {
         let form = None;
@@ -401,7 +423,9 @@ fn optional_value(depth: Depth, tokens: &mut &[Token]) -> Result<Read<Option<Box
 /// The last part of the head of a `for`, and its parenthesis.
 fn for_step(depth: Depth, tokens: &mut &[Token]) -> Result<Option<Assignment>, Stuck>
     requires { depth ≤ 200 }
-    ensures { Reads (λ x rest. SpellsForStep tokens.old.now (option_map views.assignment x) rest × IsLow depth (optional_assignment_reach (option_map views.assignment x))) (StuckForStep depth tokens.old.now) result tokens.new.now }
+    ensures { Reads (λ x rest. SpellsForStep tokens.old.now (option_map views.assignment x) rest
+        × IsLow depth (optional_assignment_reach (option_map views.assignment x))) (StuckForStep depth tokens.old.now) result
+        tokens.new.now }
 {
     if let Ok(_) = close_paren(tokens) {
         return Ok(None);
@@ -422,7 +446,9 @@ struct ForHead {
 /// What stands between the word `for` and its body.
 fn for_head(depth: Depth, start: Span, tokens: &mut &[Token]) -> Result<Box<ForHead>, Stuck>
     requires { depth < 200 }
-    ensures { Reads (λ x rest. IsForHead depth tokens.old.now (views.for_initial x.value.initial) (option_map views.on_heap x.value.condition) (option_map views.assignment x.value.step) rest) (StuckStatement depth (token (kinds.Keyword keywords.For) start ∷ tokens.old.now)) result tokens.new.now }
+    ensures { Reads (λ x rest. IsForHead depth tokens.old.now (views.for_initial x.value.initial)
+        (option_map views.on_heap x.value.condition) (option_map views.assignment x.value.step) rest)
+        (StuckStatement depth (token (kinds.Keyword keywords.For) start ∷ tokens.old.now)) result tokens.new.now }
 {
     open_paren(tokens)?;
     let below = depth.deeper();
@@ -442,7 +468,9 @@ fn for_head(depth: Depth, start: Span, tokens: &mut &[Token]) -> Result<Box<ForH
 #[cycle(statements)]
 fn for_statement(depth: Depth, start: Span, tokens: &mut &[Token]) -> Result<Box<Stmt>, Stuck>
     requires { depth < 200 }
-    ensures { Reads (λ x rest. SpellsStatement (token (kinds.Keyword keywords.For) start ∷ tokens.old.now) (views.statement x.value) rest × IsLow depth (statement_reach (views.statement x.value))) (StuckStatement depth (token (kinds.Keyword keywords.For) start ∷ tokens.old.now)) result tokens.new.now }
+    ensures { Reads (λ x rest. SpellsStatement (token (kinds.Keyword keywords.For) start ∷ tokens.old.now) (views.statement x.value) rest
+        × IsLow depth (statement_reach (views.statement x.value))) (StuckStatement depth
+        (token (kinds.Keyword keywords.For) start ∷ tokens.old.now)) result tokens.new.now }
 {
     let head = for_head(depth, start, tokens)?;
     let body = statement(depth.deeper(), tokens)?;
@@ -452,7 +480,8 @@ fn for_statement(depth: Depth, start: Span, tokens: &mut &[Token]) -> Result<Box
 
 /// A `for` with its body.
 fn for_loop(head: ForHead, body: Box<Stmt>, span: Span) -> Stmt
-    ensures { views.statement result ≡ views.For (views.for_initial head.initial) (option_map views.on_heap head.condition) (option_map views.assignment head.step) (views.statement body.value) span }
+    ensures { views.statement result ≡ views.For (views.for_initial head.initial) (option_map views.on_heap head.condition)
+        (option_map views.assignment head.step) (views.statement body.value) span }
 {
     Stmt::For {
         initial: head.initial,
@@ -466,7 +495,9 @@ fn for_loop(head: ForHead, body: Box<Stmt>, span: Span) -> Stmt
 /// What stands behind the word `return`.
 fn return_statement(depth: Depth, start: Span, tokens: &mut &[Token]) -> Result<Box<Stmt>, Stuck>
     requires { depth < 200 }
-    ensures { Reads (λ x rest. SpellsStatement (token (kinds.Keyword keywords.Return) start ∷ tokens.old.now) (views.statement x.value) rest × IsLow depth (statement_reach (views.statement x.value))) (StuckStatement depth (token (kinds.Keyword keywords.Return) start ∷ tokens.old.now)) result tokens.new.now }
+    ensures { Reads (λ x rest. SpellsStatement (token (kinds.Keyword keywords.Return) start ∷ tokens.old.now) (views.statement x.value) rest
+        × IsLow depth (statement_reach (views.statement x.value))) (StuckStatement depth
+        (token (kinds.Keyword keywords.Return) start ∷ tokens.old.now)) result tokens.new.now }
 {
     let read = optional_value(depth.deeper(), tokens)?;
     let value = read.form;

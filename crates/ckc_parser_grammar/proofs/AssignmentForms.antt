@@ -2,9 +2,9 @@
 use Rattle.std.proofs.Common.{◌≡◌, ◌≤◌, ◌<◌, ◌||◌, ◌⊎◌, inl, ℕ, zero, suc, length, Bool, true, false, List, [], ◌∷◌, refl, sym, ap, subst, ◌∙◌, arith, Some}
 use Rattle.std.specs.Option.{is_some}
 use Rattle.ckc_text.specs.declared.place.Span.{Span}
-use Rattle.ckc_lexer_tokens.specs.declared.token.Token.{Token}
-use Rattle.ckc_lexer_tokens.specs.declared.token.TokenKind.{TokenKind}
-use Rattle.ckc_lexer_tokens.specs.declared.token.TokenKind.TheVariants as kinds
+use Rattle.ckc_lexer.specs.declared.token.Token.{Token}
+use Rattle.ckc_lexer.specs.declared.token.TokenKind.{TokenKind}
+use Rattle.ckc_lexer.specs.declared.token.TokenKind.TheVariants as kinds
 use Rattle.ckc_tree.specs.declared.stmt.StoreOperator.{StoreOperator}
 use Rattle.ckc_tree.specs.declared.stmt.StepOperator.{StepOperator}
 use Rattle.ckc_tree.specs.Expressions.{Expression}
@@ -33,7 +33,7 @@ use Rattle.ckc_parser_grammar.proofs.ExpressionForms.{some_node, UnaryS, unary, 
 use Rattle.ckc_parser_grammar.proofs.ExpressionFails.{binary_fails, unary_fails}
 use Rattle.ckc_parser_grammar.proofs.MoreForms.{is_it, head_all, Starts, PutsFirst, Apart, next_apart, or_right, starts_whole, fails_unstarted, list_exact, PutS, put, put_all, put_node, fails_put, fails_put_deep, seq_first, begun_node, begun_nothing, beside_high, reach_is}
 use Rattle.ckc_parser_grammar.proofs.Starting.{unary_starts, unary_at, unary_shorter, unary_first, unread}
-use Rattle.ckc_parser_grammar.proofs.Words.{store_step, each_store_operator, each_step_operator}
+use Rattle.ckc_parser_grammar.proofs.OneMeaning.{store_step, each_store_operator, each_step_operator}
 
 -- ---- one assignment, which is a node
 

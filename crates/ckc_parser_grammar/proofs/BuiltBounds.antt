@@ -1,9 +1,9 @@
 -- Bounds as a form that is built of others, by their first word.
 use Rattle.std.proofs.Common.{◌≡◌, ◌<◌, ℕ, zero, suc, length, List, ◌∷◌, codes, refl, sym, ap, subst, ◌∙◌, arith}
 use Rattle.ckc_text.specs.declared.place.Span.{Span}
-use Rattle.ckc_lexer_tokens.specs.declared.token.Token.{Token}
-use Rattle.ckc_lexer_tokens.specs.declared.token.TokenKind.{TokenKind}
-use Rattle.ckc_lexer_tokens.specs.declared.token.TokenKind.TheVariants as kinds
+use Rattle.ckc_lexer.specs.declared.token.Token.{Token}
+use Rattle.ckc_lexer.specs.declared.token.TokenKind.{TokenKind}
+use Rattle.ckc_lexer.specs.declared.token.TokenKind.TheVariants as kinds
 use Rattle.ckc_tree.specs.Expressions as trees
 use Rattle.ckc_tree.specs.Heights.{Reach, nowhere, expression_reach}
 use Rattle.ckc_parser_grammar.specs.Tokens.{token, identifier}

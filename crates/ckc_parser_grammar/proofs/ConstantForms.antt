@@ -2,9 +2,9 @@
 use Rattle.std.proofs.Common.{◌≡◌, ◌≤◌, ℕ, zero, suc, true, false, List, ◌∷◌, refl, subst, ap, Some}
 use Rattle.std.specs.Option.{is_some}
 use Rattle.ckc_text.specs.declared.place.Span.{Span}
-use Rattle.ckc_lexer_tokens.specs.declared.token.Token.{Token}
-use Rattle.ckc_lexer_tokens.specs.declared.token.TokenKind.{TokenKind}
-use Rattle.ckc_lexer_tokens.specs.declared.token.TokenKind.TheVariants as kinds
+use Rattle.ckc_lexer.specs.declared.token.Token.{Token}
+use Rattle.ckc_lexer.specs.declared.token.TokenKind.{TokenKind}
+use Rattle.ckc_lexer.specs.declared.token.TokenKind.TheVariants as kinds
 use Rattle.ckc_tree.specs.declared.stmt.Constant.{Constant}
 use Rattle.ckc_tree.specs.declared.stmt.SignedConstant.{SignedConstant}
 use Rattle.ckc_tree.specs.Heights.{Reach, nowhere}
@@ -21,7 +21,7 @@ use Rattle.ckc_parser_grammar.proofs.Ahead.{never}
 use Rattle.ckc_parser_grammar.proofs.Failing as failing
 use Rattle.ckc_parser_grammar.proofs.Failing.{Fails, fails_at_first, fails_as, fails_headed, fails_unheaded}
 use Rattle.ckc_parser_grammar.proofs.MoreForms.{head_all, LeadS, LeadB, lead, in_lead, behind_lead, lead_exact, fails_in_lead, fails_behind_lead}
-use Rattle.ckc_parser_grammar.proofs.Words.{says_nothing, each_constant}
+use Rattle.ckc_parser_grammar.proofs.OneMeaning.{says_nothing, each_constant}
 
 -- ---- one constant with its sign
 

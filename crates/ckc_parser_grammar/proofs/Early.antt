@@ -1,9 +1,9 @@
 -- The source that ends early spells no tree.
 use Rattle.std.proofs.Common.{ℕ, ◌≤◌, List, [], ◌∷◌, Option, refl, sym, ap, subst, arith}
 use Rattle.ckc_text.specs.declared.place.Span.{Span}
-use Rattle.ckc_lexer_tokens.specs.declared.token.Token.{Token}
-use Rattle.ckc_lexer_tokens.specs.declared.keyword.Keyword.TheVariants as keywords
-use Rattle.ckc_lexer_tokens.specs.declared.token.TokenKind.TheVariants as kinds
+use Rattle.ckc_lexer.specs.declared.token.Token.{Token}
+use Rattle.ckc_lexer.specs.declared.keyword.Keyword.TheVariants as keywords
+use Rattle.ckc_lexer.specs.declared.token.TokenKind.TheVariants as kinds
 use Rattle.ckc_tree.specs.Statements.{Statement, Statements}
 use Rattle.ckc_tree.specs.Items.{Item, Tree, Body}
 use Rattle.ckc_parser_grammar.specs.Tokens.{token, from_first}
@@ -19,7 +19,7 @@ use Rattle.ckc_parser_grammar.proofs.OneExpression.{behind, after}
 use Rattle.ckc_parser_grammar.proofs.Roles.{statement_starts}
 use Rattle.ckc_parser_grammar.proofs.OneStatement.{statement_same, optional_bounds_same}
 use Rattle.ckc_parser_grammar.proofs.OneItem.{not_call, parameters_same, optional_mark_same}
-use Rattle.ckc_parser_grammar.proofs.Words.{says_nothing}
+use Rattle.ckc_parser_grammar.proofs.OneMeaning.{says_nothing}
 
 no_statements : {r : List Token} {x : Statements} {t : Span} → SpellsStatements [] x t r → ⊥
 no_statements (s.more d m) = absurd (omega (arith, statement_starts d))

@@ -3,9 +3,9 @@ use Rattle.std.proofs.Common.{◌≡◌, ◌≤◌, ◌<◌, ℕ, zero, suc, len
 use Rattle.std.specs.Option.{is_some}
 use Rattle.std.proofs.lemmas.Bool.{eq-eqb}
 use Rattle.ckc_text.specs.declared.place.Span.{Span}
-use Rattle.ckc_lexer_tokens.specs.declared.token.Token.{Token}
-use Rattle.ckc_lexer_tokens.specs.declared.token.TokenKind.{TokenKind}
-use Rattle.ckc_lexer_tokens.specs.declared.token.TokenKind.TheVariants as kinds
+use Rattle.ckc_lexer.specs.declared.token.Token.{Token}
+use Rattle.ckc_lexer.specs.declared.token.TokenKind.{TokenKind}
+use Rattle.ckc_lexer.specs.declared.token.TokenKind.TheVariants as kinds
 use Rattle.ckc_tree.specs.declared.expr.UnaryOperator.{UnaryOperator}
 use Rattle.ckc_tree.specs.declared.expr.BinaryOperator.{BinaryOperator}
 use Rattle.ckc_tree.specs.Expressions as trees
@@ -30,7 +30,7 @@ use Rattle.ckc_parser_grammar.proofs.ExpressionLinks.{Value, reach, BinaryS, bin
 use Rattle.ckc_parser_grammar.proofs.PrimaryForms as primaries
 use Rattle.ckc_parser_grammar.proofs.PrimaryForms.{PrimaryS, primary, ArgumentsS, arguments, MoreS, MoreB, nothing_more, BoundsS, more_begin, arguments_begin, with_nothing}
 use Rattle.ckc_parser_grammar.proofs.BuiltBounds.{bounds_below}
-use Rattle.ckc_parser_grammar.proofs.Words.{some_word}
+use Rattle.ckc_parser_grammar.proofs.OneMeaning.{some_word}
 
 pub data UnaryS : List Token → List Token → Reach → Type 0 where
   unary : {e : Expression} {o : Span} {ts m : List Token} → SpellsUnary ts e o m → UnaryS ts m (expression_reach e)

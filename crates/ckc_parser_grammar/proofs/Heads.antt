@@ -1,10 +1,10 @@
 -- The token with which an expression starts.
 use Rattle.std.proofs.Common.{◌≡◌, ℕ, ◌≤◌, List, [], ◌∷◌, refl, arith, Some}
 use Rattle.ckc_text.specs.declared.place.Span.{Span}
-use Rattle.ckc_lexer_tokens.specs.declared.token.Token.{Token}
-use Rattle.ckc_lexer_tokens.specs.declared.token.TokenKind.{TokenKind}
-use Rattle.ckc_lexer_tokens.specs.declared.keyword.Keyword.TheVariants as keywords
-use Rattle.ckc_lexer_tokens.specs.declared.token.TokenKind.TheVariants as kinds
+use Rattle.ckc_lexer.specs.declared.token.Token.{Token}
+use Rattle.ckc_lexer.specs.declared.token.TokenKind.{TokenKind}
+use Rattle.ckc_lexer.specs.declared.keyword.Keyword.TheVariants as keywords
+use Rattle.ckc_lexer.specs.declared.token.TokenKind.TheVariants as kinds
 use Rattle.ckc_tree.specs.declared.expr.UnaryOperator.{UnaryOperator}
 use Rattle.ckc_tree.specs.declared.expr.CastWord.{CastWord}
 use Rattle.ckc_tree.specs.declared.expr.MallocWord.{MallocWord}
@@ -13,7 +13,7 @@ use Rattle.ckc_tree.specs.Expressions.{Expression}
 use Rattle.ckc_parser_grammar.specs.Tokens.{token, unary_operator_of, cast_word_of, malloc_word_of, calloc_word_of}
 use Rattle.ckc_parser_grammar.specs.ExpressionGrammar as grammar
 use Rattle.ckc_parser_grammar.specs.ExpressionGrammar.{SpellsBinary, SpellsUnary, SpellsPrimary, SpellsCall}
-use Rattle.ckc_parser_grammar.proofs.Words.{each_unary_operator, each_cast_word, each_malloc_word, each_calloc_word}
+use Rattle.ckc_parser_grammar.proofs.OneMeaning.{each_unary_operator, each_cast_word, each_malloc_word, each_calloc_word}
 
 -- which of the smallest expressions a token starts: 0 for none, and 10 for an operator before an operand
 abbrev pub class : TokenKind → ℕ

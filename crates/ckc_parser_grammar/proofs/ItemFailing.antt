@@ -1,11 +1,11 @@
 -- Items: reading them goes one way, and where they are stuck they fail.
 use Rattle.std.proofs.Common.{◌≡◌, ◌<◌, ℕ, length, Bool, true, false, List, [], ◌∷◌, Option, refl, sym, ap, subst, arith}
 use Rattle.ckc_text.specs.declared.place.Span.{Span}
-use Rattle.ckc_lexer_tokens.specs.declared.token.Token.{Token}
-use Rattle.ckc_lexer_tokens.specs.declared.token.TokenKind.{TokenKind}
-use Rattle.ckc_lexer_tokens.specs.declared.keyword.Keyword.TheVariants as keywords
-use Rattle.ckc_lexer_tokens.specs.declared.token.TokenKind.TheVariants as kinds
-use Rattle.ckc_lexer_tokens.specs.declared.token.CheckedScope.{CheckedScope}
+use Rattle.ckc_lexer.specs.declared.token.Token.{Token}
+use Rattle.ckc_lexer.specs.declared.token.TokenKind.{TokenKind}
+use Rattle.ckc_lexer.specs.declared.keyword.Keyword.TheVariants as keywords
+use Rattle.ckc_lexer.specs.declared.token.TokenKind.TheVariants as kinds
+use Rattle.ckc_lexer.specs.declared.token.CheckedScope.{CheckedScope}
 use Rattle.ckc_tree.specs.declared.stmt.Mark.{Mark}
 use Rattle.ckc_tree.specs.declared.item.FunctionKind.{FunctionKind}
 use Rattle.ckc_tree.specs.Types.{TypeTree}
@@ -46,7 +46,7 @@ use Rattle.ckc_parser_grammar.proofs.Pasts.{lead_past, lead_whole, longest_past,
 use Rattle.ckc_parser_grammar.proofs.ItemForms as forms
 use Rattle.ckc_parser_grammar.proofs.ItemForms.{tainted, tainted_exact, kinded, kind_exact, marked, unmarked, word, mark_exact, returned, result_exact, void, value, opened_exact, inside_exact, ending_exact, called_exact, typed_exact, variables_exact, closed_exact, InsideS, InsideB, CalledS, CalledB, GivingS, GivingB, VariablesS, VariablesB, TypedS, TypedB, ClosedS, ClosedB, TaggedS, TaggedB, GlobalB, StructureB, ItemS, item, FunctionS, FunctionB, GlobalS, StructureS, SortedS, SortedB, region, item_to, item_into, item_from, sorted_ended, sorted_nothing}
 use Rattle.ckc_parser_grammar.proofs.ItemPasts.{type_less, tainted_less, mark_less, result_less, typed_none, tainted_long, typed_role, structure_into, structure_all, structure_back, variables_into, variables_all, variables_back, alone_into, alone_all, alone_back, call_into, call_all, call_back}
-use Rattle.ckc_parser_grammar.proofs.Words.{says_nothing, pointer_struct}
+use Rattle.ckc_parser_grammar.proofs.OneMeaning.{says_nothing, pointer_struct}
 
 -- ---- which item it is
 

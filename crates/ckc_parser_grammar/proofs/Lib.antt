@@ -1,4 +1,7 @@
-pub mod Words
+pub mod Readings
+pub mod SingleWords
+mod Terminals
+pub mod OneMeaning
 pub mod Ahead
 mod OneType
 mod Heads

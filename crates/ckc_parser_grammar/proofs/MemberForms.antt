@@ -3,10 +3,10 @@
 use Rattle.std.proofs.Common.{◌≡◌, ◌≤◌, ◌<◌, ℕ, zero, suc, length, Bool, true, false, List, [], ◌∷◌, Option, refl, sym, subst, arith, ap, Some}
 use Rattle.std.specs.Option.{is_some}
 use Rattle.ckc_text.specs.declared.place.Span.{Span}
-use Rattle.ckc_lexer_tokens.specs.declared.token.Token.{Token}
-use Rattle.ckc_lexer_tokens.specs.declared.token.TokenKind.{TokenKind}
-use Rattle.ckc_lexer_tokens.specs.declared.keyword.Keyword.TheVariants as keywords
-use Rattle.ckc_lexer_tokens.specs.declared.token.TokenKind.TheVariants as kinds
+use Rattle.ckc_lexer.specs.declared.token.Token.{Token}
+use Rattle.ckc_lexer.specs.declared.token.TokenKind.{TokenKind}
+use Rattle.ckc_lexer.specs.declared.keyword.Keyword.TheVariants as keywords
+use Rattle.ckc_lexer.specs.declared.token.TokenKind.TheVariants as kinds
 use Rattle.ckc_tree.specs.declared.identifier.Identifier.{Identifier}
 use Rattle.ckc_tree.specs.declared.stmt.Mark.{Mark}
 use Rattle.ckc_tree.specs.Types.{TypeName}
@@ -41,7 +41,7 @@ use Rattle.ckc_parser_grammar.proofs.DeclarationForms.{name_is, OptionalBoundsS,
 use Rattle.ckc_parser_grammar.proofs.HeadForms.{turned}
 use Rattle.ckc_parser_grammar.proofs.StatementForms.{StatementsS, listed, statements_exact}
 use Rattle.ckc_parser_grammar.proofs.StatementFailing.{statements_fails}
-use Rattle.ckc_parser_grammar.proofs.Words.{each_mark}
+use Rattle.ckc_parser_grammar.proofs.OneMeaning.{each_mark}
 
 -- ---- what members and parameters have in common
 

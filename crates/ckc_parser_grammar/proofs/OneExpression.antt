@@ -3,9 +3,9 @@ use Rattle.std.proofs.Common.{◌≡◌, ℕ, suc, true, false, nat_eq, List, []
 use Rattle.std.proofs.lemmas.Bool.{eq-eqb}
 use Rattle.std.proofs.lemmas.Option.{same_Some, none-some}
 use Rattle.ckc_text.specs.declared.place.Span.{Span}
-use Rattle.ckc_lexer_tokens.specs.declared.token.Token.{Token}
-use Rattle.ckc_lexer_tokens.specs.declared.token.TokenKind.{TokenKind}
-use Rattle.ckc_lexer_tokens.specs.declared.token.TokenKind.TheVariants as kinds
+use Rattle.ckc_lexer.specs.declared.token.Token.{Token}
+use Rattle.ckc_lexer.specs.declared.token.TokenKind.{TokenKind}
+use Rattle.ckc_lexer.specs.declared.token.TokenKind.TheVariants as kinds
 use Rattle.ckc_tree.specs.declared.expr.UnaryOperator.{UnaryOperator}
 use Rattle.ckc_tree.specs.declared.expr.BinaryOperator.{BinaryOperator}
 use Rattle.ckc_tree.specs.Types.{TypeName}
@@ -16,7 +16,7 @@ use Rattle.ckc_parser_grammar.specs.ExpressionGrammar as g
 use Rattle.ckc_parser_grammar.specs.ExpressionGrammar.{SpellsBinary, SpellsTail, SpellsUnary, SpellsSelectors, SpellsPrimary, SpellsCall, SpellsArguments, SpellsMoreArguments, SpellsBounds}
 use Rattle.ckc_parser_grammar.proofs.OneType.{first_span, rest_of, type_name_same, angled_same}
 use Rattle.ckc_parser_grammar.proofs.Heads.{class_at, class_of, primary_class, unary_class, not_primary, starts}
-use Rattle.ckc_parser_grammar.proofs.Words.{same_word}
+use Rattle.ckc_parser_grammar.proofs.OneMeaning.{same_word}
 
 -- what is read, the bytes that it stands on, and the tokens behind it
 abbrev pub Read : Type 0 → Type 0

@@ -2,7 +2,7 @@
 use Rattle.std.proofs.Common.{◌≡◌, ◌≤◌, ◌<◌, ◌⊎◌, inl, inr, ℕ, List, [], ◌∷◌, refl, sym, ap, subst, arith}
 use Rattle.ckc_text.specs.declared.code.Code.TheVariants.{E06, E07}
 use Rattle.ckc_text.specs.declared.fault.SourceFault.{SourceFault}
-use Rattle.ckc_lexer_tokens.specs.declared.token.Token.{Token}
+use Rattle.ckc_lexer.specs.declared.token.Token.{Token}
 use Rattle.ckc_tree.specs.Items.{Item, Tree}
 use Rattle.ckc_tree.specs.Heights.{Reach, items_reach}
 use Rattle.ckc_parser_grammar.specs.ItemGrammar.{SpellsItems, SpellsProgram, program}

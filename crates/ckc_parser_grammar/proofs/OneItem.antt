@@ -2,11 +2,11 @@
 use Rattle.std.proofs.Common.{◌≡◌, ℕ, Bool, true, false, List, [], ◌∷◌, Option, refl, sym, ap, subst, ◌∙◌, arith}
 use Rattle.std.specs.Option.{is_some}
 use Rattle.ckc_text.specs.declared.place.Span.{Span}
-use Rattle.ckc_lexer_tokens.specs.declared.token.CheckedScope.{CheckedScope}
-use Rattle.ckc_lexer_tokens.specs.declared.token.Token.{Token}
-use Rattle.ckc_lexer_tokens.specs.declared.token.TokenKind.{TokenKind}
-use Rattle.ckc_lexer_tokens.specs.declared.keyword.Keyword.TheVariants as keywords
-use Rattle.ckc_lexer_tokens.specs.declared.token.TokenKind.TheVariants as kinds
+use Rattle.ckc_lexer.specs.declared.token.CheckedScope.{CheckedScope}
+use Rattle.ckc_lexer.specs.declared.token.Token.{Token}
+use Rattle.ckc_lexer.specs.declared.token.TokenKind.{TokenKind}
+use Rattle.ckc_lexer.specs.declared.keyword.Keyword.TheVariants as keywords
+use Rattle.ckc_lexer.specs.declared.token.TokenKind.TheVariants as kinds
 use Rattle.ckc_tree.specs.declared.identifier.Identifier.{Identifier}
 use Rattle.ckc_tree.specs.declared.stmt.Mark.{Mark}
 use Rattle.ckc_tree.specs.declared.item.Region.{Region}
@@ -29,7 +29,7 @@ use Rattle.ckc_parser_grammar.proofs.OneType.{Same, first_span, rest_of, stars_s
 use Rattle.ckc_parser_grammar.proofs.OneExpression.{Read, SameRead, first_kind, behind, form, typed, after}
 use Rattle.ckc_parser_grammar.proofs.Roles.{role_at, type_role, mark_role}
 use Rattle.ckc_parser_grammar.proofs.OneStatement.{first_name, stands, optional_bounds_same, declarators_from, statements_same}
-use Rattle.ckc_parser_grammar.proofs.Words.{same_word, says_nothing, pointer_struct}
+use Rattle.ckc_parser_grammar.proofs.OneMeaning.{same_word, says_nothing, pointer_struct}
 use Rattle.ckc_parser_grammar.specs.StuckItems.{struct_word}
 
 pub tainted_same : {ts r r' : List Token} {b b' : Bool} → SpellsTainted ts b r → SpellsTainted ts b' r' → Same b r b' r'

@@ -2,10 +2,10 @@
 use Rattle.std.proofs.Common.{◌≡◌, ℕ, true, false, List, [], ◌∷◌, Option, Some, None, refl, sym, ap, subst, ◌∙◌, arith}
 use Rattle.std.specs.Option.{is_some}
 use Rattle.ckc_text.specs.declared.place.Span.{Span}
-use Rattle.ckc_lexer_tokens.specs.declared.token.Token.{Token}
-use Rattle.ckc_lexer_tokens.specs.declared.token.TokenKind.{TokenKind}
-use Rattle.ckc_lexer_tokens.specs.declared.keyword.Keyword.TheVariants as keywords
-use Rattle.ckc_lexer_tokens.specs.declared.token.TokenKind.TheVariants as kinds
+use Rattle.ckc_lexer.specs.declared.token.Token.{Token}
+use Rattle.ckc_lexer.specs.declared.token.TokenKind.{TokenKind}
+use Rattle.ckc_lexer.specs.declared.keyword.Keyword.TheVariants as keywords
+use Rattle.ckc_lexer.specs.declared.token.TokenKind.TheVariants as kinds
 use Rattle.ckc_tree.specs.declared.stmt.ArrayForm.{ArrayForm}
 use Rattle.ckc_tree.specs.declared.stmt.SignedConstant.{SignedConstant}
 use Rattle.ckc_tree.specs.declared.stmt.StepOperator.{StepOperator}
@@ -21,7 +21,7 @@ use Rattle.ckc_parser_grammar.proofs.OneType.{Same, first_span, rest_of, stars_s
 use Rattle.ckc_parser_grammar.proofs.Heads.{starts, unary_starts, class}
 use Rattle.ckc_parser_grammar.proofs.OneExpression.{Read, SameRead, first_kind, behind, form, typed, after, move_binary, binary_same, unary_same, call_same, bounds_same}
 use Rattle.ckc_parser_grammar.proofs.Roles.{assignment_role, role_of, statement_role, statement_starts, initial_role_of, initial_role}
-use Rattle.ckc_parser_grammar.proofs.Words.{same_word, says_nothing, each_step_operator, store_step}
+use Rattle.ckc_parser_grammar.proofs.OneMeaning.{same_word, says_nothing, each_step_operator, store_step}
 
 abbrev pub first_name : List Token → List ℕ
 first_name [] = []

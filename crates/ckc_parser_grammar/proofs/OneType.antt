@@ -1,14 +1,14 @@
 -- Tokens that begin with a type begin with one type.
 use Rattle.std.proofs.Common.{◌≡◌, ℕ, suc, List, [], ◌∷◌, refl, sym, ap, subst}
 use Rattle.ckc_text.specs.declared.place.Span.{Span}
-use Rattle.ckc_lexer_tokens.specs.declared.token.Token.{Token}
-use Rattle.ckc_lexer_tokens.specs.declared.token.TokenKind.TheVariants as kinds
+use Rattle.ckc_lexer.specs.declared.token.Token.{Token}
+use Rattle.ckc_lexer.specs.declared.token.TokenKind.TheVariants as kinds
 use Rattle.ckc_tree.specs.declared.type_form.PointerWord.{PointerWord}
 use Rattle.ckc_tree.specs.Types.{TypeTree, PointerType, TypeName}
 use Rattle.ckc_parser_grammar.specs.Tokens.{token, join}
 use Rattle.ckc_parser_grammar.specs.TypeGrammar as grammar
 use Rattle.ckc_parser_grammar.specs.TypeGrammar.{SpellsStars, SpellsType, SpellsTypeName, SpellsAngled}
-use Rattle.ckc_parser_grammar.proofs.Words.{same_word, says_nothing}
+use Rattle.ckc_parser_grammar.proofs.OneMeaning.{same_word, says_nothing}
 
 pub stars_same : {ts r r' : List Token} {n n' : ℕ} → SpellsStars ts n r → SpellsStars ts n' r' → ◌≡◌ {A = ℕ × List Token} (n, r) (n', r')
 stars_same (grammar.none end) (grammar.none end') = refl

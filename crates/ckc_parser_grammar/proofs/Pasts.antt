@@ -2,8 +2,8 @@
 use Rattle.std.proofs.Common.{◌≡◌, ◌≤◌, ◌<◌, ◌+◌, ℕ, nat_lt, length, Bool, true, false, List, ◌∷◌, refl, sym, ap, subst, ◌∙◌, arith}
 use Rattle.std.proofs.lemmas.Bool.{ltb-true, ltb-false}
 use Rattle.ckc_text.specs.declared.place.Span.{Span}
-use Rattle.ckc_lexer_tokens.specs.declared.token.Token.{Token}
-use Rattle.ckc_lexer_tokens.specs.declared.token.TokenKind.{TokenKind}
+use Rattle.ckc_lexer.specs.declared.token.Token.{Token}
+use Rattle.ckc_lexer.specs.declared.token.TokenKind.{TokenKind}
 use Rattle.ckc_tree.specs.Heights.{Reach, nowhere, ◌beside◌}
 use Rattle.ckc_parser_grammar.specs.Tokens.{token}
 use Rattle.ckc_parser_grammar.specs.Failures.{Failure}

@@ -1,7 +1,7 @@
 -- Tokens read one by one, with a beginning at each.
 use Rattle.std.proofs.Common.{◌≡◌, ◌≤◌, ◌<◌, ◌⊎◌, inl, inr, ℕ, zero, suc, nat_lt, length, Bool, true, false, List, ◌∷◌, refl, arith}
 use Rattle.std.proofs.lemmas.Bool.{ltb-true, ltb-false, lt-ltb, le-ltb}
-use Rattle.ckc_lexer_tokens.specs.declared.token.Token.{Token}
+use Rattle.ckc_lexer.specs.declared.token.Token.{Token}
 use Rattle.ckc_tree.specs.Heights.{Reach, nowhere, node, around, ◌beside◌}
 use Rattle.ckc_parser_grammar.specs.Tokens.{start_of}
 use Rattle.ckc_parser_grammar.specs.Failures.{IsLow}

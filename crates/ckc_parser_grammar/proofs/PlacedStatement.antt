@@ -2,8 +2,8 @@
 use Rattle.std.proofs.Common.{◌≡◌, ℕ, ◌≤◌, List, [], ◌∷◌, map, Option, refl, arith, Some}
 use Rattle.std.specs.List.{AllByRecursion}
 use Rattle.ckc_text.specs.declared.place.Span.{Span}
-use Rattle.ckc_lexer_tokens.specs.declared.token.Token.{Token}
-use Rattle.ckc_lexer_tokens.specs.declared.token.TokenKind.{TokenKind}
+use Rattle.ckc_lexer.specs.declared.token.Token.{Token}
+use Rattle.ckc_lexer.specs.declared.token.TokenKind.{TokenKind}
 use Rattle.ckc_tree.specs.declared.stmt.ArrayForm.{ArrayForm}
 use Rattle.ckc_tree.specs.declared.stmt.Constant.{Constant}
 use Rattle.ckc_tree.specs.declared.stmt.SignedConstant.{SignedConstant}
@@ -19,7 +19,7 @@ use Rattle.ckc_parser_grammar.specs.StatementGrammar.{SpellsOptionalBounds, Spel
 use Rattle.ckc_parser_grammar.proofs.TokenOrder.{Runs, first, on, follow, skip, IsNotEmpty, starts, from_start, Read, Part, leaf, one_more, alone, together, no_more, omitted}
 use Rattle.ckc_parser_grammar.proofs.PlacedType.{stars_read, type_read}
 use Rattle.ckc_parser_grammar.proofs.PlacedExpression.{binary_read, unary_read, call_read, bounds_read}
-use Rattle.ckc_parser_grammar.proofs.Words.{each_step_operator, each_constant}
+use Rattle.ckc_parser_grammar.proofs.OneMeaning.{each_step_operator, each_constant}
 
 -- ---- declarations
 

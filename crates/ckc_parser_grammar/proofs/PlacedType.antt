@@ -1,6 +1,6 @@
 -- The spans of a type that is spelled stand in order.
 use Rattle.std.proofs.Common.{ℕ, List, arith}
-use Rattle.ckc_lexer_tokens.specs.declared.token.Token.{Token}
+use Rattle.ckc_lexer.specs.declared.token.Token.{Token}
 use Rattle.ckc_tree.specs.Types.{TypeTree, type_span, TypeName}
 use Rattle.ckc_tree.specs.Placement.{TypePlaced}
 use Rattle.ckc_parser_grammar.specs.TypeGrammar as g

@@ -1,6 +1,6 @@
 -- Each prefix of what is spelled begins.
 use Rattle.std.proofs.Common.{◌≤◌, ℕ, List, [], ◌∷◌, ◌++◌}
-use Rattle.ckc_lexer_tokens.specs.declared.token.Token.{Token}
+use Rattle.ckc_lexer.specs.declared.token.Token.{Token}
 use Rattle.ckc_tree.specs.Items.{Item, Tree}
 use Rattle.ckc_tree.specs.Heights.{Reach, height, items_reach}
 use Rattle.ckc_parser_grammar.specs.ItemGrammar.{SpellsItems, SpellsProgram, program}

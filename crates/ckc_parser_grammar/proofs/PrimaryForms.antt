@@ -1,10 +1,10 @@
 -- The smallest expressions as forms that are built of others, by their first token.
 use Rattle.std.proofs.Common.{◌≡◌, ℕ, Bool, true, false, List, ◌∷◌, refl, sym, subst, ◌∙◌, Some}
 use Rattle.ckc_text.specs.declared.place.Span.{Span}
-use Rattle.ckc_lexer_tokens.specs.declared.token.Token.{Token}
-use Rattle.ckc_lexer_tokens.specs.declared.token.TokenKind.{TokenKind}
-use Rattle.ckc_lexer_tokens.specs.declared.keyword.Keyword.TheVariants as keywords
-use Rattle.ckc_lexer_tokens.specs.declared.token.TokenKind.TheVariants as kinds
+use Rattle.ckc_lexer.specs.declared.token.Token.{Token}
+use Rattle.ckc_lexer.specs.declared.token.TokenKind.{TokenKind}
+use Rattle.ckc_lexer.specs.declared.keyword.Keyword.TheVariants as keywords
+use Rattle.ckc_lexer.specs.declared.token.TokenKind.TheVariants as kinds
 use Rattle.ckc_tree.specs.declared.expr.CastWord.{CastWord}
 use Rattle.ckc_tree.specs.declared.expr.MallocWord.{MallocWord}
 use Rattle.ckc_tree.specs.declared.expr.CallocWord.{CallocWord}
@@ -25,7 +25,7 @@ use Rattle.ckc_parser_grammar.proofs.Forms as forms
 use Rattle.ckc_parser_grammar.proofs.Paths.{beside_nowhere}
 use Rattle.ckc_parser_grammar.proofs.TypeForms.{TypeNameS, named, AngledS, angled, type_name_exact, angled_exact}
 use Rattle.ckc_parser_grammar.proofs.ExpressionLinks.{BinaryS, binary}
-use Rattle.ckc_parser_grammar.proofs.Words.{each_cast_word, each_malloc_word, each_calloc_word}
+use Rattle.ckc_parser_grammar.proofs.OneMeaning.{each_cast_word, each_malloc_word, each_calloc_word}
 
 pub data PrimaryS : List Token → List Token → Reach → Type 0 where
   primary : {e : Expression} {o : Span} {ts m : List Token} → SpellsPrimary ts e o m → PrimaryS ts m (expression_reach e)

@@ -1,9 +1,9 @@
 -- Each list of tokens is read as a declaration, an assignment or a part of one, or has a refusal.
 use Rattle.std.proofs.Common.{◌≡◌, ◌≤◌, ◌<◌, ℕ, suc, length, true, false, List, [], ◌∷◌, Option, Some, None, arith, refl}
 use Rattle.ckc_text.specs.declared.place.Span.{Span}
-use Rattle.ckc_lexer_tokens.specs.declared.token.Token.{Token}
-use Rattle.ckc_lexer_tokens.specs.declared.token.TokenKind.{TokenKind}
-use Rattle.ckc_lexer_tokens.specs.declared.token.TokenKind.TheVariants as kinds
+use Rattle.ckc_lexer.specs.declared.token.Token.{Token}
+use Rattle.ckc_lexer.specs.declared.token.TokenKind.{TokenKind}
+use Rattle.ckc_lexer.specs.declared.token.TokenKind.TheVariants as kinds
 use Rattle.ckc_tree.specs.declared.stmt.ArrayForm.{ArrayForm}
 use Rattle.ckc_tree.specs.declared.stmt.ArrayKind.{ArrayKind}
 use Rattle.ckc_tree.specs.declared.stmt.Constant.{Constant}
@@ -33,7 +33,7 @@ use Rattle.ckc_parser_grammar.proofs.FewNodes.{signed_takes, declarator_takes, a
 use Rattle.ckc_parser_grammar.proofs.Reading.{Reading, read, refused, unexpected, too_deep, Next, here, other, next, Marks, marked, named, by_length, by_room, behind, ended}
 use Rattle.ckc_parser_grammar.proofs.ReadTypes.{stars_read, type_read}
 use Rattle.ckc_parser_grammar.proofs.ReadExpressions.{is_close_paren, is_close_bracket, is_comma, expression_read, target_read, written_bounds_read}
-use Rattle.ckc_parser_grammar.proofs.Words.{some_word}
+use Rattle.ckc_parser_grammar.proofs.OneMeaning.{some_word}
 
 -- ---- marks and words
 

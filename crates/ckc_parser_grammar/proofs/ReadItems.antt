@@ -2,12 +2,12 @@
 use Rattle.std.proofs.Common.{◌≡◌, ◌≤◌, ◌<◌, ◌⊎◌, inl, inr, ℕ, length, Bool, true, false, List, [], ◌∷◌, Option, Some, None, refl, arith}
 use Rattle.ckc_text.specs.declared.fault.SourceFault.{SourceFault}
 use Rattle.ckc_text.specs.declared.place.Span.{Span}
-use Rattle.ckc_lexer_tokens.specs.declared.token.CheckedScope.{CheckedScope}
-use Rattle.ckc_lexer_tokens.specs.declared.token.CheckedScope.TheVariants as scopes
-use Rattle.ckc_lexer_tokens.specs.declared.token.Token.{Token}
-use Rattle.ckc_lexer_tokens.specs.declared.token.TokenKind.{TokenKind}
-use Rattle.ckc_lexer_tokens.specs.declared.keyword.Keyword.TheVariants as keywords
-use Rattle.ckc_lexer_tokens.specs.declared.token.TokenKind.TheVariants as kinds
+use Rattle.ckc_lexer.specs.declared.token.CheckedScope.{CheckedScope}
+use Rattle.ckc_lexer.specs.declared.token.CheckedScope.TheVariants as scopes
+use Rattle.ckc_lexer.specs.declared.token.Token.{Token}
+use Rattle.ckc_lexer.specs.declared.token.TokenKind.{TokenKind}
+use Rattle.ckc_lexer.specs.declared.keyword.Keyword.TheVariants as keywords
+use Rattle.ckc_lexer.specs.declared.token.TokenKind.TheVariants as kinds
 use Rattle.ckc_tree.specs.declared.identifier.Identifier.{Identifier}
 use Rattle.ckc_tree.specs.declared.item.FunctionKind.{FunctionKind}
 use Rattle.ckc_tree.specs.declared.item.FunctionKind.TheVariants.{Trusted, Tainted, Callback}
@@ -42,7 +42,7 @@ use Rattle.ckc_parser_grammar.proofs.ReadTypes.{is_open_paren, stars_read, type_
 use Rattle.ckc_parser_grammar.proofs.ReadExpressions.{is_close_paren, EndsArgument, comma, paren, ends_argument}
 use Rattle.ckc_parser_grammar.proofs.ReadDeclarations.{is_open_brace, is_close_brace, is_semicolon, optional_bounds_read, declarators_read}
 use Rattle.ckc_parser_grammar.proofs.ReadStatements.{statements_read}
-use Rattle.ckc_parser_grammar.proofs.Words.{some_word}
+use Rattle.ckc_parser_grammar.proofs.OneMeaning.{some_word}
 
 -- ---- words
 

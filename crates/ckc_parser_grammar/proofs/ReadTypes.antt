@@ -1,10 +1,10 @@
 -- Each list of tokens is read as a type, or has a refusal.
 use Rattle.std.proofs.Common.{◌≡◌, ◌<◌, ℕ, zero, suc, length, true, List, [], ◌∷◌, refl, arith, Some}
 use Rattle.ckc_text.specs.declared.place.Span.{Span}
-use Rattle.ckc_lexer_tokens.specs.declared.token.Token.{Token}
-use Rattle.ckc_lexer_tokens.specs.declared.token.TokenKind.{TokenKind}
-use Rattle.ckc_lexer_tokens.specs.declared.keyword.Keyword.TheVariants as keywords
-use Rattle.ckc_lexer_tokens.specs.declared.token.TokenKind.TheVariants as kinds
+use Rattle.ckc_lexer.specs.declared.token.Token.{Token}
+use Rattle.ckc_lexer.specs.declared.token.TokenKind.{TokenKind}
+use Rattle.ckc_lexer.specs.declared.keyword.Keyword.TheVariants as keywords
+use Rattle.ckc_lexer.specs.declared.token.TokenKind.TheVariants as kinds
 use Rattle.ckc_tree.specs.declared.type_form.PointerWord.{PointerWord}
 use Rattle.ckc_tree.specs.Types.{TypeTree, IntType, CharType, StructType, PointerType, TypeName}
 use Rattle.ckc_tree.specs.Heights.{type_reach}
@@ -17,7 +17,7 @@ use Rattle.ckc_parser_grammar.specs.StuckTypes.{type_word, less, greater, StuckT
 use Rattle.ckc_parser_grammar.proofs.Forms.{Is, it}
 use Rattle.ckc_parser_grammar.proofs.Paths.{low_around}
 use Rattle.ckc_parser_grammar.proofs.Reading.{Reading, read, refused, unexpected, too_deep, Next, here, other, next, Marks, marked, named, by_length, by_room, behind, ended}
-use Rattle.ckc_parser_grammar.proofs.Words.{some_word}
+use Rattle.ckc_parser_grammar.proofs.OneMeaning.{some_word}
 
 -- ---- marks
 

@@ -1,10 +1,10 @@
 -- The token with which a statement starts.
 use Rattle.std.proofs.Common.{◌≡◌, ℕ, ◌≤◌, List, [], ◌∷◌, refl, arith, Some}
 use Rattle.ckc_text.specs.declared.place.Span.{Span}
-use Rattle.ckc_lexer_tokens.specs.declared.token.Token.{Token}
-use Rattle.ckc_lexer_tokens.specs.declared.token.TokenKind.{TokenKind}
-use Rattle.ckc_lexer_tokens.specs.declared.keyword.Keyword.TheVariants as keywords
-use Rattle.ckc_lexer_tokens.specs.declared.token.TokenKind.TheVariants as kinds
+use Rattle.ckc_lexer.specs.declared.token.Token.{Token}
+use Rattle.ckc_lexer.specs.declared.token.TokenKind.{TokenKind}
+use Rattle.ckc_lexer.specs.declared.keyword.Keyword.TheVariants as keywords
+use Rattle.ckc_lexer.specs.declared.token.TokenKind.TheVariants as kinds
 use Rattle.ckc_tree.specs.declared.type_form.PointerWord.{PointerWord}
 use Rattle.ckc_tree.specs.declared.expr.UnaryOperator.{UnaryOperator}
 use Rattle.ckc_tree.specs.declared.expr.CastWord.{CastWord}
@@ -22,7 +22,7 @@ use Rattle.ckc_parser_grammar.specs.ExpressionGrammar as grammar
 use Rattle.ckc_parser_grammar.specs.ExpressionGrammar.{SpellsUnary, SpellsPrimary, SpellsCall}
 use Rattle.ckc_parser_grammar.specs.StatementGrammar as g
 use Rattle.ckc_parser_grammar.specs.StatementGrammar.{SpellsDeclaration, SpellsAssignment, SpellsStatement, SpellsForInitial}
-use Rattle.ckc_parser_grammar.proofs.Words.{each_pointer_word, each_unary_operator, each_cast_word, each_malloc_word, each_calloc_word, each_mark, each_step_operator}
+use Rattle.ckc_parser_grammar.proofs.OneMeaning.{each_pointer_word, each_unary_operator, each_cast_word, each_malloc_word, each_calloc_word, each_mark, each_step_operator}
 
 -- which statement a token starts: 0 for none, 1 for a declaration, 2 for an assignment or a call
 abbrev pub role : TokenKind → ℕ

@@ -2,8 +2,8 @@
 -- stands elsewhere.
 use Rattle.std.proofs.Common.{◌≡◌, ◌≤◌, ◌<◌, ℕ, zero, suc, length, List, ◌∷◌, refl, sym, ap, subst, ◌∙◌, arith}
 use Rattle.ckc_text.specs.declared.place.Span.{Span}
-use Rattle.ckc_lexer_tokens.specs.declared.token.Token.{Token}
-use Rattle.ckc_lexer_tokens.specs.declared.token.TokenKind.TheVariants as kinds
+use Rattle.ckc_lexer.specs.declared.token.Token.{Token}
+use Rattle.ckc_lexer.specs.declared.token.TokenKind.TheVariants as kinds
 use Rattle.ckc_tree.specs.Expressions as trees
 use Rattle.ckc_tree.specs.Expressions.{Expression}
 use Rattle.ckc_tree.specs.Heights.{Reach, nowhere, node, around, ◌beside◌, expression_reach}
@@ -19,7 +19,7 @@ use Rattle.ckc_parser_grammar.proofs.PrimaryForms as primaries
 use Rattle.ckc_parser_grammar.proofs.PrimaryForms.{primary}
 use Rattle.ckc_parser_grammar.proofs.ExpressionForms as whole
 use Rattle.ckc_parser_grammar.proofs.ExpressionForms.{binary_exact, arguments_exact, selectors_exact, tail_exact, primary_exact, some_node}
-use Rattle.ckc_parser_grammar.proofs.Words.{says_nothing}
+use Rattle.ckc_parser_grammar.proofs.OneMeaning.{says_nothing}
 
 -- ---- with the name alone read
 

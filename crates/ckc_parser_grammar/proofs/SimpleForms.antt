@@ -2,9 +2,9 @@
 -- are stuck they fail. What begins with a name is read as an expression first; what it is says how it goes on.
 use Rattle.std.proofs.Common.{◌≡◌, ◌≤◌, ◌<◌, ◌&&◌, ◌⊎◌, inl, inr, ℕ, suc, length, Bool, true, false, List, [], ◌∷◌, refl, sym, ap, subst, ◌∙◌, arith, Some}
 use Rattle.ckc_text.specs.declared.place.Span.{Span}
-use Rattle.ckc_lexer_tokens.specs.declared.token.Token.{Token}
-use Rattle.ckc_lexer_tokens.specs.declared.token.TokenKind.{TokenKind}
-use Rattle.ckc_lexer_tokens.specs.declared.token.TokenKind.TheVariants as kinds
+use Rattle.ckc_lexer.specs.declared.token.Token.{Token}
+use Rattle.ckc_lexer.specs.declared.token.TokenKind.{TokenKind}
+use Rattle.ckc_lexer.specs.declared.token.TokenKind.TheVariants as kinds
 use Rattle.ckc_tree.specs.declared.stmt.StoreOperator.{StoreOperator}
 use Rattle.ckc_tree.specs.declared.stmt.StepOperator.{StepOperator}
 use Rattle.ckc_tree.specs.Expressions.{Expression}
@@ -38,7 +38,7 @@ use Rattle.ckc_parser_grammar.proofs.MoreForms.{head_all, Starts, PutsFirst, by_
 use Rattle.ckc_parser_grammar.proofs.Starting.{unary_starts, unary_shorter, unary_first, call_at, call_begun_at}
 use Rattle.ckc_parser_grammar.proofs.HeadForms.{semicolon_is}
 use Rattle.ckc_parser_grammar.proofs.AssignmentForms.{assigned, ClosedS, ClosedB, closed_exact, unary_assigns, assignment_exact, assignment_starts, assignment_at, assignment_fails}
-use Rattle.ckc_parser_grammar.proofs.Words.{says_nothing, each_store_operator, each_step_operator, store_step}
+use Rattle.ckc_parser_grammar.proofs.OneMeaning.{says_nothing, each_store_operator, each_step_operator, store_step}
 
 -- an assignment or a call, with its semicolon
 pub data SimpleS : List Token → List Token → Reach → Type 0 where

@@ -1,10 +1,10 @@
 -- The tokens with which types and expressions start, and the nodes that the first of them puts.
 use Rattle.std.proofs.Common.{◌≡◌, ◌≤◌, ◌<◌, ◌⊎◌, inl, inr, ℕ, length, true, false, List, ◌∷◌, refl, ap, ◌∙◌, arith, Some}
 use Rattle.ckc_text.specs.declared.place.Span.{Span}
-use Rattle.ckc_lexer_tokens.specs.declared.token.Token.{Token}
-use Rattle.ckc_lexer_tokens.specs.declared.token.TokenKind.{TokenKind}
-use Rattle.ckc_lexer_tokens.specs.declared.keyword.Keyword.TheVariants as keywords
-use Rattle.ckc_lexer_tokens.specs.declared.token.TokenKind.TheVariants as kinds
+use Rattle.ckc_lexer.specs.declared.token.Token.{Token}
+use Rattle.ckc_lexer.specs.declared.token.TokenKind.{TokenKind}
+use Rattle.ckc_lexer.specs.declared.keyword.Keyword.TheVariants as keywords
+use Rattle.ckc_lexer.specs.declared.token.TokenKind.TheVariants as kinds
 use Rattle.ckc_tree.specs.declared.expr.UnaryOperator.{UnaryOperator}
 use Rattle.ckc_tree.specs.declared.expr.CastWord.{CastWord}
 use Rattle.ckc_tree.specs.declared.expr.MallocWord.{MallocWord}
@@ -35,7 +35,7 @@ use Rattle.ckc_parser_grammar.proofs.ExpressionLinks.{binary}
 use Rattle.ckc_parser_grammar.proofs.PrimaryForms.{written}
 use Rattle.ckc_parser_grammar.proofs.ExpressionForms.{some_node, unary, binary_exact, unary_exact, bounds_exact}
 use Rattle.ckc_parser_grammar.proofs.MoreForms.{Starts, PutsFirst, takes, shrinks}
-use Rattle.ckc_parser_grammar.proofs.Words.{some_word, each_unary_operator, each_cast_word, each_malloc_word, each_calloc_word, pointer_is}
+use Rattle.ckc_parser_grammar.proofs.OneMeaning.{some_word, each_unary_operator, each_cast_word, each_malloc_word, each_calloc_word, pointer_is}
 
 -- with no token read there is no node
 pub unread : {S B : List Token → List Token → Reach → Type 0} {ts rest : List Token} {q : Reach} → Exact nowhere S B → B ts rest q → length rest ≡ length ts → q ≡ nowhere

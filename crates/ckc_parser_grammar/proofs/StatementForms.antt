@@ -1,10 +1,10 @@
 -- Statements as forms that are built of others: reading them goes one way.
 use Rattle.std.proofs.Common.{◌≡◌, ◌<◌, ◌||◌, ℕ, zero, suc, Bool, true, false, List, [], ◌∷◌, refl, sym, ap, ◌∙◌, arith, Some}
 use Rattle.ckc_text.specs.declared.place.Span.{Span}
-use Rattle.ckc_lexer_tokens.specs.declared.token.Token.{Token}
-use Rattle.ckc_lexer_tokens.specs.declared.token.TokenKind.{TokenKind}
-use Rattle.ckc_lexer_tokens.specs.declared.keyword.Keyword.TheVariants as keywords
-use Rattle.ckc_lexer_tokens.specs.declared.token.TokenKind.TheVariants as kinds
+use Rattle.ckc_lexer.specs.declared.token.Token.{Token}
+use Rattle.ckc_lexer.specs.declared.token.TokenKind.{TokenKind}
+use Rattle.ckc_lexer.specs.declared.keyword.Keyword.TheVariants as keywords
+use Rattle.ckc_lexer.specs.declared.token.TokenKind.TheVariants as kinds
 use Rattle.ckc_tree.specs.declared.stmt.Mark.{Mark}
 use Rattle.ckc_tree.specs.Expressions.{Expression}
 use Rattle.ckc_tree.specs.Statements as s
@@ -32,7 +32,7 @@ use Rattle.ckc_parser_grammar.proofs.AssignmentForms.{AssignmentsS, bundled, ass
 use Rattle.ckc_parser_grammar.proofs.HeadForms.{turned, type_assignment, declaration_at, ForInitialS, initial, InitialB, initial_exact, ForConditionS, tested, TestedB, for_condition_exact, ForStepS, stepped, SteppedB, step_exact, ConditionS, ConditionB, condition_exact}
 use Rattle.ckc_parser_grammar.proofs.SimpleForms as simple
 use Rattle.ckc_parser_grammar.proofs.SimpleForms.{SimpleS, SimpleB, assign, call, assignment, call_begun, simple_exact, simple_starts, simple_at}
-use Rattle.ckc_parser_grammar.proofs.Words.{each_mark}
+use Rattle.ckc_parser_grammar.proofs.OneMeaning.{each_mark}
 
 pub data StatementS : List Token → List Token → Reach → Type 0 where
   stated : {x : Statement} {ts m : List Token} → SpellsStatement ts x m → StatementS ts m (statement_reach x)

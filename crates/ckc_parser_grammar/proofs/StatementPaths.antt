@@ -1,7 +1,7 @@
 -- The tokens of a declaration, an assignment or a statement begin one at each token, and no higher.
 use Rattle.std.proofs.Common.{ℕ, List, Option}
 use Rattle.ckc_text.specs.declared.place.Span.{Span}
-use Rattle.ckc_lexer_tokens.specs.declared.token.Token.{Token}
+use Rattle.ckc_lexer.specs.declared.token.Token.{Token}
 use Rattle.ckc_tree.specs.declared.stmt.ArrayForm.{ArrayForm}
 use Rattle.ckc_tree.specs.declared.stmt.SignedConstant.{SignedConstant}
 use Rattle.ckc_tree.specs.Expressions.{Expression, Bounds}

@@ -1,10 +1,10 @@
 -- Types as forms that are built of others: reading them goes one way, and where they are stuck they fail.
 use Rattle.std.proofs.Common.{◌≡◌, ◌≤◌, ◌<◌, ℕ, zero, suc, length, true, false, List, ◌∷◌, refl, sym, ap, subst, arith, ◌∙◌, Some}
 use Rattle.ckc_text.specs.declared.place.Span.{Span}
-use Rattle.ckc_lexer_tokens.specs.declared.token.Token.{Token}
-use Rattle.ckc_lexer_tokens.specs.declared.token.TokenKind.{TokenKind}
-use Rattle.ckc_lexer_tokens.specs.declared.keyword.Keyword.TheVariants as keywords
-use Rattle.ckc_lexer_tokens.specs.declared.token.TokenKind.TheVariants as kinds
+use Rattle.ckc_lexer.specs.declared.token.Token.{Token}
+use Rattle.ckc_lexer.specs.declared.token.TokenKind.{TokenKind}
+use Rattle.ckc_lexer.specs.declared.keyword.Keyword.TheVariants as keywords
+use Rattle.ckc_lexer.specs.declared.token.TokenKind.TheVariants as kinds
 use Rattle.ckc_tree.specs.declared.type_form.PointerWord.{PointerWord}
 use Rattle.ckc_tree.specs.Types.{TypeTree, TypeName}
 use Rattle.ckc_tree.specs.Heights.{Reach, nowhere, node, around, type_reach}
@@ -23,7 +23,7 @@ use Rattle.ckc_parser_grammar.proofs.Forms as forms
 use Rattle.ckc_parser_grammar.proofs.Failing as failing
 use Rattle.ckc_parser_grammar.proofs.Paths.{beside_nowhere}
 use Rattle.ckc_parser_grammar.proofs.Failing.{Fails, fails_first, fails_before_end, fails_at_end, fails_after, fails_at_first, fails_node, fails_as, fails_headed, fails_unheaded, fails_deep_head}
-use Rattle.ckc_parser_grammar.proofs.Words.{some_word, each_pointer_word, pointer_is}
+use Rattle.ckc_parser_grammar.proofs.OneMeaning.{some_word, each_pointer_word, pointer_is}
 
 -- ---- stars, which make no node
 

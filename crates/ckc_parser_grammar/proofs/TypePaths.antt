@@ -1,6 +1,6 @@
 -- The tokens of a type begin one at each token, and no higher.
 use Rattle.std.proofs.Common.{ℕ, List}
-use Rattle.ckc_lexer_tokens.specs.declared.token.Token.{Token}
+use Rattle.ckc_lexer.specs.declared.token.Token.{Token}
 use Rattle.ckc_tree.specs.Types.{TypeTree, TypeName}
 use Rattle.ckc_tree.specs.Heights.{Reach, type_reach}
 use Rattle.ckc_parser_grammar.specs.TypeGrammar as g

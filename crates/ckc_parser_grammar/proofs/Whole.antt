@@ -1,7 +1,7 @@
 -- What is spelled begins, and has put the nodes of its tree.
 use Rattle.std.proofs.Common.{ℕ, suc, List, [], Option}
 use Rattle.ckc_text.specs.declared.place.Span.{Span}
-use Rattle.ckc_lexer_tokens.specs.declared.token.Token.{Token}
+use Rattle.ckc_lexer.specs.declared.token.Token.{Token}
 use Rattle.ckc_tree.specs.Expressions.{Expression}
 use Rattle.ckc_tree.specs.Statements.{Assignment, Statement, Statements}
 use Rattle.ckc_tree.specs.Items.{Body, Item, Tree}

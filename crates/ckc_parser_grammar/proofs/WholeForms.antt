@@ -1,7 +1,7 @@
 -- A whole source: reading it goes one way, and where it is stuck stands its refusal.
 use Rattle.std.proofs.Common.{◌≡◌, ◌∙◌, ◌<◌, ℕ, length, List, [], ◌∷◌, refl, sym, ap, subst, arith}
 use Rattle.ckc_text.specs.declared.code.Code.TheVariants.{E07}
-use Rattle.ckc_lexer_tokens.specs.declared.token.Token.{Token}
+use Rattle.ckc_lexer.specs.declared.token.Token.{Token}
 use Rattle.ckc_tree.specs.Items.{Item, Tree}
 use Rattle.ckc_tree.specs.Heights.{Reach, nowhere, ◌beside◌, item_reach, items_reach}
 use Rattle.ckc_parser_grammar.specs.ItemGrammar as g

@@ -1,6 +1,6 @@
 -- Inside: why a form isn't read.
 use Rattle.std.specs.Prelude.{◌≤◌, ◌+◌, ℕ, List}
-use Rattle.ckc_lexer_tokens.specs.declared.token.Token.{Token}
+use Rattle.ckc_lexer.specs.declared.token.Token.{Token}
 use Rattle.ckc_tree.specs.Heights.{Reach}
 
 -- a token before which the form can't end and with which it can't go on, or the end; a node that is too deep, by its start; no memory

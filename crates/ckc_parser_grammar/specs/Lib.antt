@@ -1,3 +1,7 @@
+pub mod Answers
+pub mod Terminals
+pub mod Depths
+pub mod Faults
 pub mod Tokens
 pub mod TypeGrammar
 pub mod ExpressionGrammar

@@ -1,7 +1,7 @@
 -- Inside: which refusal of a source stands for where reading it fails.
 use Rattle.std.specs.Prelude.{ℕ, List, [], ◌∷◌}
 use Rattle.ckc_text.specs.declared.code.Code.TheVariants.{E06, E07}
-use Rattle.ckc_lexer_tokens.specs.declared.token.Token.{Token}
+use Rattle.ckc_lexer.specs.declared.token.Token.{Token}
 use Rattle.ckc_parser_grammar.specs.Failures.{Failure, unexpected, too_deep, no_memory}
 use Rattle.ckc_parser_grammar.specs.Parsing.{IsFault, point}
 

@@ -3,8 +3,8 @@
 ghost use Rattle.std.specs.Prelude.{ℕ, ◌≤◌, List, [], ◌∷◌, length, codes};
 ghost use Rattle.ckc_parser_grammar.specs.Examples.{span, at, left_tokens, left_tree, product_tokens, product_tree, paren_tokens, paren_tree, shift_tokens, shift_tree, nested_tokens, nested_type, else_tokens, else_tree, early_tokens, whole_tokens, whole_tree};
 ghost use Rattle.ckc_text.specs.declared.code.Code.TheVariants.{E06};
-ghost use Rattle.ckc_lexer_tokens.specs.declared.token.Token.{Token};
-ghost use Rattle.ckc_lexer_tokens.specs.declared.token.TokenKind.TheVariants as kinds;
+ghost use Rattle.ckc_lexer.specs.declared.token.Token.{Token};
+ghost use Rattle.ckc_lexer.specs.declared.token.TokenKind.TheVariants as kinds;
 ghost use Rattle.ckc_tree.specs.Items.{Tree};
 ghost use Rattle.ckc_tree.specs.Weights.{tree_weight};
 ghost use Rattle.ckc_parser_grammar.specs.TypeGrammar.{SpellsTypeName};

@@ -4,14 +4,14 @@ use Rattle.std.specs.List.{list_any}
 use Rattle.std.specs.Char.{digit_value}
 use Rattle.std.proofs.Math.Seq.{take-append_seam, drop-append_seam}
 use Rattle.std.proofs.lemmas.Bool.Decides.{nat_tests}
-use Rattle.ckc_lexer_tokens.specs.Bytes.{is_control, is_forbidden, is_hexadecimal_digit}
+use Rattle.ckc_lexer.specs.Bytes.{is_control, is_forbidden, is_hexadecimal_digit}
 use Rattle.ckc_lexer.specs.Quoted as lexed
 use Rattle.ckc_lexer.specs.Quoted.{Means}
 use Rattle.ckc_lexer.specs.Runs.{width, Extent, ends, goes}
 use Rattle.ckc_lexer.specs.Pieces.{Stands, IsString, IsCharacter}
 use Rattle.ckc_lexer.specs.declared.run.Run.TheVariants.{Quoted}
-use Rattle.ckc_lexer_tokens.specs.declared.piece.Piece.TheVariants.{Lexeme}
-use Rattle.ckc_lexer_tokens.specs.declared.token.TokenKind.TheVariants.{Character, Text}
+use Rattle.ckc_lexer.specs.declared.piece.Piece.TheVariants.{Lexeme}
+use Rattle.ckc_lexer.specs.declared.token.TokenKind.TheVariants.{Character, Text}
 use Rattle.ckc_printer.specs.Pieces.{hexadecimal_digit, is_plain, quoted_byte, string_text, character_text}
 use Rattle.ckc_printer.specs.ReadingBack.{AreBytes}
 

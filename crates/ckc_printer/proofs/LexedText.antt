@@ -7,15 +7,15 @@ use Rattle.ckc_text.specs.declared.fault.SourceFault.{SourceFault}
 use Rattle.ckc_lexer.specs.declared.run.Run.TheVariants.{Directive}
 use Rattle.ckc_lexer.specs.declared.line.Line.{Line}
 use Rattle.ckc_lexer.specs.declared.line.Line.TheVariants.{Fresh, Marked, Behind}
-use Rattle.ckc_lexer_tokens.specs.declared.piece.Piece.TheVariants.{Gap, Lexeme, Named, Scope}
-use Rattle.ckc_lexer_tokens.specs.declared.piece.Piece.{Piece}
-use Rattle.ckc_lexer_tokens.specs.declared.piece.ScopeWord.{ScopeWord}
-use Rattle.ckc_lexer_tokens.specs.declared.piece.ScopeWord.TheVariants as word
-use Rattle.ckc_lexer_tokens.specs.declared.token.CheckedScope.{CheckedScope}
-use Rattle.ckc_lexer_tokens.specs.declared.token.CheckedScope.TheVariants.{On, Off}
-use Rattle.ckc_lexer_tokens.specs.declared.token.Token.{Token}
-use Rattle.ckc_lexer_tokens.specs.declared.token.TokenKind.{TokenKind}
-use Rattle.ckc_lexer_tokens.specs.declared.token.TokenKind.TheVariants as kinds
+use Rattle.ckc_lexer.specs.declared.piece.Piece.TheVariants.{Gap, Lexeme, Named, Scope}
+use Rattle.ckc_lexer.specs.declared.piece.Piece.{Piece}
+use Rattle.ckc_lexer.specs.declared.piece.ScopeWord.{ScopeWord}
+use Rattle.ckc_lexer.specs.declared.piece.ScopeWord.TheVariants as word
+use Rattle.ckc_lexer.specs.declared.token.CheckedScope.{CheckedScope}
+use Rattle.ckc_lexer.specs.declared.token.CheckedScope.TheVariants.{On, Off}
+use Rattle.ckc_lexer.specs.declared.token.Token.{Token}
+use Rattle.ckc_lexer.specs.declared.token.TokenKind.{TokenKind}
+use Rattle.ckc_lexer.specs.declared.token.TokenKind.TheVariants as kinds
 use Rattle.ckc_lexer.specs.Directives.{part, named_directive, pragma_of, scope_of}
 use Rattle.ckc_lexer.specs.Runs as runs
 use Rattle.ckc_lexer.specs.Runs.{width, Extent}

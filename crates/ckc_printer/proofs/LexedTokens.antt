@@ -8,17 +8,17 @@ use Rattle.std.proofs.lemmas.Fmt.{decimal_is_IsNumeral, decimal_digit, first_dec
 use Rattle.std.proofs.lemmas.List.Folds.{prefix_len-append}
 use Rattle.std.proofs.lemmas.Str.Parse.{digit_from_value}
 use Rattle.ckc_text.specs.Names.{is_digit, is_letter, is_word_byte, begins_with}
-use Rattle.ckc_lexer_tokens.specs.Words.{is_decimal, limited, word_piece}
+use Rattle.ckc_lexer.specs.Words.{is_decimal, limited, word_piece}
 use Rattle.ckc_lexer.specs.Pieces.{StandsAs, Stands, front_of}
 use Rattle.ckc_lexer.specs.declared.front.Front.{Front}
 use Rattle.ckc_lexer.specs.declared.front.Front.TheVariants.{Word}
-use Rattle.ckc_lexer_tokens.specs.declared.piece.Piece.{Piece}
-use Rattle.ckc_lexer_tokens.specs.declared.piece.Piece.TheVariants.{Lexeme, Named}
-use Rattle.ckc_lexer_tokens.specs.declared.token.TokenKind.{TokenKind}
-use Rattle.ckc_lexer_tokens.specs.declared.keyword.Keyword.{Keyword}
-use Rattle.ckc_lexer_tokens.specs.declared.keyword.Keyword.TheVariants as keywords
-use Rattle.ckc_lexer_tokens.specs.declared.token.TokenKind.TheVariants as kinds
-use Rattle.ckc_lexer_tokens.proofs.Numerals.{is_decimal_digits}
+use Rattle.ckc_lexer.specs.declared.piece.Piece.{Piece}
+use Rattle.ckc_lexer.specs.declared.piece.Piece.TheVariants.{Lexeme, Named}
+use Rattle.ckc_lexer.specs.declared.token.TokenKind.{TokenKind}
+use Rattle.ckc_lexer.specs.declared.keyword.Keyword.{Keyword}
+use Rattle.ckc_lexer.specs.declared.keyword.Keyword.TheVariants as keywords
+use Rattle.ckc_lexer.specs.declared.token.TokenKind.TheVariants as kinds
+use Rattle.ckc_lexer.proofs.Numerals.{is_decimal_digits}
 use Rattle.ckc_printer.specs.Pieces.{kind_text}
 use Rattle.ckc_lexer.proofs.Words.{IsWordText}
 use Rattle.ckc_printer.specs.ReadingBack.{IsFreeName}

@@ -7,20 +7,20 @@ use Rattle.std.proofs.lemmas.Bool.Decides.{nat_tests}
 use Rattle.ckc_text.specs.declared.code.Code.{Code}
 use Rattle.ckc_text.specs.declared.code.Code.TheVariants.{E01, E02, E04, E05}
 use Rattle.ckc_text.specs.Names.{is_digit, is_letter, is_word_byte, begins_with, IsName}
-use Rattle.ckc_lexer_tokens.specs.Bytes.{is_blank, is_line_feed, is_in_line, is_control, is_forbidden, is_hexadecimal_digit}
-use Rattle.ckc_lexer_tokens.specs.Words.{keywords, listed, is_decimal, is_hexadecimal, limited, number_of, number_piece, name_piece, word_piece}
-use Rattle.ckc_lexer_tokens.specs.Marks.{long_marks, short_marks, long_mark, short_mark, marked, mark_piece}
+use Rattle.ckc_lexer.specs.Bytes.{is_blank, is_line_feed, is_in_line, is_control, is_forbidden, is_hexadecimal_digit}
+use Rattle.ckc_lexer.specs.Words.{keywords, listed, is_decimal, is_hexadecimal, limited, number_of, number_piece, name_piece, word_piece}
+use Rattle.ckc_lexer.specs.Marks.{long_marks, short_marks, long_mark, short_mark, marked, mark_piece}
 use Rattle.ckc_lexer.specs.Quoted.{Means, nothing, byte, IsContent, quoted_byte, escape, simple_escape, hexadecimal_escape, string_piece, character_piece}
 use Rattle.ckc_lexer.specs.Directives.{part, is_keyword, numbered_definition, signed_definition, definition_of, scope_word, scope_piece, scope_of, pragma_of, named_directive}
-use Rattle.ckc_lexer_tokens.specs.Rules.{comment}
+use Rattle.ckc_lexer.specs.Rules.{comment}
 use Rattle.ckc_lexer.specs.Pieces.{front_of, comment_piece, is_closing, is_quote, is_include, IsDirective, IsHash, StandsAs, Stands}
 use Rattle.ckc_lexer.specs.declared.front.Front.{Front}
 use Rattle.ckc_lexer.specs.declared.front.Front.TheVariants.{BlankByte, LineComment, BlockComment, StringQuote, CharacterQuote, Word, Hash, Mark}
-use Rattle.ckc_lexer_tokens.specs.declared.piece.Piece.{Piece}
-use Rattle.ckc_lexer_tokens.specs.declared.piece.Piece.TheVariants.{Lexeme, Named, Include, Define, CommentFault, Forbidden, Fault}
-use Rattle.ckc_lexer_tokens.specs.declared.piece.ScopeWord.{ScopeWord}
-use Rattle.ckc_lexer_tokens.specs.declared.keyword.Keyword.{Keyword}
-use Rattle.ckc_lexer_tokens.specs.declared.token.TokenKind.{TokenKind}
+use Rattle.ckc_lexer.specs.declared.piece.Piece.{Piece}
+use Rattle.ckc_lexer.specs.declared.piece.Piece.TheVariants.{Lexeme, Named, Include, Define, CommentFault, Forbidden, Fault}
+use Rattle.ckc_lexer.specs.declared.piece.ScopeWord.{ScopeWord}
+use Rattle.ckc_lexer.specs.declared.keyword.Keyword.{Keyword}
+use Rattle.ckc_lexer.specs.declared.token.TokenKind.{TokenKind}
 use Rattle.ckc_lexer.proofs.Words.{IsWordText, word_text, name_of_word}
 use Rattle.ckc_printer.specs.ReadingBack.{IsFreeName, IsLexical, AreBytes}
 

@@ -5,17 +5,17 @@ use Rattle.ckc_text.specs.declared.fault.SourceFault.{SourceFault}
 use Rattle.ckc_text.specs.declared.code.Code.TheVariants.{E05, E08}
 use Rattle.ckc_lexer.specs.declared.line.Line.{Line}
 use Rattle.ckc_lexer.specs.declared.line.Line.TheVariants.{Fresh, Marked, Behind}
-use Rattle.ckc_lexer_tokens.specs.declared.piece.Definition.{Definition}
-use Rattle.ckc_lexer_tokens.specs.declared.piece.Piece.{Piece}
-use Rattle.ckc_lexer_tokens.specs.declared.piece.Piece.TheVariants.{Gap, Lexeme, Named, Include, Define, Scope, CommentFault, Forbidden, Fault}
-use Rattle.ckc_lexer_tokens.specs.declared.piece.ScopeWord.{ScopeWord}
-use Rattle.ckc_lexer_tokens.specs.declared.piece.ScopeWord.TheVariants as word
-use Rattle.ckc_lexer_tokens.specs.declared.token.CheckedScope.{CheckedScope}
-use Rattle.ckc_lexer_tokens.specs.declared.token.CheckedScope.TheVariants as scopes
-use Rattle.ckc_lexer_tokens.specs.declared.token.Token.{Token}
-use Rattle.ckc_lexer_tokens.specs.declared.token.TokenKind.{TokenKind}
-use Rattle.ckc_lexer_tokens.specs.declared.token.TokenKind.TheVariants as kinds
-use Rattle.ckc_lexer_tokens.specs.Rules.{is_same_number}
+use Rattle.ckc_lexer.specs.declared.piece.Definition.{Definition}
+use Rattle.ckc_lexer.specs.declared.piece.Piece.{Piece}
+use Rattle.ckc_lexer.specs.declared.piece.Piece.TheVariants.{Gap, Lexeme, Named, Include, Define, Scope, CommentFault, Forbidden, Fault}
+use Rattle.ckc_lexer.specs.declared.piece.ScopeWord.{ScopeWord}
+use Rattle.ckc_lexer.specs.declared.piece.ScopeWord.TheVariants as word
+use Rattle.ckc_lexer.specs.declared.token.CheckedScope.{CheckedScope}
+use Rattle.ckc_lexer.specs.declared.token.CheckedScope.TheVariants as scopes
+use Rattle.ckc_lexer.specs.declared.token.Token.{Token}
+use Rattle.ckc_lexer.specs.declared.token.TokenKind.{TokenKind}
+use Rattle.ckc_lexer.specs.declared.token.TokenKind.TheVariants as kinds
+use Rattle.ckc_lexer.specs.Rules.{is_same_number}
 use Rattle.ckc_lexer.specs.Tokens.{State, Step, Cut, ends, stops, goes, cut, token_at, fault_at, go_on, push, push_after, definition_for, name_tokens, behind_mark, define, scope_from, pop_scope, change_scope, is_first, next}
 use Rattle.ckc_printer.specs.ReadingBack.{IsFreeName, IsLexical, AreBytes, TokensAreLexical}
 use Rattle.ckc_printer.proofs.Printable.{Lexical}

@@ -2,7 +2,7 @@
 use Rattle.std.proofs.Common.{ℕ, Bool, List, [], ◌∷◌, ◌++◌, map, Option}
 use Rattle.std.specs.List.{flat_map, AllByRecursion}
 use Rattle.ckc_text.specs.declared.place.Span.{Span}
-use Rattle.ckc_lexer_tokens.specs.declared.token.Token.{Token}
+use Rattle.ckc_lexer.specs.declared.token.Token.{Token}
 use Rattle.ckc_tree.specs.declared.identifier.Identifier.{Identifier}
 use Rattle.ckc_tree.specs.declared.stmt.Mark.{Mark}
 use Rattle.ckc_tree.specs.declared.item.FunctionKind.{FunctionKind}

@@ -1,9 +1,9 @@
 -- Tokens by the signs that they are: what stands next, and what was read of a form.
 use Rattle.std.proofs.Common.{◌≡◌, Bool, false, List, [], ◌∷◌, ◌++◌, refl, append_assoc}
 use Rattle.ckc_text.specs.declared.place.Span.{Span}
-use Rattle.ckc_lexer_tokens.specs.declared.token.Token.{Token}
-use Rattle.ckc_lexer_tokens.specs.declared.token.TokenKind.{TokenKind}
-use Rattle.ckc_lexer_tokens.specs.declared.token.TokenKind.TheVariants as kinds
+use Rattle.ckc_lexer.specs.declared.token.Token.{Token}
+use Rattle.ckc_lexer.specs.declared.token.TokenKind.{TokenKind}
+use Rattle.ckc_lexer.specs.declared.token.TokenKind.TheVariants as kinds
 use Rattle.ckc_parser_grammar.specs.Tokens.{token, next_is}
 use Rattle.ckc_printer.specs.Pieces.{Sign, One, RightShift, with_commas, after_commas}
 use Rattle.ckc_printer.specs.ReadingBack.{AreSigns, none, one, shift}

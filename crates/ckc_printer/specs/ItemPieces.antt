@@ -1,10 +1,10 @@
 -- The signs of what stands at file level, and the pieces and the text of a whole source.
 use Rattle.std.specs.Prelude.{ℕ, Bool, true, false, List, [], ◌∷◌, ◌++◌, map, Option, Some, None}
 use Rattle.std.specs.List.{flat_map}
-use Rattle.ckc_lexer_tokens.specs.declared.token.CheckedScope.{CheckedScope}
-use Rattle.ckc_lexer_tokens.specs.declared.token.CheckedScope.TheVariants as scopes
-use Rattle.ckc_lexer_tokens.specs.declared.keyword.Keyword.TheVariants as keywords
-use Rattle.ckc_lexer_tokens.specs.declared.token.TokenKind.TheVariants as kinds
+use Rattle.ckc_lexer.specs.declared.token.CheckedScope.{CheckedScope}
+use Rattle.ckc_lexer.specs.declared.token.CheckedScope.TheVariants as scopes
+use Rattle.ckc_lexer.specs.declared.keyword.Keyword.TheVariants as keywords
+use Rattle.ckc_lexer.specs.declared.token.TokenKind.TheVariants as kinds
 use Rattle.ckc_tree.specs.declared.item.Region.{Region}
 use Rattle.ckc_tree.specs.declared.item.Region.TheVariants as regions
 use Rattle.ckc_tree.specs.declared.item.FunctionKind.{FunctionKind}

@@ -1,12 +1,12 @@
 -- What is printed: words and marks, one behind the other, and lines between them.
 use Rattle.std.specs.Prelude.{ℕ, ◌+◌, ◌/◌, ◌%◌, Bool, true, false, not, ◌&&◌, ◌||◌, cond, List, [], ◌∷◌, ◌++◌, ◌==◌, nat_le, nat_lt, codes, decimal}
 use Rattle.std.specs.List.{flat_map}
-use Rattle.ckc_lexer_tokens.specs.declared.token.CheckedScope.{CheckedScope}
-use Rattle.ckc_lexer_tokens.specs.declared.token.CheckedScope.TheVariants.{On, Off}
-use Rattle.ckc_lexer_tokens.specs.declared.token.TokenKind.{TokenKind}
-use Rattle.ckc_lexer_tokens.specs.declared.keyword.Keyword.{Keyword}
-use Rattle.ckc_lexer_tokens.specs.declared.keyword.Keyword.TheVariants as keywords
-use Rattle.ckc_lexer_tokens.specs.declared.token.TokenKind.TheVariants as kinds
+use Rattle.ckc_lexer.specs.declared.token.CheckedScope.{CheckedScope}
+use Rattle.ckc_lexer.specs.declared.token.CheckedScope.TheVariants.{On, Off}
+use Rattle.ckc_lexer.specs.declared.token.TokenKind.{TokenKind}
+use Rattle.ckc_lexer.specs.declared.keyword.Keyword.{Keyword}
+use Rattle.ckc_lexer.specs.declared.keyword.Keyword.TheVariants as keywords
+use Rattle.ckc_lexer.specs.declared.token.TokenKind.TheVariants as kinds
 
 -- what stands in a line: a token, or the two marks `>` of a right shift, which touch
 pub data Sign : Type 0 where

@@ -2,11 +2,11 @@
 use Rattle.std.specs.Prelude.{◌≡◌, ◌≤◌, ◌<◌, ◌+◌, ℕ, List, [], ◌∷◌, length, map, None}
 use Rattle.std.specs.List.{AllByRecursion}
 use Rattle.ckc_text.specs.declared.place.Span.{Span}
-use Rattle.ckc_lexer_tokens.specs.declared.token.Token.{Token}
-use Rattle.ckc_lexer_tokens.specs.declared.token.TokenKind.{TokenKind}
-use Rattle.ckc_lexer_tokens.specs.declared.token.TokenKind.TheVariants as kinds
+use Rattle.ckc_lexer.specs.declared.token.Token.{Token}
+use Rattle.ckc_lexer.specs.declared.token.TokenKind.{TokenKind}
+use Rattle.ckc_lexer.specs.declared.token.TokenKind.TheVariants as kinds
 use Rattle.ckc_text.specs.Names.{IsName}
-use Rattle.ckc_lexer_tokens.specs.Words.{listed, keywords}
+use Rattle.ckc_lexer.specs.Words.{listed, keywords}
 use Rattle.ckc_lexer.specs.Tokens.{AreTokens}
 use Rattle.ckc_tree.specs.Items.{Tree}
 use Rattle.ckc_tree.specs.Bare.{SameTree}

@@ -1,8 +1,8 @@
 -- The signs of types.
 use Rattle.std.specs.Prelude.{ℕ, zero, suc, List, [], ◌∷◌, ◌++◌}
-use Rattle.ckc_lexer_tokens.specs.declared.token.TokenKind.{TokenKind}
-use Rattle.ckc_lexer_tokens.specs.declared.keyword.Keyword.TheVariants as keywords
-use Rattle.ckc_lexer_tokens.specs.declared.token.TokenKind.TheVariants as kinds
+use Rattle.ckc_lexer.specs.declared.token.TokenKind.{TokenKind}
+use Rattle.ckc_lexer.specs.declared.keyword.Keyword.TheVariants as keywords
+use Rattle.ckc_lexer.specs.declared.token.TokenKind.TheVariants as kinds
 use Rattle.ckc_tree.specs.declared.identifier.Identifier.{Identifier}
 use Rattle.ckc_tree.specs.declared.type_form.PointerMode.{PointerMode}
 use Rattle.ckc_tree.specs.declared.type_form.PointerMode.TheVariants.{Checked, Tainted}

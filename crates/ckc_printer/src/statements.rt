@@ -69,7 +69,8 @@ fn for_head(
     condition: &Option<Box<Expr>>,
     step: &Option<Assignment>,
 )
-    ensures { Puts out.old out.new (spaced_text (for_head_pieces (for_initial initial.now) (option_map on_heap condition.now) (option_map assignment step.now))) }
+    ensures { Puts out.old out.new (spaced_text (for_head_pieces (for_initial initial.now) (option_map on_heap condition.now)
+        (option_map assignment step.now))) }
 {
     put(out, b"for (");
     for_start(out, initial);
@@ -176,7 +177,9 @@ fn put_stmt(out: &mut Output, stmt: &Stmt)
 /// A word, a condition in parentheses, and the statement behind them.
 #[cycle(statements)]
 fn put_guarded(out: &mut Output, word: &[u8], condition: &Expr, body: &Stmt)
-    ensures { Puts out.old out.new (spaced word.now ++ (spaced (40 ∷ []) ++ (spaced_text (expression_pieces (expression condition.now)) ++ spaced (41 ∷ []))) ++ spaced_text (statement_pieces (statement body.now))) }
+    ensures { Puts out.old out.new (spaced word.now ++ (spaced (40 ∷ [])
+        ++ (spaced_text (expression_pieces (expression condition.now)) ++ spaced (41 ∷ []))) ++ spaced_text
+        (statement_pieces (statement body.now))) }
 {
     put_tested(out, word, condition);
     put_stmt(out, body);
@@ -203,7 +206,8 @@ fn put_for(
     step: &Option<Assignment>,
     body: &Stmt,
 )
-    ensures { Puts out.old out.new (spaced_text (for_pieces (for_initial initial.now) (option_map on_heap condition.now) (option_map assignment step.now) (statement body.now))) }
+    ensures { Puts out.old out.new (spaced_text (for_pieces (for_initial initial.now) (option_map on_heap condition.now)
+        (option_map assignment step.now) (statement body.now))) }
 {
     for_head(out, initial, condition, step);
     put_stmt(out, body);

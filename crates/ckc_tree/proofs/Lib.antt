@@ -1,3 +1,4 @@
+pub mod TextRows
 pub mod SameHeights
 pub mod NumberedHeights
 pub mod NumberedWeights

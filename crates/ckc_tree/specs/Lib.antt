@@ -1,3 +1,6 @@
+pub mod Texts
+pub mod TextExamples
+pub mod Slices
 pub mod Types
 pub mod Expressions
 pub mod Statements

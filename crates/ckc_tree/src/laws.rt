@@ -1,6 +1,6 @@
-// What holds of heights, and what the definitions of placement and of weights say of small trees.
+// What holds of heights, and what the definitions of placement, of weights and of texts say of small trees.
 
-ghost use Rattle.std.specs.Prelude.{◌≡◌};
+ghost use Rattle.std.specs.Prelude.{◌≡◌, []};
 ghost use Rattle.ckc_tree.specs.Items.{Tree};
 ghost use Rattle.ckc_tree.specs.Heights.{height};
 ghost use Rattle.ckc_tree.specs.Weights.{tree_weight};
@@ -8,6 +8,8 @@ ghost use Rattle.ckc_tree.specs.Bare.{SameTree};
 ghost use Rattle.ckc_tree.specs.Numbers.{Numbers, numbered};
 ghost use Rattle.ckc_tree.specs.Placement.{IsPlaced};
 ghost use Rattle.ckc_tree.specs.Examples.{span, difference};
+ghost use Rattle.ckc_tree.specs.Texts.{statements_texts};
+ghost use Rattle.ckc_tree.specs.TextExamples.{everywhere, in_order, in_bounds};
 
 /// A tree whose spans stand in order, one with a child outside its parent, one with siblings out of order, and one that
 /// is longer than its source.
@@ -32,4 +34,11 @@ pub fn same_heights()
 pub fn numbered_trees()
     ensures heights { (of : Numbers) (t : Tree) → height (numbered of t) ≡ height t }
     ensures weights { (of : Numbers) (t : Tree) → tree_weight (numbered of t) ≡ tree_weight t }
+{}
+
+/// Statements with a string in each kind of place, which come in the order of the source; statements whose strings all stand in
+/// bounds have none.
+pub fn examples_of_texts()
+    ensures everywhere { statements_texts everywhere ≡ in_order }
+    ensures in_bounds { statements_texts in_bounds ≡ [] }
 {}

@@ -49,9 +49,11 @@ pub fn bits_and_comparisons()
 /// bytes are those from 65,596 on.
 pub fn words_of_memory()
     ensures null { (place : Place) → result_of (pos 0 ∷ []) (ops.NonNull place) ≡ Some (Check C1 place) }
-    ensures stored { ending_by (ops.Const (pos 65552) ∷ ops.Const (negsuc 1) ∷ ops.Store4 ∷ ops.Const (pos 65552) ∷ ops.Load4 ∷ ops.Set 0 ∷ ops.Local 0 ∷ ops.Return ∷ [])
+    ensures stored { ending_by (ops.Const (pos 65552) ∷ ops.Const (negsuc 1) ∷ ops.Store4 ∷ ops.Const (pos 65552) ∷ ops.Load4 ∷ ops.Set 0
+        ∷ ops.Local 0 ∷ ops.Return ∷ [])
         ≡ Some (Exit (negsuc 1)) }
-    ensures byte { ending_by (ops.Const (pos 65552) ∷ ops.Const (pos 511) ∷ ops.Store1 ∷ ops.Const (pos 65552) ∷ ops.Load4 ∷ ops.Return ∷ []) ≡ Some (Exit (pos 255)) }
+    ensures byte { ending_by (ops.Const (pos 65552) ∷ ops.Const (pos 511) ∷ ops.Store1 ∷ ops.Const (pos 65552) ∷ ops.Load4 ∷ ops.Return
+        ∷ []) ≡ Some (Exit (pos 255)) }
     ensures last { result_of (pos 65596 ∷ []) ops.Load4 ≡ Some (Exit (pos 0)) }
     ensures past_the_end { result_of (pos 65597 ∷ []) ops.Load4 ≡ Some (Stops S6 None) }
 {}
@@ -73,10 +75,14 @@ pub fn elements()
 /// The length of a text: each byte spends a tick, the zero included, and a text without a zero runs into the memory's end.
 pub fn lengths()
     ensures none { result_of (pos 65536 ∷ []) ops.TextLength ≡ Some (Exit (pos 0)) }
-    ensures one { ending_of (run_of 2 (ops.Const (pos 65540) ∷ ops.Const (pos 97) ∷ ops.Store1 ∷ ops.Const (pos 65540) ∷ ops.TextLength ∷ ops.Return ∷ []) []) ≡ Some (Exit (pos 1)) }
-    ensures ticks { ticks_in (run_of 9 (ops.Const (pos 65540) ∷ ops.Const (pos 97) ∷ ops.Store1 ∷ ops.Const (pos 65540) ∷ ops.TextLength ∷ ops.Return ∷ []) []) ≡ 2 }
-    ensures budget { ending_of (run_of 1 (ops.Const (pos 65540) ∷ ops.Const (pos 97) ∷ ops.Store1 ∷ ops.Const (pos 65540) ∷ ops.TextLength ∷ ops.Return ∷ []) []) ≡ Some (Stops S1 None) }
-    ensures unended { ending_by (ops.Const (pos 65599) ∷ ops.Const (pos 97) ∷ ops.Store1 ∷ ops.Const (pos 65599) ∷ ops.TextLength ∷ ops.Return ∷ []) ≡ Some (Stops S6 None) }
+    ensures one { ending_of (run_of 2 (ops.Const (pos 65540) ∷ ops.Const (pos 97) ∷ ops.Store1 ∷ ops.Const (pos 65540) ∷ ops.TextLength
+        ∷ ops.Return ∷ []) []) ≡ Some (Exit (pos 1)) }
+    ensures ticks { ticks_in (run_of 9 (ops.Const (pos 65540) ∷ ops.Const (pos 97) ∷ ops.Store1 ∷ ops.Const (pos 65540) ∷ ops.TextLength
+        ∷ ops.Return ∷ []) []) ≡ 2 }
+    ensures budget { ending_of (run_of 1 (ops.Const (pos 65540) ∷ ops.Const (pos 97) ∷ ops.Store1 ∷ ops.Const (pos 65540) ∷ ops.TextLength
+        ∷ ops.Return ∷ []) []) ≡ Some (Stops S1 None) }
+    ensures unended { ending_by (ops.Const (pos 65599) ∷ ops.Const (pos 97) ∷ ops.Store1 ∷ ops.Const (pos 65599) ∷ ops.TextLength
+        ∷ ops.Return ∷ []) ≡ Some (Stops S6 None) }
     ensures outside { result_of (pos 65600 ∷ []) ops.TextLength ≡ Some (Stops S6 None) }
 {}
 
@@ -89,8 +95,10 @@ pub fn accesses_within()
     ensures above { (place : Place) → checked_by (pos 100 ∷ pos 2 ∷ pos 100 ∷ pos 0 ∷ pos 2 ∷ []) (ops.In (pos 0) (pos 0) 4 place) ≡ Some (Check C2 place) }
     ensures below { (place : Place) → checked_by (pos 100 ∷ negsuc 0 ∷ pos 100 ∷ pos 0 ∷ pos 2 ∷ []) (ops.In (pos 0) (pos 0) 4 place) ≡ Some (Check C2 place) }
     ensures moved { (place : Place) → checked_by (pos 100 ∷ pos 1 ∷ pos 100 ∷ pos 0 ∷ pos 3 ∷ []) (ops.In (pos 1) (negsuc 0) 4 place) ≡ Some (Exit (pos 7)) }
-    ensures below_moved { (place : Place) → checked_by (pos 100 ∷ pos 0 ∷ pos 100 ∷ pos 0 ∷ pos 3 ∷ []) (ops.In (pos 1) (negsuc 0) 4 place) ≡ Some (Check C2 place) }
-    ensures above_moved { (place : Place) → checked_by (pos 100 ∷ pos 2 ∷ pos 100 ∷ pos 0 ∷ pos 3 ∷ []) (ops.In (pos 1) (negsuc 0) 4 place) ≡ Some (Check C2 place) }
+    ensures below_moved { (place : Place) → checked_by (pos 100 ∷ pos 0 ∷ pos 100 ∷ pos 0 ∷ pos 3 ∷ []) (ops.In (pos 1) (negsuc 0) 4 place)
+        ≡ Some (Check C2 place) }
+    ensures above_moved { (place : Place) → checked_by (pos 100 ∷ pos 2 ∷ pos 100 ∷ pos 0 ∷ pos 3 ∷ []) (ops.In (pos 1) (negsuc 0) 4 place)
+        ≡ Some (Check C2 place) }
 {}
 
 /// A sum, or an access of a null-terminated pointer, may also be at the upper end.
@@ -98,8 +106,10 @@ pub fn sums_within()
     ensures lowest { (place : Place) → checked_by (pos 100 ∷ pos 0 ∷ pos 100 ∷ pos 0 ∷ pos 2 ∷ []) (ops.UpTo (pos 0) (pos 0) 4 place) ≡ Some (Exit (pos 7)) }
     ensures highest { (place : Place) → checked_by (pos 100 ∷ pos 2 ∷ pos 100 ∷ pos 0 ∷ pos 2 ∷ []) (ops.UpTo (pos 0) (pos 0) 4 place) ≡ Some (Exit (pos 7)) }
     ensures above { (place : Place) → checked_by (pos 100 ∷ pos 3 ∷ pos 100 ∷ pos 0 ∷ pos 2 ∷ []) (ops.UpTo (pos 0) (pos 0) 4 place) ≡ Some (Check C2 place) }
-    ensures below { (place : Place) → checked_by (pos 100 ∷ negsuc 0 ∷ pos 100 ∷ pos 0 ∷ pos 2 ∷ []) (ops.UpTo (pos 0) (pos 0) 4 place) ≡ Some (Check C2 place) }
-    ensures above_moved { (place : Place) → checked_by (pos 100 ∷ pos 2 ∷ pos 100 ∷ pos 0 ∷ pos 2 ∷ []) (ops.UpTo (pos 0) (negsuc 0) 4 place) ≡ Some (Check C2 place) }
+    ensures below { (place : Place) → checked_by (pos 100 ∷ negsuc 0 ∷ pos 100 ∷ pos 0 ∷ pos 2 ∷ []) (ops.UpTo (pos 0) (pos 0) 4 place)
+        ≡ Some (Check C2 place) }
+    ensures above_moved { (place : Place) → checked_by (pos 100 ∷ pos 2 ∷ pos 100 ∷ pos 0 ∷ pos 2 ∷ [])
+        (ops.UpTo (pos 0) (negsuc 0) 4 place) ≡ Some (Check C2 place) }
 {}
 
 /// At the upper end of a null-terminated pointer only 0 is stored.
@@ -113,14 +123,22 @@ pub fn terminators()
 /// A dynamic cast: the new bounds lie within the old ones, or the pointer is null, or the new bounds are none. The pointer
 /// stays.
 pub fn dynamic_casts()
-    ensures same { (place : Place) → result_of (pos 108 ∷ pos 100 ∷ pos 0 ∷ pos 4 ∷ pos 100 ∷ pos 0 ∷ pos 4 ∷ []) (ops.Contain (pos 0) (pos 0) (pos 0) (pos 0) 4 place) ≡ Some (Exit (pos 108)) }
-    ensures above { (place : Place) → result_of (pos 108 ∷ pos 100 ∷ pos 0 ∷ pos 4 ∷ pos 100 ∷ pos 0 ∷ pos 5 ∷ []) (ops.Contain (pos 0) (pos 0) (pos 0) (pos 0) 4 place) ≡ Some (Check C5 place) }
-    ensures below { (place : Place) → result_of (pos 108 ∷ pos 100 ∷ pos 0 ∷ pos 4 ∷ pos 100 ∷ negsuc 0 ∷ pos 4 ∷ []) (ops.Contain (pos 0) (pos 0) (pos 0) (pos 0) 4 place) ≡ Some (Check C5 place) }
-    ensures null { (place : Place) → result_of (pos 0 ∷ pos 100 ∷ pos 0 ∷ pos 4 ∷ pos 100 ∷ pos 0 ∷ pos 5 ∷ []) (ops.Contain (pos 0) (pos 0) (pos 0) (pos 0) 4 place) ≡ Some (Exit (pos 0)) }
-    ensures none { (place : Place) → result_of (pos 108 ∷ pos 100 ∷ pos 0 ∷ pos 4 ∷ pos 100 ∷ pos 9 ∷ pos 8 ∷ []) (ops.Contain (pos 0) (pos 0) (pos 0) (pos 0) 4 place) ≡ Some (Exit (pos 108)) }
-    ensures empty { (place : Place) → result_of (pos 108 ∷ pos 100 ∷ pos 0 ∷ pos 4 ∷ pos 100 ∷ pos 9 ∷ pos 9 ∷ []) (ops.Contain (pos 0) (pos 0) (pos 0) (pos 0) 4 place) ≡ Some (Check C5 place) }
-    ensures moved { (place : Place) → result_of (pos 108 ∷ pos 100 ∷ pos 0 ∷ pos 4 ∷ pos 100 ∷ pos 0 ∷ pos 4 ∷ []) (ops.Contain (pos 1) (pos 0) (pos 0) (pos 0) 4 place) ≡ Some (Check C5 place) }
-    ensures within { (place : Place) → result_of (pos 108 ∷ pos 100 ∷ pos 0 ∷ pos 4 ∷ pos 100 ∷ pos 0 ∷ pos 4 ∷ []) (ops.Contain (pos 1) (negsuc 0) (pos 1) (negsuc 0) 4 place) ≡ Some (Exit (pos 108)) }
+    ensures same { (place : Place) → result_of (pos 108 ∷ pos 100 ∷ pos 0 ∷ pos 4 ∷ pos 100 ∷ pos 0 ∷ pos 4 ∷ [])
+        (ops.Contain (pos 0) (pos 0) (pos 0) (pos 0) 4 place) ≡ Some (Exit (pos 108)) }
+    ensures above { (place : Place) → result_of (pos 108 ∷ pos 100 ∷ pos 0 ∷ pos 4 ∷ pos 100 ∷ pos 0 ∷ pos 5 ∷ [])
+        (ops.Contain (pos 0) (pos 0) (pos 0) (pos 0) 4 place) ≡ Some (Check C5 place) }
+    ensures below { (place : Place) → result_of (pos 108 ∷ pos 100 ∷ pos 0 ∷ pos 4 ∷ pos 100 ∷ negsuc 0 ∷ pos 4 ∷ [])
+        (ops.Contain (pos 0) (pos 0) (pos 0) (pos 0) 4 place) ≡ Some (Check C5 place) }
+    ensures null { (place : Place) → result_of (pos 0 ∷ pos 100 ∷ pos 0 ∷ pos 4 ∷ pos 100 ∷ pos 0 ∷ pos 5 ∷ [])
+        (ops.Contain (pos 0) (pos 0) (pos 0) (pos 0) 4 place) ≡ Some (Exit (pos 0)) }
+    ensures none { (place : Place) → result_of (pos 108 ∷ pos 100 ∷ pos 0 ∷ pos 4 ∷ pos 100 ∷ pos 9 ∷ pos 8 ∷ [])
+        (ops.Contain (pos 0) (pos 0) (pos 0) (pos 0) 4 place) ≡ Some (Exit (pos 108)) }
+    ensures empty { (place : Place) → result_of (pos 108 ∷ pos 100 ∷ pos 0 ∷ pos 4 ∷ pos 100 ∷ pos 9 ∷ pos 9 ∷ [])
+        (ops.Contain (pos 0) (pos 0) (pos 0) (pos 0) 4 place) ≡ Some (Check C5 place) }
+    ensures moved { (place : Place) → result_of (pos 108 ∷ pos 100 ∷ pos 0 ∷ pos 4 ∷ pos 100 ∷ pos 0 ∷ pos 4 ∷ [])
+        (ops.Contain (pos 1) (pos 0) (pos 0) (pos 0) 4 place) ≡ Some (Check C5 place) }
+    ensures within { (place : Place) → result_of (pos 108 ∷ pos 100 ∷ pos 0 ∷ pos 4 ∷ pos 100 ∷ pos 0 ∷ pos 4 ∷ [])
+        (ops.Contain (pos 1) (negsuc 0) (pos 1) (negsuc 0) 4 place) ≡ Some (Exit (pos 108)) }
 {}
 
 /// Bounds of a tainted pointer lie in the 64 bytes of the sandbox's memory, without its first byte and with so many more
@@ -157,7 +175,8 @@ pub fn trusted_blocks()
     ensures zero { result_of (pos 0 ∷ []) (ops.Alloc 1) ≡ Some (Exit (pos 0)) }
     ensures negative { result_of (negsuc 0 ∷ []) (ops.Alloc 1) ≡ Some (Exit (pos 0)) }
     ensures full { ending_by (ops.Const (pos 1) ∷ ops.Alloc 1 ∷ ops.Discard ∷ ops.Const (pos 1) ∷ ops.Alloc 1 ∷ ops.Return ∷ []) ≡ Some (Exit (pos 0)) }
-    ensures refused_before { ending_by (ops.Const (pos 33) ∷ ops.Alloc 1 ∷ ops.Discard ∷ ops.Const (pos 32) ∷ ops.Alloc 1 ∷ ops.Return ∷ []) ≡ Some (Exit (pos 65552)) }
+    ensures refused_before { ending_by (ops.Const (pos 33) ∷ ops.Alloc 1 ∷ ops.Discard ∷ ops.Const (pos 32) ∷ ops.Alloc 1 ∷ ops.Return ∷ [])
+        ≡ Some (Exit (pos 65552)) }
 {}
 
 /// The same with one element more, for a terminator.
@@ -176,7 +195,8 @@ pub fn sandbox_blocks()
     ensures too_large { result_of (pos 33 ∷ []) (ops.SandboxAlloc 1) ≡ Some (Exit (pos 0)) }
     ensures zero { result_of (pos 0 ∷ []) (ops.SandboxAlloc 4) ≡ Some (Exit (pos 0)) }
     ensures negative { result_of (negsuc 0 ∷ []) (ops.SandboxAlloc 4) ≡ Some (Exit (pos 0)) }
-    ensures full { ending_by (ops.Const (pos 1) ∷ ops.SandboxAlloc 4 ∷ ops.Discard ∷ ops.Const (pos 1) ∷ ops.SandboxAlloc 4 ∷ ops.Return ∷ []) ≡ Some (Exit (pos 0)) }
+    ensures full { ending_by (ops.Const (pos 1) ∷ ops.SandboxAlloc 4 ∷ ops.Discard ∷ ops.Const (pos 1) ∷ ops.SandboxAlloc 4 ∷ ops.Return
+        ∷ []) ≡ Some (Exit (pos 0)) }
     ensures untouched { releases_in (run_of 10 (ops.Const (pos 1) ∷ ops.SandboxAlloc 4 ∷ ops.Return ∷ []) []) ≡ [] }
 {}
 
@@ -184,7 +204,8 @@ pub fn sandbox_blocks()
 
 /// Loads of the sandbox's memory wait for the acts before them. Whether they lie in it is asked before any act.
 pub fn loads()
-    ensures word { ending_of (run_of 10 (ops.Const (pos 4) ∷ ops.TouchLoad4 ∷ ops.Return ∷ []) (Write 4 (1 ∷ 2 ∷ 0 ∷ 0 ∷ []) ∷ Go ∷ [])) ≡ Some (Exit (pos 513)) }
+    ensures word { ending_of (run_of 10 (ops.Const (pos 4) ∷ ops.TouchLoad4 ∷ ops.Return ∷ []) (Write 4 (1 ∷ 2 ∷ 0 ∷ 0 ∷ []) ∷ Go ∷ []))
+        ≡ Some (Exit (pos 513)) }
     ensures byte { ending_of (run_of 10 (ops.Const (pos 4) ∷ ops.TouchLoad1 ∷ ops.Return ∷ []) (Write 4 (1 ∷ 2 ∷ 0 ∷ 0 ∷ []) ∷ Go ∷ [])) ≡ Some (Exit (pos 1)) }
     ensures releases { releases_in (run_of 10 (ops.Const (pos 4) ∷ ops.TouchLoad4 ∷ ops.Return ∷ []) []) ≡ Looked ∷ [] }
     ensures stopped { ending_of (run_of 10 (ops.Const (pos 60) ∷ ops.TouchLoad4 ∷ ops.Return ∷ []) (Stop ∷ [])) ≡ Some (Stops S3 None) }
@@ -196,10 +217,14 @@ pub fn loads()
 
 /// Stores release their bytes, the lowest first.
 pub fn stores()
-    ensures word { bytes_in 8 (run_of 10 (ops.Const (pos 2) ∷ ops.Const (pos 16909060) ∷ ops.TouchStore4 ∷ ops.Const (pos 0) ∷ ops.Return ∷ []) []) ≡ 0 ∷ 0 ∷ 4 ∷ 3 ∷ 2 ∷ 1 ∷ 0 ∷ 0 ∷ [] }
-    ensures word_released { releases_in (run_of 10 (ops.Const (pos 2) ∷ ops.Const (pos 16909060) ∷ ops.TouchStore4 ∷ ops.Const (pos 0) ∷ ops.Return ∷ []) []) ≡ Wrote 2 (4 ∷ 3 ∷ 2 ∷ 1 ∷ []) ∷ [] }
-    ensures byte { bytes_in 4 (run_of 10 (ops.Const (pos 1) ∷ ops.Const (pos 511) ∷ ops.TouchStore1 ∷ ops.Const (pos 0) ∷ ops.Return ∷ []) []) ≡ 0 ∷ 255 ∷ 0 ∷ 0 ∷ [] }
-    ensures byte_released { releases_in (run_of 10 (ops.Const (pos 1) ∷ ops.Const (pos 511) ∷ ops.TouchStore1 ∷ ops.Const (pos 0) ∷ ops.Return ∷ []) []) ≡ Wrote 1 (255 ∷ []) ∷ [] }
+    ensures word { bytes_in 8 (run_of 10 (ops.Const (pos 2) ∷ ops.Const (pos 16909060) ∷ ops.TouchStore4 ∷ ops.Const (pos 0) ∷ ops.Return
+        ∷ []) []) ≡ 0 ∷ 0 ∷ 4 ∷ 3 ∷ 2 ∷ 1 ∷ 0 ∷ 0 ∷ [] }
+    ensures word_released { releases_in (run_of 10 (ops.Const (pos 2) ∷ ops.Const (pos 16909060) ∷ ops.TouchStore4 ∷ ops.Const (pos 0)
+        ∷ ops.Return ∷ []) []) ≡ Wrote 2 (4 ∷ 3 ∷ 2 ∷ 1 ∷ []) ∷ [] }
+    ensures byte { bytes_in 4 (run_of 10 (ops.Const (pos 1) ∷ ops.Const (pos 511) ∷ ops.TouchStore1 ∷ ops.Const (pos 0) ∷ ops.Return ∷ [])
+        []) ≡ 0 ∷ 255 ∷ 0 ∷ 0 ∷ [] }
+    ensures byte_released { releases_in (run_of 10 (ops.Const (pos 1) ∷ ops.Const (pos 511) ∷ ops.TouchStore1 ∷ ops.Const (pos 0)
+        ∷ ops.Return ∷ []) []) ≡ Wrote 1 (255 ∷ []) ∷ [] }
     ensures last_word { checked_by (pos 60 ∷ pos 1 ∷ []) ops.TouchStore4 ≡ Some (Exit (pos 7)) }
     ensures word_above { checked_by (pos 61 ∷ pos 1 ∷ []) ops.TouchStore4 ≡ Some (Stops S6 None) }
     ensures last_byte { checked_by (pos 63 ∷ pos 1 ∷ []) ops.TouchStore1 ≡ Some (Exit (pos 7)) }
@@ -220,58 +245,94 @@ pub fn tainted_replies()
 
 /// A callback is called with its count of words, spends a tick, and replies; one without a result replies 0.
 pub fn callbacks()
-    ensures ending { ending_of (calling_run 10 (calling kinds.Int kinds.Int (param kinds.Int 1 None ∷ []) (ops.Local 0 ∷ ops.Return ∷ [])) (Go ∷ Call 0 (5 ∷ []) ∷ Go ∷ Returns 9 ∷ [])) ≡ Some (Exit (pos 9)) }
-    ensures replied { releases_in (calling_run 10 (calling kinds.Int kinds.Int (param kinds.Int 1 None ∷ []) (ops.Local 0 ∷ ops.Return ∷ [])) (Go ∷ Call 0 (5 ∷ []) ∷ Go ∷ Returns 9 ∷ [])) ≡ Passed 0 [] ∷ Replied 5 ∷ [] }
-    ensures nothing { releases_in (calling_run 10 (calling kinds.Int kinds.Void [] (ops.ReturnNothing ∷ [])) (Go ∷ Call 0 [] ∷ Go ∷ Returns 9 ∷ [])) ≡ Passed 0 [] ∷ Replied 0 ∷ [] }
+    ensures ending { ending_of (calling_run 10 (calling kinds.Int kinds.Int (param kinds.Int 1 None ∷ []) (ops.Local 0 ∷ ops.Return ∷ []))
+        (Go ∷ Call 0 (5 ∷ []) ∷ Go ∷ Returns 9 ∷ [])) ≡ Some (Exit (pos 9)) }
+    ensures replied { releases_in (calling_run 10 (calling kinds.Int kinds.Int (param kinds.Int 1 None ∷ [])
+        (ops.Local 0 ∷ ops.Return ∷ [])) (Go ∷ Call 0 (5 ∷ []) ∷ Go ∷ Returns 9 ∷ [])) ≡ Passed 0 [] ∷ Replied 5 ∷ [] }
+    ensures nothing { releases_in (calling_run 10 (calling kinds.Int kinds.Void [] (ops.ReturnNothing ∷ []))
+        (Go ∷ Call 0 [] ∷ Go ∷ Returns 9 ∷ [])) ≡ Passed 0 [] ∷ Replied 0 ∷ [] }
     ensures no_word { ending_of (calling_run 10 (calling kinds.Int kinds.Int [] (ops.ReturnNothing ∷ [])) (Go ∷ Call 0 [] ∷ Go ∷ [])) ≡ Some (Stops S6 None) }
     ensures unknown { ending_of (calling_run 10 (calling kinds.Int kinds.Int [] []) (Go ∷ Call 1 [] ∷ [])) ≡ Some (Stops S5 (Some 2)) }
     ensures count { ending_of (calling_run 0 (calling kinds.Int kinds.Int [] []) (Go ∷ Call 0 (5 ∷ []) ∷ [])) ≡ Some (Stops S5 (Some 2)) }
-    ensures budget { ending_of (calling_run 0 (calling kinds.Int kinds.Int (param kinds.Char 1 None ∷ []) []) (Go ∷ Call 0 (256 ∷ []) ∷ [])) ≡ Some (Stops S1 None) }
+    ensures budget { ending_of (calling_run 0 (calling kinds.Int kinds.Int (param kinds.Char 1 None ∷ []) []) (Go ∷ Call 0 (256 ∷ []) ∷ []))
+        ≡ Some (Stops S1 None) }
 {}
 
 /// What the sandbox passes to a callback is checked from left to right: a `char`, and the bounds of a pointer.
 pub fn callback_arguments()
-    ensures char { releases_in (calling_run 10 (calling kinds.Int kinds.Int (param kinds.Char 1 None ∷ []) (ops.Local 0 ∷ ops.Return ∷ [])) (Go ∷ Call 0 (255 ∷ []) ∷ [])) ≡ Passed 0 [] ∷ Replied 255 ∷ [] }
-    ensures large { ending_of (calling_run 10 (calling kinds.Int kinds.Int (param kinds.Char 1 None ∷ []) []) (Go ∷ Call 0 (256 ∷ []) ∷ [])) ≡ Some (Check C9 (record { line = 1; col = 1 })) }
-    ensures region { releases_in (calling_run 10 (calling kinds.Int kinds.Int (param kinds.Pointer 1 (Some (bytes_from 0 (pos 4) None 0)) ∷ []) (ops.Local 0 ∷ ops.Return ∷ [])) (Go ∷ Call 0 (60 ∷ []) ∷ [])) ≡ Passed 0 [] ∷ Replied 60 ∷ [] }
-    ensures outside { ending_of (calling_run 10 (calling kinds.Int kinds.Int (param kinds.Pointer 1 (Some (bytes_from 0 (pos 4) None 0)) ∷ []) []) (Go ∷ Call 0 (61 ∷ []) ∷ [])) ≡ Some (Check C4 (record { line = 1; col = 1 })) }
-    ensures more { ending_of (calling_run 10 (calling kinds.Int kinds.Int (param kinds.Pointer 1 (Some (bytes_from 0 (pos 4) None 1)) ∷ []) []) (Go ∷ Call 0 (60 ∷ []) ∷ [])) ≡ Some (Check C4 (record { line = 1; col = 1 })) }
-    ensures null { releases_in (calling_run 10 (calling kinds.Int kinds.Int (param kinds.Pointer 1 (Some (bytes_from 0 (pos 99) None 0)) ∷ []) (ops.Local 0 ∷ ops.Return ∷ [])) (Go ∷ Call 0 (0 ∷ []) ∷ [])) ≡ Passed 0 [] ∷ Replied 0 ∷ [] }
-    ensures counted { releases_in (calling_run 10 (calling kinds.Int kinds.Int (param kinds.Pointer 1 (Some (bytes_from 0 (pos 0) (Some 1) 0)) ∷ param kinds.Int 2 None ∷ []) (ops.Local 0 ∷ ops.Return ∷ [])) (Go ∷ Call 0 (60 ∷ 4 ∷ []) ∷ [])) ≡ Passed 0 [] ∷ Replied 60 ∷ [] }
-    ensures too_many { ending_of (calling_run 10 (calling kinds.Int kinds.Int (param kinds.Pointer 1 (Some (bytes_from 0 (pos 0) (Some 1) 0)) ∷ param kinds.Int 2 None ∷ []) []) (Go ∷ Call 0 (60 ∷ 5 ∷ []) ∷ [])) ≡ Some (Check C4 (record { line = 1; col = 1 })) }
-    ensures left_first { ending_of (calling_run 10 (calling kinds.Int kinds.Int (param kinds.Char 1 None ∷ param kinds.Char 2 None ∷ []) []) (Go ∷ Call 0 (256 ∷ 256 ∷ []) ∷ [])) ≡ Some (Check C9 (record { line = 1; col = 1 })) }
+    ensures char { releases_in (calling_run 10 (calling kinds.Int kinds.Int (param kinds.Char 1 None ∷ []) (ops.Local 0 ∷ ops.Return ∷ []))
+        (Go ∷ Call 0 (255 ∷ []) ∷ [])) ≡ Passed 0 [] ∷ Replied 255 ∷ [] }
+    ensures large { ending_of (calling_run 10 (calling kinds.Int kinds.Int (param kinds.Char 1 None ∷ []) []) (Go ∷ Call 0 (256 ∷ []) ∷ []))
+        ≡ Some (Check C9 (record { line = 1; col = 1 })) }
+    ensures region { releases_in (calling_run 10 (calling kinds.Int kinds.Int
+        (param kinds.Pointer 1 (Some (bytes_from 0 (pos 4) None 0)) ∷ []) (ops.Local 0 ∷ ops.Return ∷ [])) (Go ∷ Call 0 (60 ∷ []) ∷ []))
+        ≡ Passed 0 [] ∷ Replied 60 ∷ [] }
+    ensures outside { ending_of (calling_run 10 (calling kinds.Int kinds.Int
+        (param kinds.Pointer 1 (Some (bytes_from 0 (pos 4) None 0)) ∷ []) []) (Go ∷ Call 0 (61 ∷ []) ∷ [])) ≡ Some
+        (Check C4 (record { line = 1; col = 1 })) }
+    ensures more { ending_of (calling_run 10 (calling kinds.Int kinds.Int (param kinds.Pointer 1 (Some (bytes_from 0 (pos 4) None 1)) ∷ [])
+        []) (Go ∷ Call 0 (60 ∷ []) ∷ [])) ≡ Some (Check C4 (record { line = 1; col = 1 })) }
+    ensures null { releases_in (calling_run 10 (calling kinds.Int kinds.Int
+        (param kinds.Pointer 1 (Some (bytes_from 0 (pos 99) None 0)) ∷ []) (ops.Local 0 ∷ ops.Return ∷ [])) (Go ∷ Call 0 (0 ∷ []) ∷ []))
+        ≡ Passed 0 [] ∷ Replied 0 ∷ [] }
+    ensures counted { releases_in (calling_run 10 (calling kinds.Int kinds.Int
+        (param kinds.Pointer 1 (Some (bytes_from 0 (pos 0) (Some 1) 0)) ∷ param kinds.Int 2 None ∷ []) (ops.Local 0 ∷ ops.Return ∷ []))
+        (Go ∷ Call 0 (60 ∷ 4 ∷ []) ∷ [])) ≡ Passed 0 [] ∷ Replied 60 ∷ [] }
+    ensures too_many { ending_of (calling_run 10 (calling kinds.Int kinds.Int
+        (param kinds.Pointer 1 (Some (bytes_from 0 (pos 0) (Some 1) 0)) ∷ param kinds.Int 2 None ∷ []) []) (Go ∷ Call 0 (60 ∷ 5 ∷ []) ∷ []))
+        ≡ Some (Check C4 (record { line = 1; col = 1 })) }
+    ensures left_first { ending_of (calling_run 10 (calling kinds.Int kinds.Int (param kinds.Char 1 None ∷ param kinds.Char 2 None ∷ []) [])
+        (Go ∷ Call 0 (256 ∷ 256 ∷ []) ∷ [])) ≡ Some (Check C9 (record { line = 1; col = 1 })) }
 {}
 
 // ---- the sandbox's code
 
 /// Arithmetic wraps, and a zero divisor ends the sandbox.
 pub fn sandbox_arithmetic()
-    ensures sum { acts_of (sandboxed (function_of 0 2 2 2 (ops.Local 0 ∷ ops.Local 1 ∷ ops.WrapAdd ∷ ops.Return ∷ []) ∷ [])) 10 resting (SeenCall 0 (4294967295 ∷ 3 ∷ []) ∷ []) ≡ Returns 2 ∷ [] }
-    ensures quotient { acts_of (sandboxed (function_of 0 2 2 2 (ops.Local 0 ∷ ops.Local 1 ∷ ops.WrapDiv ∷ ops.Return ∷ []) ∷ [])) 10 resting (SeenCall 0 (4294967289 ∷ 2 ∷ []) ∷ []) ≡ Returns 4294967293 ∷ [] }
-    ensures lowest_quotient { acts_of (sandboxed (function_of 0 2 2 2 (ops.Local 0 ∷ ops.Local 1 ∷ ops.WrapDiv ∷ ops.Return ∷ []) ∷ [])) 10 resting (SeenCall 0 (2147483648 ∷ 4294967295 ∷ []) ∷ []) ≡ Returns 2147483648 ∷ [] }
-    ensures lowest_remainder { acts_of (sandboxed (function_of 0 2 2 2 (ops.Local 0 ∷ ops.Local 1 ∷ ops.WrapRem ∷ ops.Return ∷ []) ∷ [])) 10 resting (SeenCall 0 (2147483648 ∷ 4294967295 ∷ []) ∷ []) ≡ Returns 0 ∷ [] }
-    ensures zero_divisor { acts_of (sandboxed (function_of 0 2 2 2 (ops.Local 0 ∷ ops.Local 1 ∷ ops.WrapDiv ∷ ops.Return ∷ []) ∷ [])) 10 resting (SeenCall 0 (7 ∷ 0 ∷ []) ∷ []) ≡ Stop ∷ [] }
-    ensures zero_remainder { acts_of (sandboxed (function_of 0 2 2 2 (ops.Local 0 ∷ ops.Local 1 ∷ ops.WrapRem ∷ ops.Return ∷ []) ∷ [])) 10 resting (SeenCall 0 (7 ∷ 0 ∷ []) ∷ []) ≡ Stop ∷ [] }
+    ensures sum { acts_of (sandboxed (function_of 0 2 2 2 (ops.Local 0 ∷ ops.Local 1 ∷ ops.WrapAdd ∷ ops.Return ∷ []) ∷ [])) 10 resting
+        (SeenCall 0 (4294967295 ∷ 3 ∷ []) ∷ []) ≡ Returns 2 ∷ [] }
+    ensures quotient { acts_of (sandboxed (function_of 0 2 2 2 (ops.Local 0 ∷ ops.Local 1 ∷ ops.WrapDiv ∷ ops.Return ∷ []) ∷ [])) 10 resting
+        (SeenCall 0 (4294967289 ∷ 2 ∷ []) ∷ []) ≡ Returns 4294967293 ∷ [] }
+    ensures lowest_quotient { acts_of (sandboxed (function_of 0 2 2 2 (ops.Local 0 ∷ ops.Local 1 ∷ ops.WrapDiv ∷ ops.Return ∷ []) ∷ [])) 10
+        resting (SeenCall 0 (2147483648 ∷ 4294967295 ∷ []) ∷ []) ≡ Returns 2147483648 ∷ [] }
+    ensures lowest_remainder { acts_of (sandboxed (function_of 0 2 2 2 (ops.Local 0 ∷ ops.Local 1 ∷ ops.WrapRem ∷ ops.Return ∷ []) ∷ [])) 10
+        resting (SeenCall 0 (2147483648 ∷ 4294967295 ∷ []) ∷ []) ≡ Returns 0 ∷ [] }
+    ensures zero_divisor { acts_of (sandboxed (function_of 0 2 2 2 (ops.Local 0 ∷ ops.Local 1 ∷ ops.WrapDiv ∷ ops.Return ∷ []) ∷ [])) 10
+        resting (SeenCall 0 (7 ∷ 0 ∷ []) ∷ []) ≡ Stop ∷ [] }
+    ensures zero_remainder { acts_of (sandboxed (function_of 0 2 2 2 (ops.Local 0 ∷ ops.Local 1 ∷ ops.WrapRem ∷ ops.Return ∷ []) ∷ [])) 10
+        resting (SeenCall 0 (7 ∷ 0 ∷ []) ∷ []) ≡ Stop ∷ [] }
     ensures other_side { acts_of (sandboxed (function_of 0 1 1 1 (ops.Local 0 ∷ ops.Print ∷ []) ∷ [])) 10 resting (SeenCall 0 (7 ∷ []) ∷ []) ≡ Stop ∷ [] }
 {}
 
 /// Loads and stores are acts, and so are calls of callbacks.
 pub fn sandbox_acts()
-    ensures load { acts_of (sandboxed (function_of 0 0 0 1 (ops.Const (pos 16) ∷ ops.Load4 ∷ ops.Return ∷ []) ∷ [])) 10 resting (SeenCall 0 [] ∷ SeenBytes 16 (5 ∷ 1 ∷ 0 ∷ 0 ∷ []) ∷ []) ≡ Read 16 4 ∷ Returns 261 ∷ [] }
-    ensures byte { acts_of (sandboxed (function_of 0 0 0 1 (ops.Const (pos 16) ∷ ops.Load1 ∷ ops.Return ∷ []) ∷ [])) 10 resting (SeenCall 0 [] ∷ SeenBytes 16 (5 ∷ []) ∷ []) ≡ Read 16 1 ∷ Returns 5 ∷ [] }
-    ensures store { acts_of (sandboxed (function_of 0 0 0 2 (ops.Const (pos 16) ∷ ops.Const (pos 513) ∷ ops.Store4 ∷ ops.ReturnNothing ∷ []) ∷ [])) 10 resting (SeenCall 0 [] ∷ SeenCall 0 [] ∷ []) ≡ Write 16 (1 ∷ 2 ∷ 0 ∷ 0 ∷ []) ∷ Returns 0 ∷ [] }
-    ensures low_byte { acts_of (sandboxed (function_of 0 0 0 2 (ops.Const (pos 16) ∷ ops.Const (pos 513) ∷ ops.Store1 ∷ ops.ReturnNothing ∷ []) ∷ [])) 10 resting (SeenCall 0 [] ∷ []) ≡ Write 16 (1 ∷ []) ∷ [] }
-    ensures callback { acts_of (sandboxed (function_of 0 0 0 1 (ops.Const (pos 8) ∷ ops.CallBack 0 ∷ ops.Return ∷ []) ∷ [])) 10 resting (SeenCall 0 [] ∷ SeenReply 9 ∷ []) ≡ Call 0 (8 ∷ []) ∷ Returns 9 ∷ [] }
-    ensures without_result { acts_of (sandboxed (function_of 0 0 0 1 (ops.Const (pos 8) ∷ ops.CallBack 1 ∷ ops.Return ∷ []) ∷ [])) 10 resting (SeenCall 0 [] ∷ SeenReply 9 ∷ []) ≡ Call 1 [] ∷ Returns 8 ∷ [] }
+    ensures load { acts_of (sandboxed (function_of 0 0 0 1 (ops.Const (pos 16) ∷ ops.Load4 ∷ ops.Return ∷ []) ∷ [])) 10 resting
+        (SeenCall 0 [] ∷ SeenBytes 16 (5 ∷ 1 ∷ 0 ∷ 0 ∷ []) ∷ []) ≡ Read 16 4 ∷ Returns 261 ∷ [] }
+    ensures byte { acts_of (sandboxed (function_of 0 0 0 1 (ops.Const (pos 16) ∷ ops.Load1 ∷ ops.Return ∷ []) ∷ [])) 10 resting
+        (SeenCall 0 [] ∷ SeenBytes 16 (5 ∷ []) ∷ []) ≡ Read 16 1 ∷ Returns 5 ∷ [] }
+    ensures store { acts_of (sandboxed (function_of 0 0 0 2 (ops.Const (pos 16) ∷ ops.Const (pos 513) ∷ ops.Store4 ∷ ops.ReturnNothing ∷ [])
+        ∷ [])) 10 resting (SeenCall 0 [] ∷ SeenCall 0 [] ∷ []) ≡ Write 16 (1 ∷ 2 ∷ 0 ∷ 0 ∷ []) ∷ Returns 0 ∷ [] }
+    ensures low_byte { acts_of (sandboxed (function_of 0 0 0 2 (ops.Const (pos 16) ∷ ops.Const (pos 513) ∷ ops.Store1 ∷ ops.ReturnNothing
+        ∷ []) ∷ [])) 10 resting (SeenCall 0 [] ∷ []) ≡ Write 16 (1 ∷ []) ∷ [] }
+    ensures callback { acts_of (sandboxed (function_of 0 0 0 1 (ops.Const (pos 8) ∷ ops.CallBack 0 ∷ ops.Return ∷ []) ∷ [])) 10 resting
+        (SeenCall 0 [] ∷ SeenReply 9 ∷ []) ≡ Call 0 (8 ∷ []) ∷ Returns 9 ∷ [] }
+    ensures without_result { acts_of (sandboxed (function_of 0 0 0 1 (ops.Const (pos 8) ∷ ops.CallBack 1 ∷ ops.Return ∷ []) ∷ [])) 10
+        resting (SeenCall 0 [] ∷ SeenReply 9 ∷ []) ≡ Call 1 [] ∷ Returns 8 ∷ [] }
     ensures unknown { acts_of (sandboxed (function_of 0 0 0 1 (ops.CallBack 2 ∷ []) ∷ [])) 10 resting (SeenCall 0 [] ∷ []) ≡ Stop ∷ [] }
 {}
 
 /// Calls in the sandbox, up to 1,000 that are open, ticks, and functions that return nothing.
 pub fn sandbox_calls()
-    ensures call { acts_of (sandboxed (function_of 0 1 1 1 (ops.Local 0 ∷ ops.Call 3 ∷ ops.Return ∷ []) ∷ function_of 3 1 1 2 (ops.Local 0 ∷ ops.Local 0 ∷ ops.WrapAdd ∷ ops.Return ∷ []) ∷ [])) 10 resting (SeenCall 0 (21 ∷ []) ∷ []) ≡ Returns 42 ∷ [] }
-    ensures nothing { acts_of (sandboxed (function_of 0 0 0 1 (ops.Call 3 ∷ ops.ReturnNothing ∷ []) ∷ function_of 3 0 0 1 (ops.ReturnNothing ∷ []) ∷ [])) 10 resting (SeenCall 0 [] ∷ []) ≡ Returns 0 ∷ [] }
-    ensures last_call { acts_of (sandboxed (function_of 0 0 0 1 (ops.ReturnNothing ∷ []) ∷ [])) 10 (record resting { held = replicate 999 (Calls (record { function = 0; next = 0; slots = []; stack = [] })) }) (SeenCall 0 [] ∷ []) ≡ Returns 0 ∷ [] }
-    ensures depth { acts_of (sandboxed (function_of 0 0 0 1 (ops.ReturnNothing ∷ []) ∷ [])) 10 (record resting { held = replicate 1000 (Calls (record { function = 0; next = 0; slots = []; stack = [] })) }) (SeenCall 0 [] ∷ []) ≡ Stop ∷ [] }
+    ensures call { acts_of (sandboxed (function_of 0 1 1 1 (ops.Local 0 ∷ ops.Call 3 ∷ ops.Return ∷ []) ∷ function_of 3 1 1 2
+        (ops.Local 0 ∷ ops.Local 0 ∷ ops.WrapAdd ∷ ops.Return ∷ []) ∷ [])) 10 resting (SeenCall 0 (21 ∷ []) ∷ []) ≡ Returns 42 ∷ [] }
+    ensures nothing { acts_of (sandboxed (function_of 0 0 0 1 (ops.Call 3 ∷ ops.ReturnNothing ∷ []) ∷ function_of 3 0 0 1
+        (ops.ReturnNothing ∷ []) ∷ [])) 10 resting (SeenCall 0 [] ∷ []) ≡ Returns 0 ∷ [] }
+    ensures last_call { acts_of (sandboxed (function_of 0 0 0 1 (ops.ReturnNothing ∷ []) ∷ [])) 10
+        (record resting { held = replicate 999 (Calls (record { function = 0; next = 0; slots = []; stack = [] })) }) (SeenCall 0 [] ∷ [])
+        ≡ Returns 0 ∷ [] }
+    ensures depth { acts_of (sandboxed (function_of 0 0 0 1 (ops.ReturnNothing ∷ []) ∷ [])) 10
+        (record resting { held = replicate 1000 (Calls (record { function = 0; next = 0; slots = []; stack = [] })) }) (SeenCall 0 [] ∷ [])
+        ≡ Stop ∷ [] }
     ensures tick { acts_of (sandboxed (function_of 0 0 0 1 (ops.Tick ∷ ops.ReturnNothing ∷ []) ∷ [])) 1 resting (SeenCall 0 [] ∷ []) ≡ Returns 0 ∷ [] }
     ensures budget { acts_of (sandboxed (function_of 0 0 0 1 (ops.Tick ∷ ops.Tick ∷ ops.ReturnNothing ∷ []) ∷ [])) 1 resting (SeenCall 0 [] ∷ []) ≡ Stop ∷ [] }
     ensures no_body { acts_of (sandboxed []) 10 resting (SeenCall 0 [] ∷ []) ≡ Stop ∷ [] }

@@ -31,7 +31,8 @@ pub fn views_agree()
         → (started first settings inputs acts).world.sandbox ≡ (started second others more acts).world.sandbox
         → releases_of t.world.events ≡ releases_of u.world.events
         → IsFront (view_of t.world.events) (view_of u.world.events) ⊎ IsFront (view_of u.world.events) (view_of t.world.events) }
-    ensures same_acts { (first second : Image) (settings others : Settings) (inputs more : List ℤ) (acts also taken : List Act) (ending end : Ending) (t u : State)
+    ensures same_acts { (first second : Image) (settings others : Settings) (inputs more : List ℤ) (acts also taken : List Act)
+        (ending end : Ending) (t u : State)
         → CodeRun first settings inputs acts ending t → CodeRun second others more also end u
         → (started first settings inputs acts).world.sandbox ≡ (started second others more also).world.sandbox
         → acts ≡ taken ++ t.world.acts → also ≡ taken ++ u.world.acts
@@ -67,8 +68,10 @@ pub fn moves_fall()
         → s.control ≡ Runs f → move image settings s ≡ Goes t → moves_left image settings t < moves_left image settings s }
     ensures touches { (image : Image) (settings : Settings) (f : Frame) (touch : Touch) (act : Act) (acts : List Act) (s t : State) → IsTrue (is_paced image)
         → s.control ≡ Touches f touch → s.world.acts ≡ act ∷ acts → move image settings s ≡ Goes t
-        → (moves_left image settings t < moves_left image settings s) ⊎ ((moves_left image settings t ≡ moves_left image settings s) × LeavesTurn act turns.Trusted) }
+        → (moves_left image settings t < moves_left image settings s) ⊎ ((moves_left image settings t ≡ moves_left image settings s)
+        × LeavesTurn act turns.Trusted) }
     ensures sandbox { (image : Image) (settings : Settings) (act : Act) (acts : List Act) (s t : State) → IsTrue (is_paced image)
         → s.control ≡ Away → s.world.acts ≡ act ∷ acts → move image settings s ≡ Goes t
-        → (moves_left image settings t < moves_left image settings s) ⊎ ((moves_left image settings t ≡ moves_left image settings s) × LeavesTurn act turns.Sandbox) }
+        → (moves_left image settings t < moves_left image settings s) ⊎ ((moves_left image settings t ≡ moves_left image settings s)
+        × LeavesTurn act turns.Sandbox) }
 {}

@@ -67,14 +67,16 @@ impl<'a> Words<'a> {
 
     /// A number.
     pub fn number(&mut self) -> Option<u32>
-        ensures { (next : ℕ → List (List ℕ) → Option Line) → one number_in next (words_left self.old) ≡ option_and_then (λ n. next n (words_left self.new)) result }
+        ensures { (next : ℕ → List (List ℕ) → Option Line) → one number_in next (words_left self.old) ≡ option_and_then
+            (λ n. next n (words_left self.new)) result }
     {
         number(self.word()?)
     }
 
     /// A size.
     pub fn size(&mut self) -> Option<u32>
-        ensures { (next : ℕ → List (List ℕ) → Option Line) → one size_in next (words_left self.old) ≡ option_and_then (λ n. next n (words_left self.new)) result }
+        ensures { (next : ℕ → List (List ℕ) → Option Line) → one size_in next (words_left self.old) ≡ option_and_then
+            (λ n. next n (words_left self.new)) result }
     {
         size(self.word()?)
     }
@@ -83,7 +85,8 @@ impl<'a> Words<'a> {
     #[tactic(auto, using(crate::proofs::Spelled::fits_of))]
     pub fn signed_32(&mut self) -> Option<i32>
         ensures fits { IfSome result (λ n. FitsSigned w32 n) }
-        ensures value { (next : ℤ → List (List ℕ) → Option Line) → one (signed_in w32) next (words_left self.old) ≡ option_and_then (λ n. next n (words_left self.new)) result }
+        ensures value { (next : ℤ → List (List ℕ) → Option Line) → one (signed_in w32) next (words_left self.old) ≡ option_and_then
+            (λ n. next n (words_left self.new)) result }
     {
         signed_32(self.word()?)
     }
@@ -92,7 +95,8 @@ impl<'a> Words<'a> {
     #[tactic(auto, using(crate::proofs::Spelled::fits_of))]
     pub fn signed_64(&mut self) -> Option<i64>
         ensures fits { IfSome result (λ n. FitsSigned w64 n) }
-        ensures value { (next : ℤ → List (List ℕ) → Option Line) → one (signed_in w64) next (words_left self.old) ≡ option_and_then (λ n. next n (words_left self.new)) result }
+        ensures value { (next : ℤ → List (List ℕ) → Option Line) → one (signed_in w64) next (words_left self.old) ≡ option_and_then
+            (λ n. next n (words_left self.new)) result }
     {
         signed_64(self.word()?)
     }
@@ -112,7 +116,8 @@ impl<'a> Words<'a> {
     /// A name.
     pub fn name(&mut self) -> Option<&'a [u8]>
         ensures word { IfSome result (λ name. IsName name.now) }
-        ensures value { (next : List ℕ → List (List ℕ) → Option Line) → one name_in next (words_left self.old) ≡ option_and_then (λ name. next name.now (words_left self.new)) result }
+        ensures value { (next : List ℕ → List (List ℕ) → Option Line) → one name_in next (words_left self.old) ≡ option_and_then
+            (λ name. next name.now (words_left self.new)) result }
     {
         let word = self.word()?;
         if is_name(word) { Some(word) } else { None }
@@ -120,21 +125,24 @@ impl<'a> Words<'a> {
 
     /// What a function returns.
     pub fn kind(&mut self) -> Option<WordKind>
-        ensures { (next : kinds.WordKind → List (List ℕ) → Option Line) → one kind_in next (words_left self.old) ≡ option_and_then (λ k. next k (words_left self.new)) result }
+        ensures { (next : kinds.WordKind → List (List ℕ) → Option Line)
+            → one kind_in next (words_left self.old) ≡ option_and_then (λ k. next k (words_left self.new)) result }
     {
         kind(self.word()?)
     }
 
     /// A number, or none.
     pub fn number_or_none(&mut self) -> Option<Option<u32>>
-        ensures { (next : Option ℕ → List (List ℕ) → Option Line) → one number_or_none_in next (words_left self.old) ≡ option_and_then (λ n. next n (words_left self.new)) result }
+        ensures { (next : Option ℕ → List (List ℕ) → Option Line) → one number_or_none_in next (words_left self.old) ≡ option_and_then
+            (λ n. next n (words_left self.new)) result }
     {
         number_or_none(self.word()?)
     }
 
     /// A place.
     pub fn place(&mut self) -> Option<Place>
-        ensures { (next : places.Place → List (List ℕ) → Option Line) → one place_in next (words_left self.old) ≡ option_and_then (λ p. next p (words_left self.new)) result }
+        ensures { (next : places.Place → List (List ℕ) → Option Line) → one place_in next (words_left self.old) ≡ option_and_then
+            (λ p. next p (words_left self.new)) result }
     {
         place(self.word()?)
     }

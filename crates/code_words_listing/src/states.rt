@@ -251,7 +251,8 @@ fn callback_step(
 ) -> Result<Option<State>, NoMemory>
     requires reached { IsReached (steps.InCallback (drafts.image draft steps.no_side) (drafts.callback callback) left) }
     requires allowed { lines.IsAllowed (told line) }
-    ensures { IfOk result (λ next. option_map seen next ≡ steps.callback_step (drafts.image draft steps.no_side) (drafts.callback callback) left (told line.entry)) }
+    ensures { IfOk result (λ next. option_map seen next ≡ steps.callback_step (drafts.image draft steps.no_side) (drafts.callback callback)
+        left (told line.entry)) }
 {
     match line {
         ReadLine::Parameter(param) => parameter(draft, callback, left, param),

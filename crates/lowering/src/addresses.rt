@@ -122,7 +122,8 @@ fn emit_stored(
     offset: u32,
 ) -> Result<(), NoMemory>
     requires slot { slot ≤ 4096 }
-    ensures { OnOk result (ops.new.items ≡ ops.old.items ++ (code.moved_code slot Forward size ++ (code.offset_code offset ++ ops_of.Local slot ∷ code.store_code (type_of ctype.now) ∷ []))) }
+    ensures { OnOk result (ops.new.items ≡ ops.old.items ++ (code.moved_code slot Forward size
+        ++ (code.offset_code offset ++ ops_of.Local slot ∷ code.store_code (type_of ctype.now) ∷ []))) }
 {
     emit_moved(ops, slot, Direction::Forward, size)?;
     emit_offset(ops, offset)?;

@@ -57,7 +57,8 @@ fn counted_size(reach: Reach) -> u32
 // The old and the new bounds of a containment.
 fn emit_containment(ops: &mut Vec<Op>, slot: u32, old: Bounds, new: Bounds) -> Result<(), NoMemory>
     requires { slot ≤ 4096 }
-    ensures { OnOk result (ops.new.items ≡ ops.old.items ++ ops_of.Set (code.pointer_slot slot) ∷ ops_of.Local (code.pointer_slot slot) ∷ (code.bounds_code slot old ++ code.bounds_code slot new)) }
+    ensures { OnOk result (ops.new.items ≡ ops.old.items ++ ops_of.Set (code.pointer_slot slot) ∷ ops_of.Local (code.pointer_slot slot)
+        ∷ (code.bounds_code slot old ++ code.bounds_code slot new)) }
 {
     put_two(ops, Op::Set(slot + 1), Op::Local(slot + 1))?;
     emit_bounds(ops, slot, old)?;

@@ -118,7 +118,8 @@ fn emit_both(ops: &mut Vec<Op>, slot: u32, left: &Expr, right: &Expr) -> Result<
     requires slot { slot ≤ 4096 }
     requires sized { SizedExpression slot (expression left.now) × SizedExpression slot (expression right.now) }
     requires room { length ops.old.items + (code.expression_size (expression left.now) + code.expression_size (expression right.now)) ≤ 2 ^ 31 }
-    ensures { OnOk result (ops.new.items ≡ ops.old.items ++ (code.expression_code slot (length ops.old.items) (expression left.now) ++ code.expression_code slot (length ops.old.items + code.expression_size (expression left.now)) (expression right.now))) }
+    ensures { OnOk result (ops.new.items ≡ ops.old.items ++ (code.expression_code slot (length ops.old.items) (expression left.now)
+        ++ code.expression_code slot (length ops.old.items + code.expression_size (expression left.now)) (expression right.now))) }
 {
     emit_expression(ops, slot, left)?;
     emit_expression(ops, slot, right)
@@ -143,7 +144,9 @@ fn emit_two(ops: &mut Vec<Op>, slot: u32, left: &Expr, right: &Expr, op: Op) -> 
     requires slot { slot ≤ 4096 }
     requires sized { SizedExpression slot (expression left.now) × SizedExpression slot (expression right.now) }
     requires room { length ops.old.items + (code.expression_size (expression left.now) + code.expression_size (expression right.now)) ≤ 2 ^ 31 }
-    ensures { OnOk result (ops.new.items ≡ ops.old.items ++ (code.expression_code slot (length ops.old.items) (expression left.now) ++ (code.expression_code slot (length ops.old.items + code.expression_size (expression left.now)) (expression right.now) ++ op ∷ []))) }
+    ensures { OnOk result (ops.new.items ≡ ops.old.items ++ (code.expression_code slot (length ops.old.items) (expression left.now)
+        ++ (code.expression_code slot (length ops.old.items + code.expression_size (expression left.now)) (expression right.now) ++ op
+        ∷ []))) }
 {
     emit_expression(ops, slot, left)?;
     emit_with(ops, slot, right, op)
@@ -155,7 +158,8 @@ fn emit_and(ops: &mut Vec<Op>, slot: u32, left: &Expr, right: &Expr) -> Result<(
     requires slot { slot ≤ 4096 }
     requires sized { SizedExpression slot (expression left.now) × SizedExpression slot (expression right.now) }
     requires room { length ops.old.items + code.expression_size (AndAlso (expression left.now) (expression right.now)) ≤ 2 ^ 31 }
-    ensures { OnOk result (ops.new.items ≡ ops.old.items ++ code.expression_code slot (length ops.old.items) (AndAlso (expression left.now) (expression right.now))) }
+    ensures { OnOk result (ops.new.items ≡ ops.old.items ++ code.expression_code slot (length ops.old.items)
+        (AndAlso (expression left.now) (expression right.now))) }
 {
     emit_expression(ops, slot, left)?;
     begin_and(ops, expression_size(right))?;
@@ -169,7 +173,8 @@ fn emit_or(ops: &mut Vec<Op>, slot: u32, left: &Expr, right: &Expr) -> Result<()
     requires slot { slot ≤ 4096 }
     requires sized { SizedExpression slot (expression left.now) × SizedExpression slot (expression right.now) }
     requires room { length ops.old.items + code.expression_size (OrElse (expression left.now) (expression right.now)) ≤ 2 ^ 31 }
-    ensures { OnOk result (ops.new.items ≡ ops.old.items ++ code.expression_code slot (length ops.old.items) (OrElse (expression left.now) (expression right.now))) }
+    ensures { OnOk result (ops.new.items ≡ ops.old.items ++ code.expression_code slot (length ops.old.items)
+        (OrElse (expression left.now) (expression right.now))) }
 {
     emit_expression(ops, slot, left)?;
     begin_or(ops, expression_size(right))?;
@@ -188,8 +193,10 @@ fn emit_argument(
     requires slot { slot ≤ 4096 }
     requires sized { (argument : Expr) → slice_get arguments.now place ≡ Some argument → SizedExpression slot (expression argument) }
     requires place { place < length arguments.now }
-    requires room { (argument : Expr) → slice_get arguments.now place ≡ Some argument → length ops.old.items + code.expression_size (expression argument) ≤ 2 ^ 31 }
-    ensures { (argument : Expr) → slice_get arguments.now place ≡ Some argument → OnOk result (ops.new.items ≡ ops.old.items ++ code.expression_code slot (length ops.old.items) (expression argument)) }
+    requires room { (argument : Expr) → slice_get arguments.now place ≡ Some argument
+        → length ops.old.items + code.expression_size (expression argument) ≤ 2 ^ 31 }
+    ensures { (argument : Expr) → slice_get arguments.now place ≡ Some argument
+        → OnOk result (ops.new.items ≡ ops.old.items ++ code.expression_code slot (length ops.old.items) (expression argument)) }
 {
     emit_expression(ops, slot, argument_at(arguments, place))
 }
@@ -219,7 +226,8 @@ pub fn emit_call(
     requires slot { slot ≤ 4096 }
     requires sized { SizedArguments slot (arguments_of arguments.now) }
     requires room { length ops.old.items + code.arguments_size (arguments_of arguments.now) ≤ 2 ^ 31 }
-    ensures { OnOk result (ops.new.items ≡ ops.old.items ++ (code.arguments_code slot (length ops.old.items) (arguments_of arguments.now) ++ ops_of.Tick ∷ code.callee_code callee ∷ [])) }
+    ensures { OnOk result (ops.new.items ≡ ops.old.items ++ (code.arguments_code slot (length ops.old.items) (arguments_of arguments.now)
+        ++ ops_of.Tick ∷ code.callee_code callee ∷ [])) }
 {
     emit_arguments(ops, slot, arguments)?;
     put_call(ops, callee_op(callee))
@@ -268,7 +276,8 @@ fn emit_target(ops: &mut Vec<Op>, slot: u32, pointer: &Expr, index: &Index) -> R
     requires slot { slot ≤ 4096 }
     requires sized { SizedExpression slot (expression pointer.now) × SizedNumber slot (index_of index.now) }
     requires room { length ops.old.items + (code.expression_size (expression pointer.now) + code.index_size (index_of index.now)) ≤ 2 ^ 31 }
-    ensures { OnOk result (ops.new.items ≡ ops.old.items ++ (code.expression_code slot (length ops.old.items) (expression pointer.now) ++ code.index_code slot (length ops.old.items + code.expression_size (expression pointer.now)) (index_of index.now))) }
+    ensures { OnOk result (ops.new.items ≡ ops.old.items ++ (code.expression_code slot (length ops.old.items) (expression pointer.now)
+        ++ code.index_code slot (length ops.old.items + code.expression_size (expression pointer.now)) (index_of index.now))) }
 {
     emit_expression(ops, slot, pointer)?;
     emit_index(ops, slot, index)

@@ -166,7 +166,8 @@ pub fn end_and(ops: &mut Vec<Op>) -> Result<(), NoMemory>
 /// Passes the right side over, of so many instructions, where the left one isn't 0.
 pub fn begin_or(ops: &mut Vec<Op>, right: u32) -> Result<(), NoMemory>
     requires { length ops.old.items + (right + 5) ≤ 2 ^ 31 }
-    ensures { OnOk result (ops.new.items ≡ ops.old.items ++ ops_of.JumpIfZero (length ops.old.items + 3) ∷ ops_of.Const (pos 1) ∷ ops_of.Jump (length ops.old.items + 3 + right + 2) ∷ []) }
+    ensures { OnOk result (ops.new.items ≡ ops.old.items ++ ops_of.JumpIfZero (length ops.old.items + 3) ∷ ops_of.Const (pos 1)
+        ∷ ops_of.Jump (length ops.old.items + 3 + right + 2) ∷ []) }
 {
     let other = place_behind(ops, 3);
     let end = place_behind(ops, right + 5);

@@ -46,5 +46,6 @@ pub fn examples()
     ensures members { ends (inserted members) 100 (Exit (pos 51)) }
     ensures blocks { holds (inserted members) shown_members }
     ensures elements { ends (inserted stored_element) 100 (Exit (pos 7)) }
-    ensures sums { ends (inserted (not_of (sum (pos 4)))) 100 (Check C2 (site 2 9).place) × ends (inserted (not_of (back 1))) 100 (Check C2 (site 2 9).place) × ends (inserted (not_of (back 0))) 100 (Exit (pos 0)) }
+    ensures sums { ends (inserted (not_of (sum (pos 4)))) 100 (Check C2 (site 2 9).place)
+        × ends (inserted (not_of (back 1))) 100 (Check C2 (site 2 9).place) × ends (inserted (not_of (back 0))) 100 (Exit (pos 0)) }
 {}

@@ -37,7 +37,8 @@ fn emit_store(
     requires slot { targets.scratch ≤ 4096 }
     requires sized { SizedPlace targets.scratch (place_of cell.now) × SizedExpression targets.scratch (expression value.now) }
     requires room { length ops.old.items + (code.before_value_size (place_of cell.now) + code.expression_size (expression value.now)) ≤ 2 ^ 31 }
-    ensures { OnOk result (ops.new.items ≡ ops.old.items ++ code.statement_code (targets_of targets) (length ops.old.items) (Store (type_of ctype.now) (place_of cell.now) (expression value.now) end)) }
+    ensures { OnOk result (ops.new.items ≡ ops.old.items ++ code.statement_code (targets_of targets) (length ops.old.items)
+        (Store (type_of ctype.now) (place_of cell.now) (expression value.now) end)) }
 {
     emit_before_value(ops, targets.scratch, cell)?;
     emit_expression(ops, targets.scratch, value)?;
@@ -68,7 +69,8 @@ fn emit_plain_update(
     requires slot { slot ≤ 4096 }
     requires sized { SizedPlace slot (place_of cell.now) × SizedExpression slot (expression value.now) }
     requires room { length ops.old.items + (code.place_size (place_of cell.now) + (2 + code.expression_size (expression value.now))) ≤ 2 ^ 31 }
-    ensures { OnOk result (ops.new.items ≡ ops.old.items ++ code.plain_update slot (length ops.old.items) (type_of ctype.now) (place_of cell.now) operator (expression value.now) site) }
+    ensures { OnOk result (ops.new.items ≡ ops.old.items ++ code.plain_update slot (length ops.old.items) (type_of ctype.now)
+        (place_of cell.now) operator (expression value.now) site) }
 {
     emit_place(ops, slot, cell)?;
     put_two(ops, Op::Duplicate, load_op(ctype))?;
@@ -95,7 +97,8 @@ fn emit_old_value(
 ) -> Result<(), NoMemory>
     requires slot { slot ≤ 4096 }
     requires sized { SizedIndex slot (index_of index.now) checks.now }
-    ensures { OnOk result (ops.new.items ≡ ops.old.items ++ (code.twice_code slot ++ (code.through_code slot (index_of index.now) offset checks.now ++ code.load_code (type_of ctype.now) ∷ []))) }
+    ensures { OnOk result (ops.new.items ≡ ops.old.items ++ (code.twice_code slot
+        ++ (code.through_code slot (index_of index.now) offset checks.now ++ code.load_code (type_of ctype.now) ∷ []))) }
 {
     emit_twice(ops, slot)?;
     emit_through(ops, slot, index, offset, checks)?;
@@ -115,8 +118,10 @@ fn emit_update(
 ) -> Result<(), NoMemory>
     requires slot { slot ≤ 4096 }
     requires sized { SizedPlace slot (place_of cell.now) × SizedExpression slot (expression value.now) }
-    requires room { length ops.old.items + code.update_size (place_of cell.now) end (code.expression_size (expression value.now)) (code.byte_size (is_char (type_of ctype.now))) ≤ 2 ^ 31 }
-    ensures { OnOk result (ops.new.items ≡ ops.old.items ++ code.update_code slot (length ops.old.items) (type_of ctype.now) (place_of cell.now) operator (expression value.now) site end) }
+    requires room { length ops.old.items + code.update_size (place_of cell.now) end (code.expression_size (expression value.now))
+        (code.byte_size (is_char (type_of ctype.now))) ≤ 2 ^ 31 }
+    ensures { OnOk result (ops.new.items ≡ ops.old.items ++ code.update_code slot (length ops.old.items) (type_of ctype.now)
+        (place_of cell.now) operator (expression value.now) site end) }
 {
     if let CellPlace::Through {
         index,
@@ -149,7 +154,8 @@ fn emit_local_update(
     requires slot { targets.scratch ≤ 4096 }
     requires sized { SizedExpression targets.scratch (expression value.now) }
     requires room { length ops.old.items + (1 + code.expression_size (expression value.now)) ≤ 2 ^ 31 }
-    ensures { OnOk result (ops.new.items ≡ ops.old.items ++ code.statement_code (targets_of targets) (length ops.old.items) (UpdateLocal char local operator (expression value.now) site)) }
+    ensures { OnOk result (ops.new.items ≡ ops.old.items ++ code.statement_code (targets_of targets) (length ops.old.items)
+        (UpdateLocal char local operator (expression value.now) site)) }
 {
     put(ops, Op::Local(local))?;
     emit_expression(ops, targets.scratch, value)?;
@@ -162,7 +168,8 @@ fn emit_condition(ops: &mut Vec<Op>, slot: u32, condition: &Expr, over: u32) -> 
     requires slot { slot ≤ 4096 }
     requires sized { SizedExpression slot (expression condition.now) }
     requires room { length ops.old.items + (code.expression_size (expression condition.now) + (1 + over)) ≤ 2 ^ 31 }
-    ensures { OnOk result (ops.new.items ≡ ops.old.items ++ (code.expression_code slot (length ops.old.items) (expression condition.now) ++ ops_of.JumpIfZero (length ops.old.items + code.expression_size (expression condition.now) + 1 + over) ∷ [])) }
+    ensures { OnOk result (ops.new.items ≡ ops.old.items ++ (code.expression_code slot (length ops.old.items) (expression condition.now)
+        ++ ops_of.JumpIfZero (length ops.old.items + code.expression_size (expression condition.now) + 1 + over) ∷ [])) }
 {
     emit_expression(ops, slot, condition)?;
     let other = place_behind(ops, over + 1);
@@ -189,7 +196,8 @@ fn end_loop(
     requires slot { slot ≤ 4096 }
     requires sized { SizedExpression slot (expression condition.now) }
     requires room { length ops.old.items + code.expression_size (expression condition.now) ≤ 2 ^ 31 }
-    ensures { OnOk result (ops.new.items ≡ ops.old.items ++ (code.expression_code slot (length ops.old.items) (expression condition.now) ++ ops_of.JumpIfZero end ∷ ops_of.Jump turn ∷ [])) }
+    ensures { OnOk result (ops.new.items ≡ ops.old.items ++ (code.expression_code slot (length ops.old.items) (expression condition.now)
+        ++ ops_of.JumpIfZero end ∷ ops_of.Jump turn ∷ [])) }
 {
     emit_expression(ops, slot, condition)?;
     put_two(ops, Op::JumpIfZero(end), Op::Jump(turn))
@@ -275,7 +283,8 @@ fn emit_if(
     requires slot { targets.scratch ≤ 4096 }
     requires sized { SizedStatement targets.scratch (If (expression condition.now) (statement consequent.now) (statement alternative.now)) }
     requires room { length ops.old.items + code.statement_size (If (expression condition.now) (statement consequent.now) (statement alternative.now)) ≤ 2 ^ 31 }
-    ensures { OnOk result (ops.new.items ≡ ops.old.items ++ code.statement_code (targets_of targets) (length ops.old.items) (If (expression condition.now) (statement consequent.now) (statement alternative.now))) }
+    ensures { OnOk result (ops.new.items ≡ ops.old.items ++ code.statement_code (targets_of targets) (length ops.old.items)
+        (If (expression condition.now) (statement consequent.now) (statement alternative.now))) }
 {
     emit_condition(
         ops,
@@ -300,7 +309,8 @@ fn emit_loop(
     requires slot { targets.scratch ≤ 4096 }
     requires sized { SizedStatement targets.scratch (Loop (expression condition.now) (statement body.now) (statement step.now)) }
     requires room { length ops.old.items + code.statement_size (Loop (expression condition.now) (statement body.now) (statement step.now)) ≤ 2 ^ 31 }
-    ensures { OnOk result (ops.new.items ≡ ops.old.items ++ code.statement_code (targets_of targets) (length ops.old.items) (Loop (expression condition.now) (statement body.now) (statement step.now))) }
+    ensures { OnOk result (ops.new.items ≡ ops.old.items ++ code.statement_code (targets_of targets) (length ops.old.items)
+        (Loop (expression condition.now) (statement body.now) (statement step.now))) }
 {
     let turn = place_behind(ops, 1);
     let after = statement_size(step);

@@ -7,7 +7,7 @@ use crate::kind::WordKind;
 use ckc_text::place::Place;
 use std::marker::Model;
 
-/// The bounds of a pointer that the sandbox passes: from parameter `base` plus `low` elements to it plus `high`
+/// The bounds of a pointer that the sandbox passes: from parameter `base` plus `lo_plus` elements to it plus `hi_plus`
 /// elements, each end with the number of a parameter added, if there is one, and `more` bytes behind them.
 #[derive(Clone, Copy)]
 pub struct Region {

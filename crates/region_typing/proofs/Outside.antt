@@ -6,7 +6,7 @@ use Rattle.ckc_tree.specs.Types.{TypeTree, type_span}
 use Rattle.ckc_tree.specs.Items as i
 use Rattle.ckc_tree.specs.Items.{Item}
 use Rattle.ckc_tree.specs.Statements.{Declarator}
-use Rattle.ckc_tree_texts.specs.Texts.{body_texts}
+use Rattle.ckc_tree.specs.Texts.{body_texts}
 use Rattle.pointer_modes.specs.Types as types
 use Rattle.pointer_modes.specs.Types.{CType}
 use Rattle.ckc_core.specs.Programs.{Initial}

@@ -1,7 +1,7 @@
 -- The blocks of strings.
 use Rattle.std.proofs.Common.{◌≡◌, ℕ, ◌+◌, ◌<◌, ◌≤◌, List, [], ◌∷◌, ◌++◌, length, drop, get_or, ap, sym, ◌∙◌, append_assoc}
 use Rattle.std.proofs.lemmas.List.{drop_more, drop_all}
-use Rattle.ckc_tree_texts.specs.Texts.{Text}
+use Rattle.ckc_tree.specs.Texts.{Text}
 use Rattle.ckc_core.specs.Programs.{Initial}
 use Rattle.region_typing_rules.specs.Scopes.{Scope}
 use Rattle.region_typing_rules.specs.Strings.{char_cell, text_cells}

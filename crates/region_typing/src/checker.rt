@@ -35,7 +35,8 @@ fn core_of_items(
     span: Span,
 ) -> Result<Core, CheckError>
     requires { Outside (scope_of walk.old.scope) }
-    ensures { Answers core_view (passing (items_of (place_at context.now) (map item_tree written.now) (walk_of walk.old) (map item_tree written.now)) (small_core entry span)) result }
+    ensures { Answers core_view (passing (items_of (place_at context.now) (map item_tree written.now) (walk_of walk.old)
+        (map item_tree written.now)) (small_core entry span)) result }
 {
     items(context, walk, written)?;
     core_of(context, walk, entry, span)

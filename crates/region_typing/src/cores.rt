@@ -108,7 +108,8 @@ fn put(built: &mut Vec<Definition>, place: usize, f: Function)
 fn place(built: &mut Vec<Definition>, scope: &Scope, body: Defined)
     requires { length built.old.items ≡ length scope.now.functions.items }
     ensures all { length built.new.items ≡ length built.old.items }
-    ensures placed { (bodies : _) → map definition_view built.old.items ≡ definitions_of bodies (map signature scope.now.functions.items) → map definition_view built.new.items ≡ definitions_of (defined body ∷ bodies) (map signature scope.now.functions.items) }
+    ensures placed { (bodies : _) → map definition_view built.old.items ≡ definitions_of bodies (map signature scope.now.functions.items)
+        → map definition_view built.new.items ≡ definitions_of (defined body ∷ bodies) (map signature scope.now.functions.items) }
 {
     match trusted_place(scope, body.name) {
         Some(place) => put(built, place, body.function),

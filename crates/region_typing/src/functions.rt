@@ -21,8 +21,8 @@ use ckc_text::code::Code;
 use ckc_text::fault::NoMemory;
 use ckc_text::place::Span;
 use ckc_tree::item::{Block, ResultForm};
+use ckc_tree::statement_texts::push_body_texts;
 use ckc_tree::stmt;
-use ckc_tree_texts::statements::push_body_texts;
 use pointer_modes::ctype::CType;
 use region_typing_flow::counts::variables_in;
 use region_typing_scope::context::Context;
@@ -108,7 +108,8 @@ fn enter(
 ) -> Result<(), NoMemory>
     requires few { length parameters.now ≤ 16 }
     requires below { AreOver (length parameters.now) parameters.now }
-    ensures { IfOk result (λ _. scope_of scope.new ≡ inside (signature f.now) (map parameter_of parameters.now) (statement_list body.now) (scope_of scope.old)) }
+    ensures { IfOk result (λ _. scope_of scope.new ≡ inside (signature f.now) (map parameter_of parameters.now) (statement_list body.now)
+        (scope_of scope.old)) }
 {
     let result = copied_result(context, &f.result)?;
     let variables = variables_in(parameters.len() as u32, body);
@@ -122,7 +123,14 @@ fn enter(
 // A function with its statements.
 fn core_function(f: Signature, parameters: usize, locals: Vec<CType>, body: Vec<Stmt>) -> Function
     requires { parameters ≤ 16 }
-    ensures { function_of result ≡ record { name = f.text; parameters = parameters; locals = map ctype_of locals.items; result = option_map ctype_of f.result; body = statements_of body.items } }
+    ensures { function_of result ≡ record {
+      name = f.text;
+      parameters = parameters;
+      locals = map ctype_of locals.items;
+      result = option_map
+          ctype_of f.result;
+      body = statements_of body.items;
+    } }
 {
     Function {
         name: f.text,
@@ -151,8 +159,11 @@ fn body_of(
     requires few { length parameters.now ≤ 16 }
     requires below { AreOver (length parameters.now) parameters.now }
     requires outside { Outside (scope_of scope.old) }
-    ensures core { Answers (λ b. (function_of b.function, scope_of scope.new)) (body_core (place_at context.now) (scope_of scope.old) (signature f.now) (map parameter_of parameters.now) (statement_list body.now)) result }
-    ensures changed { IfOk result (λ b. b.changed ≡ changed_in (scope_of scope.old) (signature f.now) (map parameter_of parameters.now) (statement_list body.now)) }
+    ensures core { Answers (λ b. (function_of b.function, scope_of scope.new))
+        (body_core (place_at context.now) (scope_of scope.old) (signature f.now) (map parameter_of parameters.now)
+        (statement_list body.now)) result }
+    ensures changed { IfOk result (λ b. b.changed ≡ changed_in (scope_of scope.old) (signature f.now) (map parameter_of parameters.now)
+        (statement_list body.now)) }
 {
     enter(context, scope, f, parameters, body)?;
     let changed = first_change(context, scope, body)?;
@@ -183,8 +194,10 @@ fn with_body(
     requires few { length parameters.now ≤ 16 }
     requires below { AreOver (length parameters.now) parameters.now }
     requires outside { Outside (scope_of walk.old.scope) }
-    ensures core { Answers (λ _. walk_of walk.new) (function_body_of (place_at context.now) (walk_of walk.old) (signature f.now) (map parameter_of parameters.now) (Some (body_tree body.now))) result }
-    ensures changed { IfOk result (λ changed. changed ≡ first_changed_in (scope_of walk.old.scope) (signature f.now) (map parameter_of parameters.now) (Some (body_tree body.now))) }
+    ensures core { Answers (λ _. walk_of walk.new) (function_body_of (place_at context.now) (walk_of walk.old) (signature f.now)
+        (map parameter_of parameters.now) (Some (body_tree body.now))) result }
+    ensures changed { IfOk result (λ changed. changed ≡ first_changed_in (scope_of walk.old.scope) (signature f.now)
+        (map parameter_of parameters.now) (Some (body_tree body.now))) }
 {
     let checked = is_checked(&walk.scope, body.mark);
     add_texts(context, walk, body)?;
@@ -209,8 +222,10 @@ pub fn function_body(
     requires few { length parameters.now ≤ 16 }
     requires below { AreOver (length parameters.now) parameters.now }
     requires outside { Outside (scope_of walk.old.scope) }
-    ensures core { Answers (λ _. walk_of walk.new) (function_body_of (place_at context.now) (walk_of walk.old) (signature f.now) (map parameter_of parameters.now) (option_map body_tree body.now)) result }
-    ensures changed { IfOk result (λ changed. changed ≡ first_changed_in (scope_of walk.old.scope) (signature f.now) (map parameter_of parameters.now) (option_map body_tree body.now)) }
+    ensures core { Answers (λ _. walk_of walk.new) (function_body_of (place_at context.now) (walk_of walk.old) (signature f.now)
+        (map parameter_of parameters.now) (option_map body_tree body.now)) result }
+    ensures changed { IfOk result (λ changed. changed ≡ first_changed_in (scope_of walk.old.scope) (signature f.now)
+        (map parameter_of parameters.now) (option_map body_tree body.now)) }
 {
     match body {
         None => Ok(None),

@@ -26,10 +26,10 @@ use ckc_text::code::Code;
 use ckc_text::fault::NoMemory;
 use ckc_text::place::Span;
 use ckc_tree::expr::BoundsText;
+use ckc_tree::expression_texts::push_initializer_texts;
 use ckc_tree::item::Global as Declaration;
 use ckc_tree::stmt::{Declarator, Initializer};
 use ckc_tree::type_form::TypeForm;
-use ckc_tree_texts::expressions::push_initializer_texts;
 use pointer_modes::ctype::CType;
 use region_typing_expressions::expressions::typed;
 use region_typing_scope::context::Context;
@@ -141,7 +141,8 @@ fn own_bounds(
     t: &CType,
     d: &Declarator,
 ) -> Result<Option<Bounds>, CheckError>
-    ensures { Answers (λ b. b) (declared_bounds (with_own (declarator_tree d.now).name.number (ctype_of t.now) (scope_of scope.now)) (bounded_type (length_in (declarator_tree d.now)) (ctype_of t.now)) 0 (declarator_tree d.now).bounds) result }
+    ensures { Answers (λ b. b) (declared_bounds (with_own (declarator_tree d.now).name.number (ctype_of t.now) (scope_of scope.now))
+        (bounded_type (length_in (declarator_tree d.now)) (ctype_of t.now)) 0 (declarator_tree d.now).bounds) result }
 {
     let own = Visible {
         name: d.name.number,
@@ -228,7 +229,8 @@ fn variable(
     span: Span,
     d: &Declarator,
 ) -> Result<WalkedVariable, CheckError>
-    ensures { Answers (λ v. (walk_of walk.new, judged_variable (ctype_of t.now) v)) (one_variable (place_at context.now) (walk_of walk.old) (type_tree base.now) (ctype_of t.now) span (declarator_tree d.now)) result }
+    ensures { Answers (λ v. (walk_of walk.new, judged_variable (ctype_of t.now) v))
+        (one_variable (place_at context.now) (walk_of walk.old) (type_tree base.now) (ctype_of t.now) span (declarator_tree d.now)) result }
 {
     let taken = room_for(walk, base, span, d)?;
     needs(d.stars == 0, Code::E15, base.span())?;
@@ -254,7 +256,9 @@ fn variables(
     span: Span,
     ds: &[Declarator],
 ) -> Result<Vec<WalkedVariable>, CheckError>
-    ensures { Answers (λ v. (walk_of walk.new, map (judged_variable (ctype_of t.now)) v.items)) (judged_variables (place_at context.now) (type_tree base.now) (ctype_of t.now) span (map declarator_tree ds.now) (walk_of walk.old, [])) result }
+    ensures { Answers (λ v. (walk_of walk.new, map (judged_variable (ctype_of t.now)) v.items))
+        (judged_variables (place_at context.now) (type_tree base.now) (ctype_of t.now) span (map declarator_tree ds.now)
+        (walk_of walk.old, [])) result }
 {
     let mut walked = Vec::new(context.alloc());
     for d in ds {
@@ -308,7 +312,9 @@ fn declared_variables(
     d: &Declaration,
     t: &CType,
 ) -> Result<(), CheckError>
-    ensures { Answers (λ _. walk_of walk.new) (passing (judged_variables (place_at context.now) (global_tree d.now).base (ctype_of t.now) d.now.span (global_tree d.now).declarators (walk_of walk.old, [])) (λ x. judged_objects d.now.span x.1 x.0)) result }
+    ensures { Answers (λ _. walk_of walk.new)
+        (passing (judged_variables (place_at context.now) (global_tree d.now).base (ctype_of t.now) d.now.span
+        (global_tree d.now).declarators (walk_of walk.old, [])) (λ x. judged_objects d.now.span x.1 x.0)) result }
 {
     let vs = variables(context, walk, &d.base, t, d.span, d.declarators.as_slice())?;
     objects(context, walk, d.span, t, vs.as_slice())

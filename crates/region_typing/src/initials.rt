@@ -201,7 +201,8 @@ fn push_element(
     cells: &mut Vec<Initial>,
 ) -> Result<(), NoMemory>
     requires { i < length numbers.now }
-    ensures { OnOk result (map initial_of cells.new.items ≡ map initial_of cells.old.items ++ cells_as structs.now (ctype_of t.now) (kept_as_in (ctype_of t.now) (slice_index_or numbers.now i (pos 0)))) }
+    ensures { OnOk result (map initial_of cells.new.items ≡ map initial_of cells.old.items ++ cells_as structs.now (ctype_of t.now)
+        (kept_as_in (ctype_of t.now) (slice_index_or numbers.now i (pos 0)))) }
 {
     push_cells(context, structs, t, kept_as(t, numbers[i]), cells)
 }
@@ -305,7 +306,8 @@ fn value_cells(
     initial: &Judged,
     span: Span,
 ) -> Result<Vec<Initial>, CheckError>
-    ensures { (ended : Bool) → Answers (λ v. map initial_of v.items) (judged_cells structs.now (ctype_of t.now) None ended (judged_of initial.now) span) result }
+    ensures { (ended : Bool) → Answers (λ v. map initial_of v.items) (judged_cells structs.now (ctype_of t.now) None ended
+        (judged_of initial.now) span) result }
 {
     match initial {
         Judged::Missing => Ok(cells_with(context, structs, t, 0)?),

@@ -44,7 +44,8 @@ fn has_body(listing: &Listing, d: &Function) -> bool
 
 // Whether a declaration agrees with the first one of its name, and its types are scalars.
 fn fits(scope: &Scope, f: &Signature) -> bool
-    ensures { result ≡ (agrees_of (function_named (scope_of scope.now).functions f.now.name) (signature f.now) && (all_scalar (signature f.now).parameters && scalar_result (signature f.now).result)) }
+    ensures { result ≡ (agrees_of (function_named (scope_of scope.now).functions f.now.name) (signature f.now)
+        && (all_scalar (signature f.now).parameters && scalar_result (signature f.now).result)) }
 {
     agrees(scope, f) && is_scalar_signature(f)
 }
@@ -81,7 +82,8 @@ fn with_prototype(
 ) -> Result<(), CheckError>
     requires outside { Outside (scope_of walk.old.scope) }
     requires room { function_named (scope_of walk.old.scope).functions known.now.signature.name ≡ None → length walk.old.scope.functions.items < 4096 }
-    ensures { Answers (λ _. walk_of walk.new) (behind_declaration (place_at context.now) (map item_tree listing.now.items.now) (walk_of walk.old) (function_tree d.now) (declared_view known.now)) result }
+    ensures { Answers (λ _. walk_of walk.new) (behind_declaration (place_at context.now) (map item_tree listing.now.items.now)
+        (walk_of walk.old) (function_tree d.now) (declared_view known.now)) result }
 {
     let suits = fits(&walk.scope, &known.signature);
     declare(context, &mut walk.scope, &known.signature)?;
@@ -98,7 +100,8 @@ fn function(
     d: &Function,
 ) -> Result<(), CheckError>
     requires { Outside (scope_of walk.old.scope) }
-    ensures { Answers (λ _. walk_of walk.new) (function_of (place_at context.now) (map item_tree listing.now.items.now) (walk_of walk.old) (function_tree d.now)) result }
+    ensures { Answers (λ _. walk_of walk.new) (function_of (place_at context.now) (map item_tree listing.now.items.now) (walk_of walk.old)
+        (function_tree d.now)) result }
 {
     needs(has_room(&walk.scope, d.name.number), Code::E08, d.span)?;
     let known = declared(context, &walk.scope, d)?;
@@ -122,7 +125,8 @@ fn item(
     written: &Item,
 ) -> Result<(), CheckError>
     requires { Outside (scope_of walk.old.scope) }
-    ensures { Answers (λ _. walk_of walk.new) (item_of (place_at context.now) (map item_tree listing.now.items.now) (walk_of walk.old) (item_tree written.now)) result }
+    ensures { Answers (λ _. walk_of walk.new) (item_of (place_at context.now) (map item_tree listing.now.items.now) (walk_of walk.old)
+        (item_tree written.now)) result }
 {
     match written {
         Item::Region { region, .. } => {
@@ -138,7 +142,8 @@ fn item(
 // Each item of a source, in their order.
 fn each_item(context: &Context, listing: &Listing, walk: &mut Walk) -> Result<(), CheckError>
     requires { Outside (scope_of walk.old.scope) }
-    ensures { Answers (λ _. walk_of walk.new) (items_of (place_at context.now) (map item_tree listing.now.items.now) (walk_of walk.old) (map item_tree listing.now.items.now)) result }
+    ensures { Answers (λ _. walk_of walk.new) (items_of (place_at context.now) (map item_tree listing.now.items.now) (walk_of walk.old)
+        (map item_tree listing.now.items.now)) result }
 {
     let written = listing.items;
     for listed in written {
@@ -150,7 +155,8 @@ fn each_item(context: &Context, listing: &Listing, walk: &mut Walk) -> Result<()
 /// The items of a source, in their order.
 pub fn items(context: &Context, walk: &mut Walk, written: &[Item]) -> Result<(), CheckError>
     requires { Outside (scope_of walk.old.scope) }
-    ensures { Answers (λ _. walk_of walk.new) (items_of (place_at context.now) (map item_tree written.now) (walk_of walk.old) (map item_tree written.now)) result }
+    ensures { Answers (λ _. walk_of walk.new) (items_of (place_at context.now) (map item_tree written.now) (walk_of walk.old)
+        (map item_tree written.now)) result }
 {
     let listing = Listing {
         items: written,

@@ -179,7 +179,10 @@ fn push_parameter(
     written: &Parameter,
     parameters: &mut Vec<TypedParameter>,
 ) -> Result<(), CheckError>
-    ensures types { (all : List Member) → (is_some (parameter_tree written.now).bounds ≡ true → place_view place.now ≡ among_parameters_of (scope_of place.now.scope.now) all) → Answers (λ _. map parameter_of parameters.new.items) (one_parameter (scope_of place.now.scope.now) all (parameter_tree written.now) (map parameter_of parameters.old.items)) result }
+    ensures types { (all : List Member) → (is_some (parameter_tree written.now).bounds ≡ true
+        → place_view place.now ≡ among_parameters_of (scope_of place.now.scope.now) all)
+        → Answers (λ _. map parameter_of parameters.new.items) (one_parameter (scope_of place.now.scope.now) all
+        (parameter_tree written.now) (map parameter_of parameters.old.items)) result }
     ensures few { OnOk result (length parameters.new.items ≤ 16) }
     ensures more { OnOk result (length parameters.new.items ≡ length parameters.old.items + 1) }
     ensures below { OnOk result ((n : ℕ) → length place.now.locals.now ≤ n → AreOver n parameters.old.items → AreOver n parameters.new.items) }
@@ -209,7 +212,10 @@ fn parameter_types(
     all: &[Parameter],
 ) -> Result<Vec<TypedParameter>, CheckError>
     requires { length place.now.locals.now ≤ length all.now }
-    ensures types { (any_bounds_of (map parameter_tree all.now) ≡ true → place_view place.now ≡ among_parameters_of (scope_of place.now.scope.now) (map parameter_tree all.now)) → Answers (λ v. map parameter_of v.items) (parameter_types_of (scope_of place.now.scope.now) (map parameter_tree all.now) (map parameter_tree all.now) []) result }
+    ensures types { (any_bounds_of (map parameter_tree all.now) ≡ true
+        → place_view place.now ≡ among_parameters_of (scope_of place.now.scope.now) (map parameter_tree all.now))
+        → Answers (λ v. map parameter_of v.items) (parameter_types_of (scope_of place.now.scope.now) (map parameter_tree all.now)
+        (map parameter_tree all.now) []) result }
     ensures few { IfOk result (λ v. length v.items ≤ 16) }
     ensures each { IfOk result (λ v. length v.items ≡ length all.now) }
     ensures below { IfOk result (λ v. AreOver (length v.items) v.items) }
@@ -229,7 +235,8 @@ fn bounds_in_place(
     number: u32,
     written: &Option<BoundsText>,
 ) -> Result<Option<Bounds>, CheckError>
-    ensures { Answers (λ b. b) (declared_bounds_of (place_view place.now) (type_of_result (option_map ctype_of result_type.now)) number (option_map bounds_tree written.now)) result }
+    ensures { Answers (λ b. b) (declared_bounds_of (place_view place.now) (type_of_result (option_map ctype_of result_type.now)) number
+        (option_map bounds_tree written.now)) result }
 {
     match result_type {
         None => bounds_at(context, place, &CType::Int, number, written),
@@ -255,7 +262,8 @@ fn result_bounds(
     number: u32,
     written: &Option<BoundsText>,
 ) -> Result<Option<Option<Bounds>>, CheckError>
-    ensures { Answers (λ b. b) (result_written (place_view place.now) (option_map ctype_of result_type.now) number (option_map bounds_tree written.now)) result }
+    ensures { Answers (λ b. b) (result_written (place_view place.now) (option_map ctype_of result_type.now) number
+        (option_map bounds_tree written.now)) result }
 {
     let bounds = bounds_in_place(context, place, result_type, number, written)?;
     match written {
@@ -280,7 +288,8 @@ pub fn heading(
     result_type: &Option<CType>,
     bounds: &Option<BoundsText>,
 ) -> Result<Heading, CheckError>
-    ensures known { Answers heading_view (heading_of (scope_of scope.now) (listed_of (parameters_tree written.now)) (option_map ctype_of result_type.now) (option_map bounds_tree bounds.now)) result }
+    ensures known { Answers heading_view (heading_of (scope_of scope.now) (listed_of (parameters_tree written.now))
+        (option_map ctype_of result_type.now) (option_map bounds_tree bounds.now)) result }
     ensures few { IfOk result (λ h. length h.parameters.items ≤ 16) }
     ensures below { IfOk result (λ h. AreOver (length h.parameters.items) h.parameters.items) }
 {

@@ -144,7 +144,8 @@ fn signature_of(
     heading: &Heading,
 ) -> Result<Signature, NoMemory>
     requires { length heading.now.parameters.items ≤ 16 }
-    ensures { IfOk result (λ f. signature f ≡ signature_in (function_tree d.now) (option_map ctype_of returned) (heading_view heading.now).0 (heading_view heading.now).1) }
+    ensures { IfOk result (λ f. signature f ≡ signature_in (function_tree d.now) (option_map ctype_of returned) (heading_view heading.now).0
+        (heading_view heading.now).1) }
 {
     let parameters = heading.parameters.as_slice();
     Ok(Signature {
@@ -189,7 +190,8 @@ pub fn copied_signature(context: &Context, f: &Signature) -> Result<Signature, N
 /// Makes a function known, where its name wasn't declared before.
 pub fn declare(context: &Context, scope: &mut Scope, f: &Signature) -> Result<(), NoMemory>
     requires { function_named (scope_of scope.old).functions f.now.name ≡ None → length scope.old.functions.items < 4096 }
-    ensures { IfOk result (λ _. scope_of scope.new ≡ with_function (function_named (scope_of scope.old).functions f.now.name) (signature f.now) (scope_of scope.old)) }
+    ensures { IfOk result (λ _. scope_of scope.new ≡ with_function (function_named (scope_of scope.old).functions f.now.name)
+        (signature f.now) (scope_of scope.old)) }
 {
     match scope.function(f.name) {
         Some(_) => Ok(()),

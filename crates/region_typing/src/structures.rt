@@ -36,7 +36,8 @@ fn push_member(
     written: &item::Member,
     members: &mut Vec<Member>,
 ) -> Result<(), CheckError>
-    ensures types { Answers (λ _. map member_of members.new.items) (one_member (scope_of scope.now) (member_tree written.now) (map member_of members.old.items)) result }
+    ensures types { Answers (λ _. map member_of members.new.items) (one_member (scope_of scope.now) (member_tree written.now)
+        (map member_of members.old.items)) result }
     ensures few { IfOk result (λ _. length members.new.items ≤ 64) }
 {
     needs(

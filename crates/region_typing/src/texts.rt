@@ -1,14 +1,14 @@
 // The blocks of strings before the run.
 
 ghost use Rattle.std.specs.Prelude.{◌≡◌, ◌∷◌, ◌++◌, [], pos, map, IfOk, OnOk};
-ghost use Rattle.ckc_tree_texts.specs.Texts.{text as text_view};
+ghost use Rattle.ckc_tree.specs.Texts.{text as text_view};
 ghost use Rattle.ckc_core.specs.Core.{initial as initial_of, object as object_of};
 ghost use Rattle.ckc_core.specs.Steps.{low_byte};
 ghost use Rattle.region_typing_rules.specs.Strings.{char_cell, text_cells as text_cells_of, text_object as text_object_of};
 
 use ckc_core::program::{Initial, Object};
 use ckc_text::fault::NoMemory;
-use ckc_tree_texts::text::Text;
+use ckc_tree::text::Text;
 use pointer_modes::ctype::CType;
 use region_typing_scope::context::Context;
 

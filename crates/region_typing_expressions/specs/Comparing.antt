@@ -1,17 +1,16 @@
 -- Inside: tests of operands, the order of two numbers, and that of two pointers.
-use Rattle.std.specs.Prelude.{Bool, true, false, ◌&&◌, Option, None}
+use Rattle.std.specs.Prelude.{Bool, true, false, ◌&&◌}
 use Rattle.ckc_text.specs.declared.place.Span.{Span}
 use Rattle.ckc_text.specs.declared.code.Code.TheVariants.{E26}
-use Rattle.bounds_exprs.specs.declared.term.Bounds.{Bounds}
 use Rattle.pointer_modes.specs.Types.{CType}
 use Rattle.ckc_core.specs.declared.program.Site.{Site}
 use Rattle.ckc_core.specs.Core as core
 use Rattle.act_words.specs.declared.operator.Comparison.{Comparison}
 use Rattle.region_typing_rules.specs.Types.{is_number, is_pointer, is_row, are_comparable}
 use Rattle.region_typing_rules.specs.Verdicts.{Verdict, needs}
-use Rattle.region_typing_rules.specs.Readings.{based_bounds}
 use Rattle.region_typing_rules.specs.Operands.{Typed, Value, AStruct, number, two_scalars, have_one_base, is_ended_element}
 use Rattle.region_typing_rules.specs.Items.{is_zero}
+use Rattle.region_typing_scope.specs.Entailing.{based_of}
 
 abbrev pub is_number_value : Typed → Bool
 is_number_value (Value type zero value place) = is_number type
@@ -40,14 +39,9 @@ abbrev pub is_row_value : Typed → Bool
 is_row_value (Value type zero value place) = is_row type
 is_row_value (AStruct number place) = false
 
--- the bounds from a base that an expression has
-abbrev pub based_value : Typed → Option Bounds
-based_value (Value type zero value place) = based_bounds value
-based_value (AStruct number place) = None
-
 -- pointers with bounds that count from one base
 abbrev pub are_related_values : Typed → Typed → Bool
-are_related_values a b = is_row_value a && (is_row_value b && have_one_base (based_value a) (based_value b))
+are_related_values a b = is_row_value a && (is_row_value b && have_one_base (based_of a) (based_of b))
 
 -- the order of two pointers of one mode and element (E26)
 abbrev pub related : Comparison → Typed → Typed → Site → Span → Verdict Typed

@@ -6,7 +6,6 @@ ghost use Rattle.ckc_text.specs.Places.{place_at};
 ghost use Rattle.pointer_modes.specs.Types.{ctype as ctype_of};
 ghost use Rattle.ckc_tree.specs.Expressions.{expression as expression_of};
 ghost use Rattle.ckc_core.specs.Core.{Expression, expression};
-ghost use Rattle.ckc_core.specs.Steps.{is_char as char_type};
 ghost use Rattle.region_typing_rules.specs.Verdicts.{picked};
 ghost use Rattle.region_typing_rules.specs.Operands.{site_at};
 ghost use Rattle.region_typing_rules.specs.NewMemory.{is_size as size_of_type, factor_beside, elements_in as elements_in_size, row_counted as row_counted_of, allocation as allocation_of, ended_allocation as ended_allocation_of, allocated_in as allocated_in_size, allocated_of as allocated_of_count, ended_of as ended_of_count, malloc_typed, calloc_typed};
@@ -19,6 +18,7 @@ ghost use Rattle.region_typing_expressions.specs.Allocations.{factor_of, factor_
 use act_words::operator::{ArithmeticOperator, Operator};
 use bounds_exprs::expression::constant as constant_term;
 use bounds_exprs::term::{Bounds, Term};
+use ckc_core::char_cells::has_one_byte;
 use ckc_core::program::{Expr, PointerBounds, Site, Terminator};
 use ckc_text::code::Code;
 use ckc_text::fault::NoMemory;
@@ -65,7 +65,8 @@ fn beside_size(
     t: &CType,
     size: &expr::Expr,
 ) -> Result<Option<Factor>, NoMemory>
-    ensures { IfOk result (λ factor. (value : Expression) → factor_beside (scope_of scope.now) (ctype_of t.now) (expression_of size.now) value ≡ factor_in factor value) }
+    ensures { IfOk result (λ factor. (value : Expression) → factor_beside (scope_of scope.now) (ctype_of t.now) (expression_of size.now)
+        value ≡ factor_in factor value) }
 {
     match size {
         expr::Expr::Binary {
@@ -110,12 +111,6 @@ fn keep_factor(which: Factor, value: &mut Expr) -> bool
     }
 }
 
-fn is_char(t: &CType) -> bool
-    ensures { result ≡ char_type (ctype_of t.now) }
-{
-    matches!(t, CType::Char)
-}
-
 // How many elements a size is that isn't a product with their size: one of that size, and a `char` for each byte.
 fn elements_alone(
     context: &Context,
@@ -124,13 +119,14 @@ fn elements_alone(
     size: &expr::Expr,
     value: Box<Expr>,
 ) -> Result<Option<Box<Expr>>, NoMemory>
-    ensures { IfOk result (λ count. option_map boxed_expression count ≡ alone_in (scope_of scope.now) (ctype_of t.now) (expression_of size.now) (boxed_expression value)) }
+    ensures { IfOk result (λ count. option_map boxed_expression count ≡ alone_in (scope_of scope.now) (ctype_of t.now)
+        (expression_of size.now) (boxed_expression value)) }
 {
     if is_size(context, scope, t, size)? {
         let one = context.boxed(Expr::Number(1))?;
         return Ok(Some(one));
     }
-    if is_char(t) {
+    if has_one_byte(t) {
         Ok(Some(value))
     } else {
         Ok(None)
@@ -145,7 +141,8 @@ fn elements_in(
     size: &expr::Expr,
     mut value: Box<Expr>,
 ) -> Result<Option<Box<Expr>>, NoMemory>
-    ensures { IfOk result (λ count. option_map boxed_expression count ≡ elements_in_size (scope_of scope.now) (ctype_of t.now) (expression_of size.now) (boxed_expression value)) }
+    ensures { IfOk result (λ count. option_map boxed_expression count ≡ elements_in_size (scope_of scope.now) (ctype_of t.now)
+        (expression_of size.now) (boxed_expression value)) }
 {
     let beside = beside_size(context, scope, t, size)?;
     match beside {
@@ -251,7 +248,8 @@ pub fn ended_allocation(
     before: Option<Term>,
     span: Span,
 ) -> Result<Box<Typed>, CheckError>
-    ensures { Answers typed (ended_allocation_of (scope_of scope.now) (ctype_of t) (boxed_expression count) terminator before (site_at (place_at context.now) span) span) result }
+    ensures { Answers typed (ended_allocation_of (scope_of scope.now) (ctype_of t) (boxed_expression count) terminator before
+        (site_at (place_at context.now) span) span) result }
 {
     needs(is_number(&t), Code::E13, span)?;
     let site = context.site(span);
@@ -268,7 +266,8 @@ fn allocated_in(
     value: Box<Typed>,
     span: Span,
 ) -> Result<Box<Typed>, CheckError>
-    ensures { Answers typed (allocated_in_size (scope_of scope.now) (ctype_of t) (expression_of size.now) (typed value) (site_at (place_at context.now) span) span) result }
+    ensures { Answers typed (allocated_in_size (scope_of scope.now) (ctype_of t) (expression_of size.now) (typed value)
+        (site_at (place_at context.now) span) span) result }
 {
     let value = number(context, value, span)?;
     match elements_in(context, scope, &t, size, value)? {
@@ -302,7 +301,8 @@ fn allocated_of(
     size: &expr::Expr,
     span: Span,
 ) -> Result<Box<Typed>, CheckError>
-    ensures { Answers typed (allocated_of_count (scope_of scope.now) (ctype_of t) (typed count) (expression_of size.now) (site_at (place_at context.now) span) span) result }
+    ensures { Answers typed (allocated_of_count (scope_of scope.now) (ctype_of t) (typed count) (expression_of size.now)
+        (site_at (place_at context.now) span) span) result }
 {
     let count = counted(context, scope, &t, count, size, span)?;
     allocation(context, scope, t, count, span)
@@ -317,7 +317,8 @@ fn ended_of(
     size: &expr::Expr,
     span: Span,
 ) -> Result<Box<Typed>, CheckError>
-    ensures { Answers typed (ended_of_count (scope_of scope.now) (ctype_of t) (typed count) (expression_of size.now) (site_at (place_at context.now) span) span) result }
+    ensures { Answers typed (ended_of_count (scope_of scope.now) (ctype_of t) (typed count) (expression_of size.now)
+        (site_at (place_at context.now) span) span) result }
 {
     let count = counted(context, scope, &t, count, size, span)?;
     let before = term(scope.locals.as_slice(), &count);
@@ -334,7 +335,8 @@ pub fn malloc(
     value: Box<Typed>,
     span: Span,
 ) -> Result<Box<Typed>, CheckError>
-    ensures { Answers typed (malloc_typed word (scope_of scope.now) (ctype_of t) (expression_of size.now) (typed value) (site_at (place_at context.now) span) span) result }
+    ensures { Answers typed (malloc_typed word (scope_of scope.now) (ctype_of t) (expression_of size.now) (typed value)
+        (site_at (place_at context.now) span) span) result }
 {
     match word {
         MallocWord::Malloc => allocated_in(context, scope, t, size, value, span),
@@ -352,7 +354,8 @@ pub fn calloc(
     size: &expr::Expr,
     span: Span,
 ) -> Result<Box<Typed>, CheckError>
-    ensures { Answers typed (calloc_typed word (scope_of scope.now) (ctype_of t) (typed count) (expression_of size.now) (site_at (place_at context.now) span) span) result }
+    ensures { Answers typed (calloc_typed word (scope_of scope.now) (ctype_of t) (typed count) (expression_of size.now)
+        (site_at (place_at context.now) span) span) result }
 {
     match word {
         CallocWord::Calloc => allocated_of(context, scope, t, count, size, span),

@@ -149,7 +149,8 @@ fn argument_meets(
     to: &CType,
     declared: Option<Bounds>,
 ) -> Result<bool, NoMemory>
-    ensures { IfOk result (λ met. met ≡ argument_meets_in flow.now passed.now.terms.items passed.now.pointers.items (inline_typed t.now) (ctype_of to.now) declared) }
+    ensures { IfOk result (λ met. met ≡ argument_meets_in flow.now passed.now.terms.items passed.now.pointers.items (inline_typed t.now)
+        (ctype_of to.now) declared) }
 {
     match declared {
         None => is_met(flow, t, to),
@@ -173,7 +174,8 @@ fn first_unmet_by(
     arguments: &[Argument],
 ) -> Result<Option<Span>, NoMemory>
     requires { length arguments.now ≡ length f.now.parameters.items }
-    ensures { IfOk result (λ unmet. unmet ≡ first_unmet_in flow.now passed.now.terms.items passed.now.pointers.items (map argument arguments.now) (signature f.now).parameters (signature f.now).bounds) }
+    ensures { IfOk result (λ unmet. unmet ≡ first_unmet_in flow.now passed.now.terms.items passed.now.pointers.items
+        (map argument arguments.now) (signature f.now).parameters (signature f.now).bounds) }
 {
     let types = f.parameters.as_slice();
     for i in 0..arguments.len() {

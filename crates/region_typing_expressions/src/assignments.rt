@@ -268,7 +268,8 @@ fn sum_of_cell(
     number: Box<program::Expr>,
     site: Site,
 ) -> Result<Box<program::Expr>, NoMemory>
-    ensures { IfOk result (λ sum. expression sum.value ≡ sum_of (scope_of scope.now) direction (Load (ctype_of ctype.now) (place_of cell) bounds) (expression number.value) site) }
+    ensures { IfOk result (λ sum. expression sum.value ≡ sum_of (scope_of scope.now) direction
+        (Load (ctype_of ctype.now) (place_of cell) bounds) (expression number.value) site) }
 {
     let held = program::Expr::Load {
         ctype: copied(context, ctype)?,

@@ -285,7 +285,8 @@ fn call_of(
     call: Call,
     site: Site,
 ) -> Result<Called, NoMemory>
-    ensures { IfOk result (λ c. called_as c ≡ call_in structs.now (option_map ctype_of result_type.now) declared call.callee (arguments_of call.arguments.items) site) }
+    ensures { IfOk result (λ c. called_as c ≡ call_in structs.now (option_map ctype_of result_type.now) declared call.callee
+        (arguments_of call.arguments.items) site) }
 {
     match result_type {
         Some(t) => {
@@ -395,7 +396,8 @@ pub fn call(
     site: Site,
     span: Span,
 ) -> Result<Called, CheckError>
-    ensures { Answers called_as (called_in (point_of point.now) (function_named (point_of point.now).functions name) name (map argument arguments.items) site span) result }
+    ensures { Answers called_as (called_in (point_of point.now) (function_named (point_of point.now).functions name) name
+        (map argument arguments.items) site span) result }
 {
     match point.scope.function(name) {
         Some(f) => declared(context, point, f, arguments, site, span),

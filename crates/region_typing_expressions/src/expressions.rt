@@ -112,7 +112,8 @@ fn text_value(
 
 // A string at a span.
 fn text(context: &Context, scope: &Scope, span: Span) -> Result<Box<Typed>, CheckError>
-    ensures { Answers typed_view (text_typed (scope_of scope.now).structs (text_at (scope_of scope.now).strings span.from) (site_at (place_at context.now) span) span) result }
+    ensures { Answers typed_view (text_typed (scope_of scope.now).structs (text_at (scope_of scope.now).strings span.from)
+        (site_at (place_at context.now) span) span) result }
 {
     let block = scope.strings.block_at(span)?;
     Ok(text_value(context, &scope.structs, block, context.site(span))?)
@@ -297,7 +298,8 @@ fn binary_of(
     right: &Expr,
     span: Span,
 ) -> Result<Box<Typed>, CheckError>
-    ensures { Answers typed_view (typed_of (place_at context.now) (point_of point.now) (Binary operator (expression_of left.now) (expression_of right.now) span)) result }
+    ensures { Answers typed_view (typed_of (place_at context.now) (point_of point.now)
+        (Binary operator (expression_of left.now) (expression_of right.now) span)) result }
 {
     let left = typed_at(context, point, left)?;
     let right = right_typed(context, point, operator, right, &left)?;
@@ -313,7 +315,8 @@ fn right_typed(
     right: &Expr,
     left: &Typed,
 ) -> Result<Box<Typed>, CheckError>
-    ensures { Answers typed_view (typed_of (place_at context.now) (beside operator (inline_typed left.now) (point_of point.now)) (expression_of right.now)) result }
+    ensures { Answers typed_view (typed_of (place_at context.now) (beside operator (inline_typed left.now) (point_of point.now))
+        (expression_of right.now)) result }
 {
     match left_truth(operator) {
         None => typed_at(context, point, right),
@@ -353,7 +356,8 @@ fn cast_value(
     operand: &Expr,
     span: Span,
 ) -> Result<Box<Typed>, CheckError>
-    ensures { Answers typed_view (typed_of (place_at context.now) (point_of point.now) (Cast word (type_name_of t.now) (expression_of operand.now) span)) result }
+    ensures { Answers typed_view (typed_of (place_at context.now) (point_of point.now)
+        (Cast word (type_name_of t.now) (expression_of operand.now) span)) result }
 {
     let to = type_named(context, point.scope, t)?;
     let operand = typed_at(context, point, operand)?;
@@ -371,7 +375,8 @@ fn bounded_cast(
     bounds: &BoundsText,
     span: Span,
 ) -> Result<Box<Typed>, CheckError>
-    ensures { Answers typed_view (typed_of (place_at context.now) (point_of point.now) (BoundedCast word (type_name_of t.now) (expression_of operand.now) (bounds_tree bounds.now) span)) result }
+    ensures { Answers typed_view (typed_of (place_at context.now) (point_of point.now)
+        (BoundedCast word (type_name_of t.now) (expression_of operand.now) (bounds_tree bounds.now) span)) result }
 {
     let to = type_named(context, point.scope, t)?;
     let operand = typed_at(context, point, operand)?;
@@ -389,7 +394,8 @@ fn malloc_of(
     size: &Expr,
     span: Span,
 ) -> Result<Box<Typed>, CheckError>
-    ensures { Answers typed_view (typed_of (place_at context.now) (point_of point.now) (Malloc word (type_name_of t.now) (expression_of size.now) span)) result }
+    ensures { Answers typed_view (typed_of (place_at context.now) (point_of point.now)
+        (Malloc word (type_name_of t.now) (expression_of size.now) span)) result }
 {
     let t = type_named(context, point.scope, t)?;
     let value = typed_at(context, point, size)?;
@@ -407,7 +413,8 @@ fn calloc_of(
     size: &Expr,
     span: Span,
 ) -> Result<Box<Typed>, CheckError>
-    ensures { Answers typed_view (typed_of (place_at context.now) (point_of point.now) (Calloc word (type_name_of t.now) (expression_of count.now) (expression_of size.now) span)) result }
+    ensures { Answers typed_view (typed_of (place_at context.now) (point_of point.now)
+        (Calloc word (type_name_of t.now) (expression_of count.now) (expression_of size.now) span)) result }
 {
     let t = type_named(context, point.scope, t)?;
     let count = typed_at(context, point, count)?;

@@ -187,7 +187,8 @@ fn member_behind(
     site: Site,
     span: Span,
 ) -> Result<Box<Typed>, CheckError>
-    ensures { (mode : Mode) → Answers typed (pointed_by_in (scope_of scope.now) (Pointer mode kind (Struct number)) (expression pointer.value) name site span) result }
+    ensures { (mode : Mode) → Answers typed (pointed_by_in (scope_of scope.now) (Pointer mode kind (Struct number))
+        (expression pointer.value) name site span) result }
 {
     match kind {
         Kind::One => {

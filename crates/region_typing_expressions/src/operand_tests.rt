@@ -8,14 +8,15 @@ ghost use Rattle.region_typing_rules.specs.Types.{is_single as single_type, is_r
 ghost use Rattle.region_typing_rules.specs.Operands.{have_one_base as one_base, is_ended_element as ended_element, is_single_value as single_value, lacks_bounds as lacking_bounds, without_ptr as without_ptr_in};
 ghost use Rattle.region_typing_scope.specs.Answering.{Answers};
 ghost use Rattle.region_typing_scope.specs.Typed.{typed};
-ghost use Rattle.region_typing_expressions.specs.Comparing.{is_number_value as number_value_of, is_pointer_value as pointer_value_of, is_comparable_value, are_comparable_values as comparable_values, is_row_value as row_value, based_value as based_value_of, are_related_values as related_values, is_ended_place as ended_place, is_ended_value as ended_value, is_zero_test as zero_test_of};
+ghost use Rattle.region_typing_expressions.specs.Comparing.{is_number_value as number_value_of, is_pointer_value as pointer_value_of, is_comparable_value, are_comparable_values as comparable_values, is_row_value as row_value, are_related_values as related_values, is_ended_place as ended_place, is_ended_value as ended_value, is_zero_test as zero_test_of};
 
 use bounds_exprs::term::Bounds;
 use ckc_core::program::{CellPlace, Expr, Index};
 use ckc_text::code::Code;
 use ckc_text::place::Span;
 use pointer_modes::ctype::{CType, Kind};
-use region_typing_flow::readings::{based_bounds, bounds_of, local_bounds};
+use region_typing_flow::readings::bounds_of;
+use region_typing_scope::entailment::based;
 use region_typing_scope::refusals::{CheckError, needs};
 use region_typing_scope::typed::{Typed, is_zero};
 use region_typing_scope::types::{are_comparable, is_number, is_pointer};
@@ -168,21 +169,6 @@ fn is_row_value(t: &Typed) -> bool
     }
 }
 
-// The bounds from a base that an expression has.
-fn based_value(t: &Typed) -> Option<Bounds>
-    ensures { result ≡ based_value_of (typed t.now) }
-{
-    match t {
-        Typed::Value { value, .. } => based_bounds(value),
-        Typed::Local { local, bounds, .. } => local_bounds(*local, *bounds),
-        Typed::Cell { .. }
-        | Typed::Bounded { .. }
-        | Typed::Unknown { .. }
-        | Typed::Array { .. }
-        | Typed::Struct { .. } => None,
-    }
-}
-
 // Whether both bounds count from one base.
 fn have_one_base(a: Option<Bounds>, b: Option<Bounds>) -> bool
     ensures { result ≡ one_base a b }
@@ -197,9 +183,7 @@ fn have_one_base(a: Option<Bounds>, b: Option<Bounds>) -> bool
 pub fn are_related_values(left: &Typed, right: &Typed) -> bool
     ensures { result ≡ related_values (typed left.now) (typed right.now) }
 {
-    is_row_value(left)
-        && is_row_value(right)
-        && have_one_base(based_value(left), based_value(right))
+    is_row_value(left) && is_row_value(right) && have_one_base(based(left), based(right))
 }
 
 // Whether a place is an element, or the upper end, of what a null-terminated pointer leads to.

@@ -102,7 +102,8 @@ fn bitwise(
     right: Box<Typed>,
     span: Span,
 ) -> Result<Box<Typed>, CheckError>
-    ensures { Answers typed (two_numbers (typed left) (typed right) span (arithmetic_of (operators.Bitwise operator) (site_at (place_at context.now) span))) result }
+    ensures { Answers typed (two_numbers (typed left) (typed right) span
+        (arithmetic_of (operators.Bitwise operator) (site_at (place_at context.now) span))) result }
 {
     operated(context, Operator::Bitwise(operator), left, right, span)
 }
@@ -115,7 +116,8 @@ fn arithmetic(
     right: Box<Typed>,
     span: Span,
 ) -> Result<Box<Typed>, CheckError>
-    ensures { Answers typed (two_numbers (typed left) (typed right) span (arithmetic_of (operators.Arithmetic operator) (site_at (place_at context.now) span))) result }
+    ensures { Answers typed (two_numbers (typed left) (typed right) span
+        (arithmetic_of (operators.Arithmetic operator) (site_at (place_at context.now) span))) result }
 {
     operated(context, Operator::Arithmetic(operator), left, right, span)
 }
@@ -138,7 +140,8 @@ pub fn pointer_sum(
     number: Box<Expr>,
     site: Site,
 ) -> Expr
-    ensures { expression result ≡ Sum (expression pointer.value) direction (expression number.value) site (sum_node_of (scope_of scope.now).locals direction (expression pointer.value) (expression number.value) site) }
+    ensures { expression result ≡ Sum (expression pointer.value) direction (expression number.value) site
+        (sum_node_of (scope_of scope.now).locals direction (expression pointer.value) (expression number.value) site) }
 {
     let bounds = sum_node(scope.locals.as_slice(), direction, &pointer, &number, site);
     Expr::Sum {

@@ -140,7 +140,9 @@ fn summed_told(
     flow: &mut Flow,
 ) -> Result<(), NoMemory>
     requires { length locals.now ≤ flow.old.vars }
-    ensures ok { (site : Site) (bounds : Option PointerBounds) → OnOk result (flow.new ≡ elements_told_of (map ctype_of locals.now) (Sum (expression_of pointer.now) Forward (expression_of elements.now) site bounds) (expression_of number.now) flow.old) }
+    ensures ok { (site : Site) (bounds : Option PointerBounds) → OnOk result
+        (flow.new ≡ elements_told_of (map ctype_of locals.now) (Sum (expression_of pointer.now) Forward (expression_of elements.now) site
+        bounds) (expression_of number.now) flow.old) }
     ensures vars { flow.new.vars ≡ flow.old.vars }
 {
     match (pointer, number) {
@@ -203,7 +205,8 @@ fn both(
     flow: &mut Flow,
 ) -> Result<(), NoMemory>
     requires { length locals.now ≤ flow.old.vars }
-    ensures ok { OnOk result (flow.new ≡ told_of (map ctype_of locals.now) (expression_of right.now) truth (told_of (map ctype_of locals.now) (expression_of left.now) truth flow.old)) }
+    ensures ok { OnOk result (flow.new ≡ told_of (map ctype_of locals.now) (expression_of right.now) truth
+        (told_of (map ctype_of locals.now) (expression_of left.now) truth flow.old)) }
     ensures vars { flow.new.vars ≡ flow.old.vars }
 {
     told(locals, left, truth, flow)?;
@@ -222,7 +225,8 @@ fn parted(
 ) -> Result<Flow, NoMemory>
     requires { length locals.now ≤ flow.old.vars }
     ensures first { OnOk result (flow.new ≡ told_of (map ctype_of locals.now) (expression_of left.now) truth flow.old) }
-    ensures second { IfOk result (λ second. second ≡ told_of (map ctype_of locals.now) (expression_of right.now) truth (told_of (map ctype_of locals.now) (expression_of left.now) (not truth) flow.old)) }
+    ensures second { IfOk result (λ second. second ≡ told_of (map ctype_of locals.now) (expression_of right.now) truth
+        (told_of (map ctype_of locals.now) (expression_of left.now) (not truth) flow.old)) }
     ensures second_vars { IfOk result (λ second. second.vars ≡ flow.old.vars) }
     ensures vars { flow.new.vars ≡ flow.old.vars }
 {
@@ -244,7 +248,9 @@ fn either(
     flow: &mut Flow,
 ) -> Result<(), NoMemory>
     requires { length locals.now ≤ flow.old.vars }
-    ensures ok { OnOk result (flow.new ≡ rejoined flow.old (told_of (map ctype_of locals.now) (expression_of left.now) truth flow.old) (told_of (map ctype_of locals.now) (expression_of right.now) truth (told_of (map ctype_of locals.now) (expression_of left.now) (not truth) flow.old))) }
+    ensures ok { OnOk result (flow.new ≡ rejoined flow.old (told_of (map ctype_of locals.now) (expression_of left.now) truth flow.old)
+        (told_of (map ctype_of locals.now) (expression_of right.now) truth
+        (told_of (map ctype_of locals.now) (expression_of left.now) (not truth) flow.old))) }
     ensures vars { flow.new.vars ≡ flow.old.vars }
 {
     if !flow.is_bundled() {

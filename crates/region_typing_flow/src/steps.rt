@@ -85,7 +85,8 @@ fn measured_local(locals: &[CType], value: &Expr) -> Option<u32>
 fn set_number(locals: &[CType], local: u32, value: &Expr, flow: &mut Flow) -> Result<(), NoMemory>
     requires few { length locals.now ≤ flow.old.vars }
     requires below { local < length locals.now }
-    ensures ok { OnOk result (flow.new ≡ count_assigned local (measured_local_of (map ctype_of locals.now) (expression_of value.now)) (term_of (map ctype_of locals.now) (expression_of value.now)) flow.old) }
+    ensures ok { OnOk result (flow.new ≡ count_assigned local (measured_local_of (map ctype_of locals.now) (expression_of value.now))
+        (term_of (map ctype_of locals.now) (expression_of value.now)) flow.old) }
     ensures vars { flow.new.vars ≡ flow.old.vars }
 {
     match measured_local(locals, value) {
@@ -100,7 +101,8 @@ fn set_number(locals: &[CType], local: u32, value: &Expr, flow: &mut Flow) -> Re
 // A local is assigned a value.
 fn set(locals: &[CType], local: u32, value: &Expr, flow: &mut Flow) -> Result<(), NoMemory>
     requires { length locals.now ≤ flow.old.vars }
-    ensures ok { OnOk result (flow.new ≡ value_assigned (slice_get (map ctype_of locals.now) local) (map ctype_of locals.now) local (expression_of value.now) flow.old) }
+    ensures ok { OnOk result (flow.new ≡ value_assigned (slice_get (map ctype_of locals.now) local) (map ctype_of locals.now) local
+        (expression_of value.now) flow.old) }
     ensures vars { flow.new.vars ≡ flow.old.vars }
 {
     match tracked_of(locals, local) {
@@ -124,7 +126,8 @@ fn update(
     flow: &mut Flow,
 ) -> Result<(), NoMemory>
     requires { length locals.now ≤ flow.old.vars }
-    ensures ok { (site : Site) → OnOk result (flow.new ≡ value_assigned (slice_get (map ctype_of locals.now) local) (map ctype_of locals.now) local (Arithmetic operator (Local local None) (expression_of value.now) site) flow.old) }
+    ensures ok { (site : Site) → OnOk result (flow.new ≡ value_assigned (slice_get (map ctype_of locals.now) local)
+        (map ctype_of locals.now) local (Arithmetic operator (Local local None) (expression_of value.now) site) flow.old) }
     ensures vars { flow.new.vars ≡ flow.old.vars }
 {
     match tracked_of(locals, local) {

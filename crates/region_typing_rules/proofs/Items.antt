@@ -57,7 +57,7 @@ use Rattle.region_typing_rules.proofs.Safe.{IsSafe, setting_of}
 use Rattle.ckc_core.specs.Meaning.{effects, knot}
 use Rattle.ckc_core.specs.States.{shapes}
 use Rattle.region_typing_rules.proofs.Walks.{FileGrows, file_stays, file_further, AreSettled, IsBody, IsNamed, IsWell, bodies_later, all_append}
-use Rattle.ckc_tree_texts.specs.Texts.{body_texts}
+use Rattle.ckc_tree.specs.Texts.{body_texts}
 use Rattle.region_typing_rules.proofs.TextBlocks.{changed_beside}
 use Rattle.region_typing_rules.proofs.Objects.{Follows, region_promises, structure_promises, global_promises}
 

@@ -17,7 +17,7 @@ use Rattle.ckc_core.specs.States.{shape, object_block}
 use Rattle.region_typing_rules.specs.Verdicts.{Verdict, meant, picked}
 use Rattle.region_typing_rules.specs.Scopes.{Scope, Signature, WrittenBounds, FileVariable, Visible, Named, Local, Object, Array, Nothing, local_if, found_if, local_named, object_of, object_named, or_else, null_named, named, function_named, bounds_in}
 use Rattle.region_typing_rules.specs.Types.{Counts, is_number}
-use Rattle.ckc_tree_texts.specs.Texts.{Text}
+use Rattle.ckc_tree.specs.Texts.{Text}
 use Rattle.region_typing_rules.specs.Strings.{Strings, text_object}
 use Rattle.region_typing_rules.specs.Operands.{Typed, member_from, offset_among}
 use Rattle.region_typing_rules.specs.Calls.{is_checked_argument, without_checked, crossing, is_import, side_number}

@@ -39,7 +39,7 @@ use Rattle.bounds_flow.specs.Flows.{at_entry}
 use Rattle.region_typing_rules.specs.Statements.{is_unchecked, statements, length_of, array_kind, is_ended_array, before_end}
 use Rattle.ckc_tree.specs.declared.stmt.SignedConstant.{SignedConstant}
 use Rattle.region_typing_rules.specs.Knowing.{knowing}
-use Rattle.ckc_tree_texts.specs.Texts.{Text, body_texts}
+use Rattle.ckc_tree.specs.Texts.{Text, body_texts}
 use Rattle.region_typing_rules.proofs.TextBlocks.{inside_beside}
 use Rattle.region_typing_rules.specs.Strings.{texts_size}
 use Rattle.region_typing_rules.specs.Items.{with_texts, variable_scope, variables_declared, Walk, Parameter, is_struct, member_types, scalar_members, with_struct, member_names, structure, signed_constant, Walked, Missing, Written, Constants, unsigned_number, small_constants, initializer, are_zeros, is_zero, number_or_break, cells_or_break, listed_cells, object_cells, with_own, bounded_type, object_bounds, variable_of, with_variable, count_of, written_size, few_bytes, room_for, WalkedVariable, variables, room_for_first, with_objects, global, listed, parameter_types, among_parameters, type_of_result, bounds_of_result, first_changed_in, result_type, agrees, all_scalar, scalar_result, with_function, variables_in, with_bounds, before_bounds, inside, function_body, is_defined, function_rules, signature_of, function, is_off, item, items, start, walked}

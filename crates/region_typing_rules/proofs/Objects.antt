@@ -14,7 +14,7 @@ use Rattle.ckc_tree.specs.Statements as trees
 use Rattle.ckc_tree.specs.Statements.{Initializer, Declarator}
 use Rattle.ckc_tree.specs.Items as i
 use Rattle.ckc_names_rules.specs.declared.given.Given.{Given}
-use Rattle.ckc_tree_texts.specs.Texts.{Text, initializer_texts}
+use Rattle.ckc_tree.specs.Texts.{Text, initializer_texts}
 use Rattle.flat_bytes.specs.Blocks.{rounded_up}
 use Rattle.bounds_exprs.specs.declared.term.Bounds.{Bounds}
 use Rattle.pointer_modes.specs.Layout.{size_of}

@@ -8,7 +8,7 @@ use Rattle.ckc_text.specs.declared.place.Span.{Span}
 use Rattle.ckc_text.specs.declared.code.Code.TheVariants.{E08}
 use Rattle.ckc_tree.specs.Statements.{Statements}
 use Rattle.ckc_tree.specs.Items as i
-use Rattle.ckc_tree_texts.specs.Texts.{Text}
+use Rattle.ckc_tree.specs.Texts.{Text}
 use Rattle.bounds_flow.specs.Flows.{at_entry}
 use Rattle.pointer_modes.specs.Types.{Char, Structure}
 use Rattle.ckc_core.specs.declared.program.Site.{Site}

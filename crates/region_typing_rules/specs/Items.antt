@@ -24,7 +24,7 @@ use Rattle.ckc_tree.specs.declared.stmt.SignedConstant.{SignedConstant}
 use Rattle.ckc_tree.specs.Items as i
 use Rattle.ckc_tree.specs.Items.{ResultForm, Parameters, Item}
 use Rattle.flat_bytes.specs.Blocks.{rounded_up}
-use Rattle.ckc_tree_texts.specs.Texts.{Text, initializer_texts, body_texts}
+use Rattle.ckc_tree.specs.Texts.{Text, initializer_texts, body_texts}
 use Rattle.bounds_exprs.specs.declared.term.Bounds.{Bounds}
 use Rattle.bounds_exprs.specs.Changes.{is_named}
 use Rattle.bounds_flow.specs.Pointers.{same_bounds}

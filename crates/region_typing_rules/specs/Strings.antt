@@ -1,6 +1,6 @@
 -- The blocks of strings: each string of a source has one, behind those of the file-level variables, in the order of the source.
 use Rattle.std.specs.Prelude.{ℕ, suc, ◌+◌, ◌==◌, true, false, List, [], ◌∷◌, length, Option, Some, None, pos}
-use Rattle.ckc_tree_texts.specs.Texts.{Text}
+use Rattle.ckc_tree.specs.Texts.{Text}
 use Rattle.flat_bytes.specs.Blocks.{rounded_up}
 use Rattle.pointer_modes.specs.Types.{Char}
 use Rattle.ckc_core.specs.Programs.{Initial, Variable}

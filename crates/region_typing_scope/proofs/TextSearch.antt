@@ -2,7 +2,7 @@
 use Rattle.std.proofs.Common.{◌≡◌, ℕ, suc, ◌+◌, ◌*◌, ◌-◌, ◌<◌, ◌≤◌, Bool, true, false, List, [], ◌∷◌, map, drop, length, Option, Some, None, refl, sym, ap, ◌∙◌, arith}
 use Rattle.std.specs.Prelude.{◌==◌, nat_le, cond, slice_get}
 use Rattle.std.proofs.lemmas.Bool.Decides.{nat_tests}
-use Rattle.ckc_tree_texts.specs.Texts.{Text, text}
+use Rattle.ckc_tree.specs.Texts.{Text, text}
 use Rattle.region_typing_rules.specs.Strings.{text_size, texts_size, text_from, text_at}
 use Rattle.region_typing_scope.specs.declared.strings as code
 use Rattle.region_typing_scope.specs.Strings.{strings}

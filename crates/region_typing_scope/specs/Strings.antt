@@ -2,7 +2,7 @@
 use Rattle.std.specs.Prelude.{ℕ, nat_le, map, Option, Some, None}
 use Rattle.ckc_text.specs.declared.place.Span.{Span}
 use Rattle.ckc_text.specs.declared.code.Code.TheVariants.{E08, E13}
-use Rattle.ckc_tree_texts.specs.Texts.{text}
+use Rattle.ckc_tree.specs.Texts.{text}
 use Rattle.region_typing_rules.specs.Verdicts.{Verdict, Passes, needs, breaks}
 use Rattle.region_typing_rules.specs.Strings.{Strings, FoundText}
 use Rattle.region_typing_scope.specs.declared.strings as code

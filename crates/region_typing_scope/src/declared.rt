@@ -78,7 +78,8 @@ fn is_row(t: &CType) -> bool
 
 // The normal bounds of what is written for a local of a type, which has to be a pointer to elements with bytes.
 fn row_bounds(t: &CType, form: &BoundsForm, size: u32) -> Result<Option<Bounds>, CheckError>
-    ensures { Answers (λ b. b) (needs_in (row_type (ctype_of t.now) && nat_lt 0 size) E16 form.now.span (normal_bounds_of (how_of form.now.how) size form.now.span)) result }
+    ensures { Answers (λ b. b) (needs_in (row_type (ctype_of t.now) && nat_lt 0 size) E16 form.now.span
+        (normal_bounds_of (how_of form.now.how) size form.now.span)) result }
 {
     needs(is_row(t) && 0 < size, Code::E16, form.span)?;
     normal_bounds(form, size)
@@ -176,7 +177,8 @@ pub fn unnamed_bounds(
     t: &CType,
     written: &BoundsText,
 ) -> Result<Option<Bounds>, CheckError>
-    ensures { Answers (λ b. b) (declared_bounds_of (scope_of scope.now) (ctype_of t.now) (length (scope_of scope.now).locals) (Some (bounds_tree written.now))) result }
+    ensures { Answers (λ b. b) (declared_bounds_of (scope_of scope.now) (ctype_of t.now) (length (scope_of scope.now).locals)
+        (Some (bounds_tree written.now))) result }
 {
     let place = Place {
         scope,

@@ -93,8 +93,8 @@ fn own(t: &Typed) -> Option<Bounds>
     }
 }
 
-// The bounds from a base that an expression has beside those.
-fn based(t: &Typed) -> Option<Bounds>
+/// The bounds from a base that an expression has beside those.
+pub fn based(t: &Typed) -> Option<Bounds>
     ensures { result ≡ based_of (typed t.now) }
 {
     match t {

@@ -152,7 +152,19 @@ impl Scope {
         variables: u32,
     ) -> Result<(), NoMemory>
         requires { variables ≤ 256 }
-        ensures { OnOk result (scope_of self.new ≡ record (scope_of self.old) { locals = []; arrays = []; visible = []; result = option_map ctype_of returned; result_bounds = None; in_loop = false; outside = 0; flow = at_entry variables; breaks = None; continues = None }) }
+        ensures { OnOk result (scope_of self.new ≡ record (scope_of self.old) {
+          locals = [];
+          arrays = [];
+          visible = [];
+          result = option_map ctype_of returned;
+          result_bounds = None;
+          in_loop = false;
+          outside
+              = 0;
+          flow = at_entry variables;
+          breaks = None;
+          continues = None;
+        }) }
     {
         let flow = Flow::new(context.alloc(), variables)?;
         self.locals = Vec::new(context.alloc());
@@ -178,7 +190,18 @@ impl Scope {
 
     /// Leaves a function, and gives the types of its locals.
     pub fn exit(&mut self, context: &Context) -> Result<Vec<CType>, NoMemory>
-        ensures known { OnOk result (scope_of self.new ≡ record (scope_of self.old) { locals = []; arrays = []; visible = []; result = None; result_bounds = None; in_loop = false; outside = 0; flow = at_entry 0; breaks = None; continues = None }) }
+        ensures known { OnOk result (scope_of self.new ≡ record (scope_of self.old) {
+          locals = [];
+          arrays = [];
+          visible = [];
+          result = None;
+          result_bounds = None;
+          in_loop = false;
+          outside = 0;
+          flow = at_entry 0;
+          breaks = None;
+          continues = None;
+        }) }
         ensures locals { IfOk result (λ locals. map ctype_of locals.items ≡ (scope_of self.old).locals) }
     {
         self.outside = 0;

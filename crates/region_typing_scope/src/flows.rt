@@ -114,7 +114,8 @@ impl Scope {
 
     /// An assignment that isn't settled yet.
     pub fn assign(&mut self, statement: &Stmt) -> Result<(), NoMemory>
-        ensures known { OnOk result (scope_of self.new ≡ knowing (assigned_by (scope_of self.old).locals (statement_of statement.now) (scope_of self.old).flow) (scope_of self.old)) }
+        ensures known { OnOk result (scope_of self.new ≡ knowing (assigned_by (scope_of self.old).locals (statement_of statement.now)
+            (scope_of self.old).flow) (scope_of self.old)) }
         ensures seen { OnOk result (self.new.visible.items ≡ self.old.visible.items) }
         ensures locals { OnOk result (self.new.locals.items ≡ self.old.locals.items) }
         ensures size { OnOk result (self.new.flow.vars ≡ self.old.flow.vars) }
@@ -188,7 +189,13 @@ impl Scope {
     /// Enters a loop that assigns these locals, and gives what is known of the loop around.
     pub fn enter_loop(&mut self, assigned: &[u32]) -> Result<Ways, NoMemory>
         requires { All (λ x. x < self.old.flow.vars) assigned.now }
-        ensures known { OnOk result (scope_of self.new ≡ record (scope_of self.old) { outside = length (scope_of self.old).locals; flow = at_head assigned.now (scope_of self.old).flow; breaks = None; continues = None }) }
+        ensures known { OnOk result (scope_of self.new ≡ record (scope_of self.old) {
+          outside = length (scope_of self.old).locals;
+          flow = at_head assigned.now (scope_of self.old).flow;
+          breaks = None;
+          continues
+              = None;
+        }) }
         ensures around { IfOk result (λ ways. ways ≡ record { outside = self.old.outside; breaks = self.old.breaks; continues = self.old.continues }) }
         ensures few { IfOk result (λ ways. ways.outside ≤ length self.old.locals.items) }
         ensures seen { OnOk result (self.new.visible.items ≡ self.old.visible.items) }
@@ -222,7 +229,13 @@ impl Scope {
         requires size { over.vars ≡ self.old.flow.vars }
         requires breaks { HasVars self.old.flow.vars around.breaks }
         requires continues { HasVars self.old.flow.vars around.continues }
-        ensures known { OnOk result (scope_of self.new ≡ record (scope_of self.old) { outside = around.outside; flow = with_others (scope_of self.old).breaks over; breaks = around.breaks; continues = around.continues }) }
+        ensures known { OnOk result (scope_of self.new ≡ record (scope_of self.old) {
+          outside = around.outside;
+          flow = with_others (scope_of self.old).breaks over;
+          breaks = around.breaks;
+          continues
+              = around.continues;
+        }) }
         ensures seen { OnOk result (self.new.visible.items ≡ self.old.visible.items) }
         ensures size { OnOk result (self.new.flow.vars ≡ self.old.flow.vars) }
     {

@@ -46,7 +46,8 @@ impl Scope {
         requires below { AreBoundsBelow self.old.flow.vars bounds }
         requires last { 0 < length self.old.locals.items }
         ensures known { OnOk result (scope_of self.new ≡ last_declared bounds (scope_of self.old)) }
-        ensures added { OnOk result ((g : ScopeTree) (name : ℕ) (t : TypeTree) → scope_of self.old ≡ with_local name t None g → scope_of self.new ≡ with_local name t bounds g) }
+        ensures added { OnOk result ((g : ScopeTree) (name : ℕ) (t : TypeTree) → scope_of self.old ≡ with_local name t None g
+            → scope_of self.new ≡ with_local name t bounds g) }
         ensures seen { OnOk result (self.new.visible.items ≡ self.old.visible.items) }
         ensures locals { OnOk result (self.new.locals.items ≡ self.old.locals.items) }
         ensures size { OnOk result (self.new.flow.vars ≡ self.old.flow.vars) }
@@ -65,7 +66,8 @@ impl Scope {
         ended: bool,
     ) -> Result<(), NoMemory>
         requires room { length self.old.locals.items < self.old.flow.vars }
-        ensures known { OnOk result ((t : TypeTree) → ctype_of row ≡ row_type ended t → scope_of self.new ≡ with_array name t elements ended (scope_of self.old)) }
+        ensures known { OnOk result ((t : TypeTree) → ctype_of row ≡ row_type ended t
+            → scope_of self.new ≡ with_array name t elements ended (scope_of self.old)) }
         ensures seen { OnOk result ((v : _) × (self.new.visible.items ≡ self.old.visible.items ++ v ∷ [])) }
         ensures size { OnOk result (self.new.flow.vars ≡ self.old.flow.vars) }
     {
@@ -113,7 +115,12 @@ impl Scope {
     /// around is as it was before it.
     pub fn leave(&mut self, start: BlockStart) -> Result<(), NoMemory>
         requires { start.locals ≤ length self.old.locals.items }
-        ensures known { OnOk result (scope_of self.new ≡ record (scope_of self.old) { visible = reverse (map visible_of (take start.visible self.old.visible.items)); in_loop = start.in_loop; flow = outside_of start.locals (scope_of self.old) (scope_of self.old).flow }) }
+        ensures known { OnOk result (scope_of self.new ≡ record (scope_of self.old) {
+          visible = reverse (map visible_of (take start.visible self.old.visible.items));
+          in_loop = start.in_loop;
+          flow = outside_of
+              start.locals (scope_of self.old) (scope_of self.old).flow;
+        }) }
         ensures seen { OnOk result (self.new.visible.items ≡ take start.visible self.old.visible.items) }
         ensures size { OnOk result (self.new.flow.vars ≡ self.old.flow.vars) }
     {

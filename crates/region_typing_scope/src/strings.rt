@@ -2,7 +2,7 @@
 
 ghost use Rattle.std.specs.Prelude.{◌≤◌};
 
-use ckc_tree_texts::text::Text;
+use ckc_tree::text::Text;
 
 /// The strings so far, with those of what is walked.
 #[derive(Drop)]

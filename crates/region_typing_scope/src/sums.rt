@@ -139,7 +139,9 @@ fn binary_form(
     left: &Expr,
     right: &Expr,
 ) -> Result<SumForm, CheckError>
-    ensures { Answers sum (passing (sum_written (place_view place.now) (bounded_view p.now) (expression_of left.now)) (λ a. passing (sum_written (place_view place.now) (bounded_view p.now) (expression_of right.now)) (λ b. Passes (operation_sum operator a b)))) result }
+    ensures { Answers sum (passing (sum_written (place_view place.now) (bounded_view p.now) (expression_of left.now))
+        (λ a. passing (sum_written (place_view place.now) (bounded_view p.now) (expression_of right.now))
+        (λ b. Passes (operation_sum operator a b)))) result }
 {
     let left = sum_form(context, place, p, left)?;
     let right = sum_form(context, place, p, right)?;
@@ -169,7 +171,8 @@ fn both_form(
     first: &Expr,
     second: &Expr,
 ) -> Result<SumForm, CheckError>
-    ensures { Answers sum (passing (sum_written (place_view place.now) (bounded_view p.now) (expression_of first.now)) (λ _. passing (sum_written (place_view place.now) (bounded_view p.now) (expression_of second.now)) (λ _. Passes Other))) result }
+    ensures { Answers sum (passing (sum_written (place_view place.now) (bounded_view p.now) (expression_of first.now))
+        (λ _. passing (sum_written (place_view place.now) (bounded_view p.now) (expression_of second.now)) (λ _. Passes Other))) result }
 {
     let _first = sum_form(context, place, p, first)?;
     other_form(context, place, p, second)
@@ -200,7 +203,8 @@ fn bounded_form(
     operand: &Expr,
     bounds: &BoundsText,
 ) -> Result<SumForm, CheckError>
-    ensures { Answers sum (passing (sum_written (place_view place.now) (bounded_view p.now) (expression_of operand.now)) (λ _. parts_written (place_view place.now) (bounded_view p.now) (bounds_tree bounds.now))) result }
+    ensures { Answers sum (passing (sum_written (place_view place.now) (bounded_view p.now) (expression_of operand.now))
+        (λ _. parts_written (place_view place.now) (bounded_view p.now) (bounds_tree bounds.now))) result }
 {
     let _operand = sum_form(context, place, p, operand)?;
     parts_form(context, place, p, bounds)

@@ -2,7 +2,7 @@
 
 ghost use Rattle.std.specs.Prelude.{◌≡◌, ◌+◌, ◌-◌, ◌≤◌, [], cond, nat_le, map, Some, None};
 ghost use Rattle.flat_bytes.specs.Blocks.{rounded_up};
-ghost use Rattle.ckc_tree_texts.specs.Texts.{text};
+ghost use Rattle.ckc_tree.specs.Texts.{text};
 ghost use Rattle.region_typing_rules.specs.Strings.{text_size, texts_size, text_at};
 ghost use Rattle.region_typing_scope.specs.Answering.{Answers};
 ghost use Rattle.region_typing_scope.specs.Strings.{strings, block, block_verdict};
@@ -11,7 +11,7 @@ use crate::refusals::{CheckError, refusal};
 use crate::strings::Strings;
 use ckc_text::code::Code;
 use ckc_text::place::Span;
-use ckc_tree_texts::text::Text;
+use ckc_tree::text::Text;
 use std::alloc::Global;
 
 /// How many bytes the blocks of variables and strings may take, with the gaps behind them.

@@ -87,13 +87,6 @@ pub fn may_lead_to(kind: Kind, t: &CType) -> bool
     }
 }
 
-/// Whether two types are those of numbers.
-pub fn are_numbers(a: &CType, b: &CType) -> bool
-    ensures { result ≡ (number_type (ctype a.now) && number_type (ctype b.now)) }
-{
-    is_number(a) && is_number(b)
-}
-
 /// Whether a type is that of pointers.
 pub fn is_pointer(t: &CType) -> bool
     ensures { result ≡ pointer_type (ctype t.now) }

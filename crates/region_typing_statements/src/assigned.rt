@@ -177,7 +177,8 @@ fn mark_turns(
     visible: &mut Vec<Visible>,
     marks: &mut Vec<bool>,
 ) -> Result<(), NoMemory>
-    ensures marked { OnOk result (marks.new.items ≡ turns_marked beyond (seen visible.old.items) (initial_tree initial.now) (option_map assignment_tree step.now) (statement_tree body.now) marks.old.items) }
+    ensures marked { OnOk result (marks.new.items ≡ turns_marked beyond (seen visible.old.items) (initial_tree initial.now)
+        (option_map assignment_tree step.now) (statement_tree body.now) marks.old.items) }
     ensures kept { OnOk result (visible.new.items ≡ visible.old.items) }
 {
     let outside = visible.len();

@@ -64,7 +64,8 @@ fn assignments(
     scope: &mut Scope,
     written: &[Assignment],
 ) -> Result<Vec<Stmt>, CheckError>
-    ensures { Walks (λ v. statements_of v.items) (unsettled (place_at context.now) (scope_of scope.old) (map assignment_tree written.now)) scope.old result scope.new }
+    ensures { Walks (λ v. statements_of v.items) (unsettled (place_at context.now) (scope_of scope.old) (map assignment_tree written.now))
+        scope.old result scope.new }
 {
     let mut built = Vec::new(context.alloc());
     for listed in written {

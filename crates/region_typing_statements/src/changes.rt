@@ -144,7 +144,8 @@ fn turns_change(
     step: &Option<Assignment>,
     visible: &mut Vec<Visible>,
 ) -> Result<Option<Span>, NoMemory>
-    ensures changed { IfOk result (λ span. span ≡ turns_changed (names (Some bounds.now)) beyond (seen visible.old.items) (initial_tree initial.now) (option_map assignment_tree step.now) (statement_tree body.now)) }
+    ensures changed { IfOk result (λ span. span ≡ turns_changed (names (Some bounds.now)) beyond (seen visible.old.items)
+        (initial_tree initial.now) (option_map assignment_tree step.now) (statement_tree body.now)) }
     ensures kept { OnOk result (visible.new.items ≡ visible.old.items) }
 {
     let outside = visible.len();
@@ -185,7 +186,8 @@ pub fn first_change(
     scope: &Scope,
     written: &[Stmt],
 ) -> Result<Option<Span>, NoMemory>
-    ensures { IfOk result (λ span. span ≡ all_changed_of (names (scope_of scope.now).result_bounds) (length (scope_of scope.now).locals) (scope_of scope.now).visible (statement_list written.now)) }
+    ensures { IfOk result (λ span. span ≡ all_changed_of (names (scope_of scope.now).result_bounds) (length (scope_of scope.now).locals)
+        (scope_of scope.now).visible (statement_list written.now)) }
 {
     match &scope.result_bounds {
         None => Ok(None),

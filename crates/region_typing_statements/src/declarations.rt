@@ -46,7 +46,8 @@ fn declared(
     span: Span,
 ) -> Result<Box<Stmt>, CheckError>
     requires { length scope.old.locals.items < scope.old.flow.vars }
-    ensures { Walks statement (declared_local (place_at context.now) (scope_of scope.old) (declarator_tree d.now) (ctype_of t.now) span) scope.old result scope.new }
+    ensures { Walks statement (declared_local (place_at context.now) (scope_of scope.old) (declarator_tree d.now) (ctype_of t.now) span)
+        scope.old result scope.new }
 {
     let local = scope.locals.len() as u32;
     let kept = copied(context, t)?;
@@ -66,7 +67,8 @@ fn plain_local(
     d: &Declarator,
 ) -> Result<Box<Stmt>, CheckError>
     requires { length scope.old.locals.items < scope.old.flow.vars }
-    ensures { Walks statement (plain_local_of (place_at context.now) (scope_of scope.old) (type_tree base.now) (ctype_of t.now) span (declarator_tree d.now)) scope.old result scope.new }
+    ensures { Walks statement (plain_local_of (place_at context.now) (scope_of scope.old) (type_tree base.now) (ctype_of t.now) span
+        (declarator_tree d.now)) scope.old result scope.new }
 {
     let given = copied(context, t)?;
     let t = without_stars(base, d.stars, given)?;
@@ -82,7 +84,8 @@ fn declarator(
     span: Span,
     d: &Declarator,
 ) -> Result<Box<Stmt>, CheckError>
-    ensures { Walks statement (declarator_of (place_at context.now) (scope_of scope.old) (type_tree base.now) (ctype_of t.now) span (declarator_tree d.now)) scope.old result scope.new }
+    ensures { Walks statement (declarator_of (place_at context.now) (scope_of scope.old) (type_tree base.now) (ctype_of t.now) span
+        (declarator_tree d.now)) scope.old result scope.new }
 {
     few_locals(scope, span)?;
     match d.array {
@@ -100,7 +103,8 @@ fn declarators(
     span: Span,
     ds: &[Declarator],
 ) -> Result<Box<Stmt>, CheckError>
-    ensures { Walks statement (declarators_of (place_at context.now) (scope_of scope.old) (type_tree base.now) (ctype_of t.now) span (map declarator_tree ds.now)) scope.old result scope.new }
+    ensures { Walks statement (declarators_of (place_at context.now) (scope_of scope.old) (type_tree base.now) (ctype_of t.now) span
+        (map declarator_tree ds.now)) scope.old result scope.new }
 {
     match ds {
         [] => Ok(nothing(context)?),

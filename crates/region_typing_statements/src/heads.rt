@@ -40,7 +40,8 @@ pub fn optional_step(
     scope: &mut Scope,
     written: &Option<Assignment>,
 ) -> Result<Box<Stmt>, CheckError>
-    ensures { Walks statement (optional_step_of (place_at context.now) (scope_of scope.old) (option_map assignment_tree written.now)) scope.old result scope.new }
+    ensures { Walks statement (optional_step_of (place_at context.now) (scope_of scope.old) (option_map assignment_tree written.now))
+        scope.old result scope.new }
 {
     match written {
         None => Ok(nothing(context)?),

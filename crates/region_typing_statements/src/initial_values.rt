@@ -36,7 +36,8 @@ fn initial_value(
     local: u32,
     span: Span,
 ) -> Result<Box<Stmt>, CheckError>
-    ensures { Answers statement_of (initial_value_as (place_at context.now) (scope_of scope.now) (expression_tree value.now) (ctype_of t.now) local span) result }
+    ensures { Answers statement_of (initial_value_as (place_at context.now) (scope_of scope.now) (expression_tree value.now)
+        (ctype_of t.now) local span) result }
 {
     let given = typed(context, scope, value)?;
     let value = fitted(context, scope, &None, given, t, span)?;
@@ -52,7 +53,8 @@ fn initialised(
     local: u32,
     span: Span,
 ) -> Result<Box<Stmt>, CheckError>
-    ensures { Answers statement_of (initialised_as (place_at context.now) (scope_of scope.now) (option_map initializer_tree written.now) (ctype_of t.now) local span) result }
+    ensures { Answers statement_of (initialised_as (place_at context.now) (scope_of scope.now) (option_map initializer_tree written.now)
+        (ctype_of t.now) local span) result }
 {
     match written {
         None => Ok(nothing(context)?),
@@ -82,7 +84,8 @@ pub fn from_zero(
     local: u32,
     span: Span,
 ) -> Result<Box<Stmt>, CheckError>
-    ensures { Walks statement_of (from_zero_as (place_at context.now) (scope_of scope.old) (option_map initializer_tree written.now) (ctype_of t.now) local span) scope.old result scope.new }
+    ensures { Walks statement_of (from_zero_as (place_at context.now) (scope_of scope.old) (option_map initializer_tree written.now)
+        (ctype_of t.now) local span) scope.old result scope.new }
 {
     let initial = initialised(context, scope, written, t, local, span)?;
     needs(is_scalar(t), Code::E13, span)?;

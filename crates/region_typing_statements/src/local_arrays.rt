@@ -205,7 +205,8 @@ fn array(
     span: Span,
 ) -> Result<Box<Stmt>, CheckError>
     requires { count ≤ 8192 }
-    ensures { Walks statement (array_in (place_at context.now) (scope_of scope.old) local (declarator_tree d.now) (ctype_of t) count ended span) scope.old result scope.new }
+    ensures { Walks statement (array_in (place_at context.now) (scope_of scope.old) local (declarator_tree d.now) (ctype_of t) count ended
+        span) scope.old result scope.new }
 {
     array_bounds(context, scope, &d.bounds)?;
     without_initial(context, scope, &d.initializer, span)?;
@@ -226,7 +227,9 @@ fn add_array(
 ) -> Result<Box<Stmt>, CheckError>
     requires room { length scope.old.locals.items < scope.old.flow.vars }
     requires few { count ≤ 8192 }
-    ensures { Walks statement (array_in (place_at context.now) (with_array (declarator_tree d.now).name.number (ctype_of t) count ended (scope_of scope.old)) (length (scope_of scope.old).locals) (declarator_tree d.now) (ctype_of t) count ended span) scope.old result scope.new }
+    ensures { Walks statement (array_in (place_at context.now) (with_array (declarator_tree d.now).name.number (ctype_of t) count ended
+        (scope_of scope.old)) (length (scope_of scope.old).locals) (declarator_tree d.now) (ctype_of t) count ended span) scope.old result
+        scope.new }
 {
     let local = scope.locals.len() as u32;
     let row = row(context, ended, &t)?;
@@ -246,7 +249,8 @@ pub fn array_local(
     count: u32,
 ) -> Result<Box<Stmt>, CheckError>
     requires { length scope.old.locals.items < scope.old.flow.vars }
-    ensures { Walks statement (array_local_of (place_at context.now) (scope_of scope.old) (type_tree base.now) (ctype_of t.now) span (declarator_tree d.now) count (is_ended_in (declarator_tree d.now))) scope.old result scope.new }
+    ensures { Walks statement (array_local_of (place_at context.now) (scope_of scope.old) (type_tree base.now) (ctype_of t.now) span
+        (declarator_tree d.now) count (is_ended_in (declarator_tree d.now))) scope.old result scope.new }
 {
     needs(is_length(Some(count)), Code::E08, span)?;
     let given = copied(context, t)?;

@@ -103,7 +103,8 @@ fn value_returned(
     written: &Expr,
     span: Span,
 ) -> Result<Box<Stmt>, CheckError>
-    ensures { Answers statement (value_returned_in (place_at context.now) (scope_of scope.now) (scope_of scope.now).result (expression_tree written.now) span) result }
+    ensures { Answers statement (value_returned_in (place_at context.now) (scope_of scope.now) (scope_of scope.now).result
+        (expression_tree written.now) span) result }
 {
     match &scope.result {
         None => refused_value(context, scope, written, span),
@@ -133,7 +134,8 @@ pub fn return_from(
     written: &Option<Box<Expr>>,
     span: Span,
 ) -> Result<Box<Stmt>, CheckError>
-    ensures { Walks statement (passing (return_of (place_at context.now) (scope_of scope.old) (option_map on_heap written.now) span) (λ x. Passes (x, cut (scope_of scope.old)))) scope.old result scope.new }
+    ensures { Walks statement (passing (return_of (place_at context.now) (scope_of scope.old) (option_map on_heap written.now) span)
+        (λ x. Passes (x, cut (scope_of scope.old)))) scope.old result scope.new }
 {
     let built = returned(context, scope, written, span)?;
     scope.cut()?;

@@ -123,7 +123,8 @@ fn block(
     mark: Option<Mark>,
     span: Span,
 ) -> Result<Box<Stmt>, CheckError>
-    ensures { Walks statement_of (statement_in (place_at context.now) (scope_of scope.old) (Block mark (statement_list inner.now) span)) scope.old result scope.new }
+    ensures { Walks statement_of (statement_in (place_at context.now) (scope_of scope.old) (Block mark (statement_list inner.now) span))
+        scope.old result scope.new }
 {
     let start = scope.block_start();
     let checked = is_checked(scope, mark);
@@ -222,7 +223,11 @@ fn loop_ended(
     requires size { turn.otherwise.vars ≡ scope.old.flow.vars }
     requires breaks { HasVars scope.old.flow.vars around.breaks }
     requires continues { HasVars scope.old.flow.vars around.continues }
-    ensures { Walks statement_of (Passes (Loop (expression_of turn.condition) (statement_of turn.consequent) (statement_of step), over around.outside turn.otherwise around.breaks around.continues (scope_of scope.old))) scope.old result scope.new }
+    ensures { Walks statement_of (Passes (
+      Loop (expression_of turn.condition) (statement_of turn.consequent) (statement_of step),
+      over
+          around.outside turn.otherwise around.breaks around.continues (scope_of scope.old),
+    )) scope.old result scope.new }
 {
     let Branch {
         condition,
@@ -242,7 +247,8 @@ fn guarded(
     in_loop: bool,
     condition: Box<Expr>,
 ) -> Result<Branch, CheckError>
-    ensures walks { Walks branched (guarded_in (place_at context.now) (scope_of scope.old) in_loop (expression_of condition) (statement_tree written.now)) scope.old result scope.new }
+    ensures walks { Walks branched (guarded_in (place_at context.now) (scope_of scope.old) in_loop (expression_of condition)
+        (statement_tree written.now)) scope.old result scope.new }
     ensures size { IfOk result (λ b. b.otherwise.vars ≡ scope.new.flow.vars) }
 {
     let otherwise = scope.part(&condition)?;
@@ -263,7 +269,8 @@ fn then_branch(
     in_loop: bool,
     test: &expr::Expr,
 ) -> Result<Branch, CheckError>
-    ensures walks { Walks branched (branch_in (place_at context.now) (scope_of scope.old) in_loop (expression_tree test.now) (statement_tree consequent.now)) scope.old result scope.new }
+    ensures walks { Walks branched (branch_in (place_at context.now) (scope_of scope.old) in_loop (expression_tree test.now)
+        (statement_tree consequent.now)) scope.old result scope.new }
     ensures size { IfOk result (λ b. b.otherwise.vars ≡ scope.new.flow.vars) }
 {
     let condition = condition(context, scope, test)?;
@@ -278,7 +285,8 @@ fn if_alone(
     consequent: &stmt::Stmt,
     test: &expr::Expr,
 ) -> Result<Box<Stmt>, CheckError>
-    ensures { Walks statement_of (if_in (place_at context.now) (scope_of scope.old) (expression_tree test.now) (statement_tree consequent.now)) scope.old result scope.new }
+    ensures { Walks statement_of (if_in (place_at context.now) (scope_of scope.old) (expression_tree test.now)
+        (statement_tree consequent.now)) scope.old result scope.new }
 {
     let around = scope.in_loop;
     let first = then_branch(context, scope, consequent, around, test)?;
@@ -295,7 +303,8 @@ fn otherwise(
     first: Branch,
 ) -> Result<Box<Stmt>, CheckError>
     requires { first.otherwise.vars ≡ scope.old.flow.vars }
-    ensures { Walks statement_of (otherwise_in (place_at context.now) (branched first, scope_of scope.old) (statement_tree alternative.now)) scope.old result scope.new }
+    ensures { Walks statement_of (otherwise_in (place_at context.now) (branched first, scope_of scope.old) (statement_tree alternative.now))
+        scope.old result scope.new }
 {
     let around = scope.in_loop;
     let walked = turned(scope, first);
@@ -311,7 +320,8 @@ fn while_loop(
     body: &stmt::Stmt,
     test: &expr::Expr,
 ) -> Result<Box<Stmt>, CheckError>
-    ensures { Walks statement_of (while_in (place_at context.now) (scope_of scope.old) (expression_tree test.now) (statement_tree body.now)) scope.old result scope.new }
+    ensures { Walks statement_of (while_in (place_at context.now) (scope_of scope.old) (expression_tree test.now) (statement_tree body.now))
+        scope.old result scope.new }
 {
     let nothing = nothing(context)?;
     let around = loop_head(context, scope, body, &None)?;
@@ -329,7 +339,8 @@ fn for_loop(
     test: &Option<Box<expr::Expr>>,
     step: &Option<Assignment>,
 ) -> Result<Box<Stmt>, CheckError>
-    ensures { Walks statement_of (for_in (place_at context.now) (scope_of scope.old) (initial_tree initial.now) (option_map on_heap test.now) (option_map assignment_tree step.now) (statement_tree body.now)) scope.old result scope.new }
+    ensures { Walks statement_of (for_in (place_at context.now) (scope_of scope.old) (initial_tree initial.now)
+        (option_map on_heap test.now) (option_map assignment_tree step.now) (statement_tree body.now)) scope.old result scope.new }
 {
     let start = scope.block_start();
     let first = first_part(context, scope, initial)?;
@@ -347,7 +358,8 @@ fn turns(
     test: &Option<Box<expr::Expr>>,
     step: &Option<Assignment>,
 ) -> Result<Box<Stmt>, CheckError>
-    ensures { Walks statement_of (turns_in (place_at context.now) (scope_of scope.old) (statement_tree body.now) (option_map on_heap test.now) (option_map assignment_tree step.now)) scope.old result scope.new }
+    ensures { Walks statement_of (turns_in (place_at context.now) (scope_of scope.old) (statement_tree body.now)
+        (option_map on_heap test.now) (option_map assignment_tree step.now)) scope.old result scope.new }
 {
     let around = loop_head(context, scope, body, step)?;
     let test = optional_condition(context, scope, test)?;
@@ -380,7 +392,8 @@ pub fn statements(
     scope: &mut Scope,
     written: &[stmt::Stmt],
 ) -> Result<Vec<Stmt>, CheckError>
-    ensures { Walks (λ v. statements_of v.items) (statements_in (place_at context.now) (scope_of scope.old) (statement_list written.now)) scope.old result scope.new }
+    ensures { Walks (λ v. statements_of v.items) (statements_in (place_at context.now) (scope_of scope.old) (statement_list written.now))
+        scope.old result scope.new }
 {
     let mut built = Vec::new(context.alloc());
     for listed in written {

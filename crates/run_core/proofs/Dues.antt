@@ -3,7 +3,7 @@ use Rattle.std.proofs.Common.{◌≡◌, List, [], ◌∷◌, ◌++◌, Option, 
 use Rattle.act_words.specs.Acts.{Seen}
 use Rattle.act_words.specs.World.{Event, Took, Output, Released, Showed, NoAct}
 use Rattle.run_core.specs.Moments.{due_from, before_due}
-use Rattle.run_core_transcript.specs.Touched.{last_of}
+use Rattle.run_core.specs.Touched.{last_of}
 
 pub last_of-append : (last : Option Seen) (events more : List Event) → last_of last (events ++ more) ≡ last_of (last_of last events) more
 last_of-append last [] more = refl

@@ -5,14 +5,14 @@ use Rattle.act_words.specs.declared.ending.Ending.{Ending}
 use Rattle.act_words.specs.declared.settings.Settings.{Settings}
 use Rattle.act_words.specs.Shown.{Shown}
 use Rattle.code_words.specs.declared.image.Image.{Image}
-use Rattle.run_core_transcript.specs.declared.fault.RunFault.{RunFault}
-use Rattle.run_core_transcript.specs.declared.fault.RunFault.TheVariants as faults
+use Rattle.run_core.specs.declared.fault.RunFault.{RunFault}
+use Rattle.run_core.specs.declared.fault.RunFault.TheVariants as faults
 use Rattle.act_recorder.specs.Endings.{ending_text}
-use Rattle.run_core_transcript.specs.Texts.{dump_text, missing_feed, with_last_line}
-use Rattle.run_core_transcript.specs.Asked.{Answering, PlayCounts}
+use Rattle.run_core.specs.Texts.{dump_text, missing_feed, with_last_line}
+use Rattle.run_core.specs.Asked.{Answering, PlayCounts}
 use Rattle.run_core.specs.Runs.{Outcome, Ends, Comes, CameTo, RunWrites, RunCounts, WritesFront, WritesToWant}
 use Rattle.run_core.specs.Progress.{PlayEnds}
-use Rattle.run_core_transcript.specs.Finishes.{Fronts, Finish, Finishes}
+use Rattle.run_core.specs.Finishes.{Fronts, Finish, Finishes}
 
 module _ {S : Type 0} (answers : Answering S) (files : Option Files) (image : Image) (settings : Settings) (inputs : List ℤ) (first last : S) (old new : Option (List ℕ)) (before after : ℕ) where
   -- a front of the text of what was come to

@@ -4,8 +4,8 @@ use Rattle.ckc_io.specs.Files.{Files}
 use Rattle.act_words.specs.Acts.{Act, Seen}
 use Rattle.act_words.specs.World.{Event, Took, Output, Released, Showed, NoAct}
 use Rattle.sandbox_actor.specs.Answers.{Moment, Gives}
-use Rattle.run_core_transcript.specs.Asked.{Answering}
-use Rattle.run_core_transcript.specs.Touched.{last_of}
+use Rattle.run_core.specs.Asked.{Answering}
+use Rattle.run_core.specs.Touched.{last_of}
 use Rattle.run_core.specs.Gave.{Gave, AnswersOnce}
 
 module _ {S : Type 0} (answers : Answering S) (files : Option Files) where

@@ -19,7 +19,7 @@ use Rattle.two_memory_machine.specs.declared.event.Waiting.TheVariants as waitin
 use Rattle.two_memory_machine.specs.Machines.{Machine, Doing, Running, NeedsNumber, HasNumber, Touching, Suspended, IsStart, TakesAct, TakesEnd, TellsAct, state_of, turn_of, waiting_of, told_behind}
 use Rattle.run_core.specs.Moments.{due_from, due_in, before_due, IsDue}
 use Rattle.run_core.specs.Runs.{EndsBefore}
-use Rattle.run_core_transcript.specs.Touched.{last_of}
+use Rattle.run_core.specs.Touched.{last_of}
 use Rattle.run_core.specs.Progress.{IsAt, Reaches, Leads, Going, RunsOut, told, blocks_of}
 use Rattle.run_core.proofs.Dues.{last_of-append, due_from-append, before_due-append}
 use Rattle.run_core.proofs.Reaching.{told_is, one_more, reached, gives_same, unended}

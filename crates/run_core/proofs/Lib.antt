@@ -1,3 +1,4 @@
+mod Feeds
 mod Dues
 pub mod GaveParts
 mod Reaching

@@ -15,8 +15,8 @@ use Rattle.code_words.specs.Runs.{Run, Unfinished, Finished, CodeRun, exec, go_o
 use Rattle.code_words.specs.Dumps.{blocks_held}
 use Rattle.code_words.proofs.Runs.{one_end, same_ending, same_last}
 use Rattle.code_words.proofs.Worlds.{stay}
-use Rattle.run_core_transcript.specs.Asked.{Answering}
-use Rattle.run_core_transcript.specs.Touched.{last_of}
+use Rattle.run_core.specs.Asked.{Answering}
+use Rattle.run_core.specs.Touched.{last_of}
 use Rattle.run_core.specs.Gave.{Gave, AnswersOnce}
 use Rattle.run_core.proofs.Reaching.{one_more}
 use Rattle.run_core.proofs.ActsLeft.{AreQuiet, InTurn, Quietly, LedQuietly, leaving, step_leaving, MovesBy, instruction_moves, touch_moves, away_moves, touch_lacks, away_lacks}

@@ -11,13 +11,13 @@ use Rattle.code_words.specs.declared.image.Image.{Image}
 use Rattle.two_memory_machine.specs.declared.event.Event.{Event as MachineEvent}
 use Rattle.two_memory_machine.specs.declared.event.Event.TheVariants as told_by
 use Rattle.two_memory_machine.specs.Machines.{Machine, IsStart, turn_of}
-use Rattle.run_core_transcript.specs.declared.fault.RunFault.{RunFault}
-use Rattle.run_core_transcript.specs.declared.fault.RunFault.TheVariants as faults
+use Rattle.run_core.specs.declared.fault.RunFault.{RunFault}
+use Rattle.run_core.specs.declared.fault.RunFault.TheVariants as faults
 use Rattle.run_core.specs.declared.play.Play.{Play}
 use Rattle.act_recorder.specs.Endings.{ending_text}
-use Rattle.run_core_transcript.specs.Texts.{event_text, events_text, dump_text, with_last_line}
-use Rattle.run_core_transcript.specs.Asked.{Answering, HasEnded, AskAnswers}
-use Rattle.run_core_transcript.specs.Touched.{last_of}
+use Rattle.run_core.specs.Texts.{event_text, events_text, dump_text, with_last_line}
+use Rattle.run_core.specs.Asked.{Answering, HasEnded, AskAnswers}
+use Rattle.run_core.specs.Touched.{last_of}
 use Rattle.run_core.specs.Chains.{Chain}
 use Rattle.run_core.specs.Gave.{Gave}
 use Rattle.run_core.specs.Runs.{Comes, Ends, ShelfFault, CameTo}

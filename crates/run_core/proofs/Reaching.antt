@@ -14,7 +14,7 @@ use Rattle.two_memory_machine.specs.declared.event.Waiting.TheVariants as waitin
 use Rattle.two_memory_machine.specs.Machines.{Machine, Doing, Running, NeedsNumber, HasNumber, Touching, Suspended, Gives, TellsStep, Steps as MachineSteps, StepsIf, IsOfSame, state_of, waiting_of, waiting_for, waits_for_number, told_behind, next_op_of}
 use Rattle.two_memory_machine.proofs.Moving.{gives_at, number_of}
 use Rattle.two_memory_machine.specs.Running.{StepsOn}
-use Rattle.run_core_transcript.specs.Inputs.{TakesInput}
+use Rattle.run_core.specs.Inputs.{TakesInput}
 use Rattle.run_core.specs.Progress.{IsAt, Reaches, Leads, told}
 
 -- what an event tells stands behind the events

@@ -16,8 +16,8 @@ use Rattle.code_words.specs.Paced.{is_paced}
 use Rattle.code_words.specs.Runs.{Finished, CodeRun, exec, go_on, started}
 use Rattle.code_words.specs.Table.{Control, Runs, Touches, Away, State, Step, Goes, Over, step}
 use Rattle.code_words.proofs.Left.{Falls, Sooner, runs-falls, touches-sooner, away-sooner}
-use Rattle.run_core_transcript.specs.Asked.{Answering}
-use Rattle.run_core_transcript.specs.Touched.{last_of}
+use Rattle.run_core.specs.Asked.{Answering}
+use Rattle.run_core.specs.Touched.{last_of}
 use Rattle.run_core.specs.Gave.{AnswersOnce, AlwaysActs}
 use Rattle.run_core.proofs.Nearing.{lowers_by}
 use Rattle.run_core.proofs.ActsLeft.{InTurn, leaving, step_leaving, MovesBy, instruction_moves, touch_moves, away_moves}

@@ -7,7 +7,7 @@ use Rattle.act_words.specs.World.{Event}
 use Rattle.ckc_io.specs.Files.{Files}
 use Rattle.sandbox_actor.specs.Answers.{Moment, Gives}
 use Rattle.code_words.specs.declared.image.Image.{Image}
-use Rattle.run_core_transcript.specs.Asked.{Answering}
+use Rattle.run_core.specs.Asked.{Answering}
 use Rattle.run_core.specs.Moments.{IsDue}
 
 -- while the image ran, the actor gave these acts, and went from the first state to the second

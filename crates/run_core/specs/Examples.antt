@@ -8,7 +8,7 @@ use Rattle.marshalling.specs.declared.kind.WordKind.TheVariants.{Int}
 use Rattle.code_words.specs.declared.image.Image.{Image}
 use Rattle.code_words.specs.Dumps.{blocks_held}
 use Rattle.code_words.specs.Runs.{Run, Unfinished, Finished, exec, started}
-use Rattle.run_core_transcript.specs.Texts.{run_text}
+use Rattle.run_core.specs.Texts.{run_text}
 
 -- no lines are asked for
 abbrev pub plain : Settings

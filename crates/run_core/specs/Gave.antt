@@ -4,7 +4,7 @@ use Rattle.ckc_io.specs.Files.{Files}
 use Rattle.act_words.specs.Acts.{Act, Seen}
 use Rattle.act_words.specs.World.{Event, Took, Output, Released, Showed, NoAct}
 use Rattle.sandbox_actor.specs.Answers.{Moment, Answer, Gives, Lowers}
-use Rattle.run_core_transcript.specs.Asked.{Answering}
+use Rattle.run_core.specs.Asked.{Answering}
 
 -- each act that was taken in these events is the actor's answer at its moment, from the first state to the second, where this was shown
 -- last before them; and none was lacking

@@ -1,3 +1,8 @@
+pub mod Texts
+pub mod Finishes
+pub mod Asked
+pub mod Touched
+pub mod Inputs
 pub mod Moments
 pub mod Chains
 pub mod Gave

@@ -19,14 +19,14 @@ use Rattle.two_memory_machine.specs.declared.event.Waiting.TheVariants as waitin
 use Rattle.two_memory_machine.specs.Machines.{Machine, IsOfSame, state_of, world_of, turn_of, waiting_of, told_behind, TakesAct, TakesEnd, moves_left}
 use Rattle.run_core.specs.declared.play.Progressed.{Progressed}
 use Rattle.run_core.specs.declared.play.Progressed.TheVariants as progressed
-use Rattle.run_core_transcript.specs.declared.fault.RunFault.{RunFault}
-use Rattle.run_core_transcript.specs.declared.fault.RunFault.TheVariants as faults
+use Rattle.run_core.specs.declared.fault.RunFault.{RunFault}
+use Rattle.run_core.specs.declared.fault.RunFault.TheVariants as faults
 use Rattle.run_core.specs.declared.play.Play.{Play}
 use Rattle.act_recorder.specs.Endings.{ending_text}
-use Rattle.run_core_transcript.specs.Texts.{events_text, dump_text, with_last_line}
+use Rattle.run_core.specs.Texts.{events_text, dump_text, with_last_line}
 use Rattle.run_core.specs.Moments.{due_in, IsDue}
-use Rattle.run_core_transcript.specs.Asked.{Answering}
-use Rattle.run_core_transcript.specs.Touched.{last_of, touched}
+use Rattle.run_core.specs.Asked.{Answering}
+use Rattle.run_core.specs.Touched.{last_of, touched}
 use Rattle.run_core.specs.Chains.{Chain}
 use Rattle.run_core.specs.Gave.{Gave}
 use Rattle.run_core.specs.Runs.{Ends, LineRefused, FileMissing, Comes, ShelfFault, CameTo}

@@ -15,11 +15,11 @@ use Rattle.code_words.specs.declared.image.Image.{Image}
 use Rattle.code_words.specs.Table.{State}
 use Rattle.code_words.specs.Runs.{CodeRun}
 use Rattle.code_words.specs.Dumps.{blocks_held}
-use Rattle.run_core_transcript.specs.declared.fault.RunFault.{RunFault}
-use Rattle.run_core_transcript.specs.declared.fault.RunFault.TheVariants as faults
-use Rattle.run_core_transcript.specs.Texts.{run_text, front_text}
+use Rattle.run_core.specs.declared.fault.RunFault.{RunFault}
+use Rattle.run_core.specs.declared.fault.RunFault.TheVariants as faults
+use Rattle.run_core.specs.Texts.{run_text, front_text}
 use Rattle.run_core.specs.Moments.{due_in, IsDue}
-use Rattle.run_core_transcript.specs.Asked.{Answering}
+use Rattle.run_core.specs.Asked.{Answering}
 use Rattle.run_core.specs.Chains.{Chain}
 use Rattle.run_core.specs.Gave.{Gave}
 

@@ -16,7 +16,7 @@ ghost use Rattle.act_words.specs.declared.ending.Ending.TheVariants.{Exit, Check
 ghost use Rattle.act_words.specs.Acts.{Act as ActData, Looked, SeenReply};
 ghost use Rattle.act_words.specs.World.{Output, Released, Showed, NoAct};
 ghost use Rattle.act_recorder.specs.Endings.{ending_text};
-ghost use Rattle.run_core_transcript.specs.Texts.{run_text, front_text};
+ghost use Rattle.run_core.specs.Texts.{run_text, front_text};
 ghost use Rattle.run_core.specs.Gave.{Gave, AnswersOnce, AlwaysActs};
 ghost use Rattle.run_core.specs.Moments.{due_in, before_due};
 ghost use Rattle.run_core.specs.Examples.{plain, viewed, dumped, written, echo, text_by};
@@ -63,7 +63,8 @@ pub fn given_runs<A: Actor>()
         → CodeRun image settings inputs acts d t → CodeRun image settings inputs others e u
         → Gave A.answers files first None t.world.events a → Gave A.answers files first None u.world.events b
         → (d ≡ e) × (t.world.events ≡ u.world.events) × (blocks_held t ≡ blocks_held u) }
-    ensures some { (files : Option Files) (ok : A.State → Bool) (left : A.State → ℕ) (first : A.State) (image : ImageData) (settings : SettingsData) (inputs : List ℤ)
+    ensures some { (files : Option Files) (ok : A.State → Bool) (left : A.State → ℕ) (first : A.State) (image : ImageData)
+        (settings : SettingsData) (inputs : List ℤ)
         → AnswersOnce A.answers files (λ s. IsTrue (ok s)) → AlwaysActs A.answers files (λ s. IsTrue (ok s)) left → IsTrue (ok first) → IsTrue (is_paced image)
         → (acts : List ActData) × (ending : EndingData) × (t : MachineState) × (after : A.State)
         × CodeRun image settings inputs acts ending t × (t.world.acts ≡ []) × Gave A.answers files first None t.world.events after }

@@ -4,17 +4,17 @@ ghost use Rattle.std.specs.Prelude.{◌≡◌, false};
 ghost use Rattle.ckc_io.specs.Files.{Files};
 ghost use Rattle.code_words.specs.Fitting.{Fits};
 ghost use Rattle.run_core.specs.Runs.{RunWrites, RunCounts};
-ghost use Rattle.run_core_transcript.specs.Finishes.{Finishes};
+ghost use Rattle.run_core.specs.Finishes.{Finishes};
 ghost use Rattle.run_core.specs.Progress.{blocks_of};
 
+use crate::fault::RunFault;
+use crate::finish::{write_end, write_front};
 use crate::play::Play;
 use act_words::ending::Ending;
 use act_words::settings::Settings;
 use ckc_io::shelf::Shelf;
 use ckc_io::sink::Sink;
 use code_words::image::Image;
-use run_core_transcript::fault::RunFault;
-use run_core_transcript::finish::{write_end, write_front};
 use sandbox_actor::actor::Actor;
 use std::alloc::Global;
 

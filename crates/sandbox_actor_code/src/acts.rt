@@ -36,7 +36,8 @@ impl<'a> CodeActor<'a> {
     fn look_at(&mut self, at: u32, len: ByteCount) -> Option<Act>
         requires ready { IsReady self.old }
         requires there { 1 ≤ length self.old.call.frame.stack }
-        ensures { Leads (Acts (Read at len.number) (record (looking self.old) { doing = Looks (behind self.old.call.frame (drop 1 self.old.call.frame.stack)) }))
+        ensures { Leads (Acts (Read at len.number) (record (looking self.old)
+            { doing = Looks (behind self.old.call.frame (drop 1 self.old.call.frame.stack)) }))
             self.old result self.new }
     {
         self.call.pop(1);
@@ -72,7 +73,8 @@ impl<'a> CodeActor<'a> {
     fn change(&mut self, at: u32, bytes: SomeOctets) -> Option<Act>
         requires ready { IsReady self.old }
         requires there { 2 ≤ length self.old.call.frame.stack }
-        ensures { Leads (Acts (Write at bytes.octets) (record (running self.old) { doing = Runs (behind self.old.call.frame (drop 2 self.old.call.frame.stack)) }))
+        ensures { Leads (Acts (Write at bytes.octets) (record (running self.old)
+            { doing = Runs (behind self.old.call.frame (drop 2 self.old.call.frame.stack)) }))
             self.old result self.new }
     {
         self.call.pop(2);

@@ -132,7 +132,8 @@ impl<'a> CodeActor<'a> {
         requires ready { IsReady self.old }
         requires there { popped ≤ length self.old.call.frame.stack }
         ensures { (f : FuncData) → IsIn self.old f
-            → Leads (act self.old.image self.old.budget f (Op.Jump target) (record self.old.call.frame { stack = drop popped self.old.call.frame.stack }) (running self.old))
+            → Leads (act self.old.image self.old.budget f (Op.Jump target)
+            (record self.old.call.frame { stack = drop popped self.old.call.frame.stack }) (running self.old))
             self.old result self.new }
     {
         if !self.call.jump(target) {

@@ -10,15 +10,6 @@ pub struct Fact {
     pub plus: i128,
 }
 
-impl Fact {
-    /// The node at which the fact's edge starts: its right.
-    pub fn start(&self) -> Option<u32>
-        ensures { result ≡ self.now.right }
-    {
-        self.right
-    }
-}
-
 /// Facts that show a goal.
 #[derive(Drop)]
 pub struct Path {

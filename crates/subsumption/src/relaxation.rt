@@ -62,13 +62,6 @@ fn relax(
     true
 }
 
-/// Whether a distance fell: now, or before in the same round.
-fn either(a: bool, b: bool) -> bool
-    ensures { result ≡ a || b }
-{
-    a || b
-}
-
 /// Relaxes all facts, by the distances of the round before. Whether a distance fell.
 fn relax_all(
     facts: &[Fact],
@@ -84,7 +77,7 @@ fn relax_all(
 {
     let mut fell = false;
     for fact in facts {
-        fell = either(relax(before, fact, distances, last), fell);
+        fell = relax(before, fact, distances, last) | fell;
     }
     fell
 }

@@ -102,7 +102,7 @@ pub fn answer(alloc: Global, vars: u32, facts: &[Fact], goal: &Fact) -> Result<A
     ensures table { IfOk result (λ answer. (t : ClosedTable) → Shows vars facts.now t → is_yes answer ≡ entails_fact goal.now t) }
 {
     let n = vars as usize + 1;
-    match find_distances(alloc, facts, n, goal.start())? {
+    match find_distances(alloc, facts, n, goal.right)? {
         Outcome::Contradictory(facts) => Ok(Answer::Yes(Path { facts })),
         Outcome::Settled(found) => {
             let answer = decide(alloc, facts, n, &found, goal)?;

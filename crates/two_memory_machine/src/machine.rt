@@ -5,8 +5,9 @@ ghost use Rattle.act_words.specs.Acts.{act_view};
 ghost use Rattle.trusted_memory.specs.Memories.{byte_of};
 ghost use Rattle.code_words.specs.Fitting.{Fits};
 ghost use Rattle.two_memory_machine_states.specs.Machines.{IsStart, waiting_of, turn_of, HasNumber, Steps, TakesAct, TakesEnd, Sooner, TellsSomething, ending_given, moves_left, block_of};
-ghost use Rattle.two_memory_machine_steps.specs.Running.{StepsOn};
+ghost use Rattle.two_memory_machine.specs.Running.{StepsOn};
 
+use crate::{acts, running};
 use act_words::act::{Act, Turn};
 use act_words::settings::Settings;
 use ckc_text::fault::NoMemory;
@@ -15,7 +16,6 @@ use std::alloc::Global;
 use std::marker::Model;
 use two_memory_machine_states::event::{Event, Waiting};
 use two_memory_machine_states::running_image::RunningImage;
-use two_memory_machine_steps::{acts, running};
 
 /// A machine: an image that runs over a trusted memory and a sandbox's.
 #[derive(Drop)]

@@ -19,7 +19,8 @@ impl<'a> RunningImage<'a> {
     pub fn call_back(&mut self, k: u32, words: &Words) -> Event
         requires going { self.old.over ≡ None }
         requires suspended { IsSuspended self.old.doing }
-        ensures { MovesBy (λ s. call_back self.old.image self.old.settings k (slice_get self.old.image.layout.callbacks k) words.now s) self.old result self.new }
+        ensures { MovesBy (λ s. call_back self.old.image self.old.settings k (slice_get self.old.image.layout.callbacks k) words.now s)
+            self.old result self.new }
     {
         let Some(callback) = self.image.callbacks().get(k as usize) else {
             return self.stop_by_act(Code::S5);

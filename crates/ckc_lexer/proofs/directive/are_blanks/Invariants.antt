@@ -1,6 +1,6 @@
 use Rattle.std.proofs.Common.{◌≡◌, drop}
 use Rattle.std.specs.List.{list_all}
-use Rattle.ckc_lexer_tokens.specs.Bytes.{is_blank}
+use Rattle.ckc_lexer.specs.Bytes.{is_blank}
 use Rattle.ckc_lexer.proofs.directive.are_blanks.Given as goal
 
 -- the bytes that are left decide it

@@ -1,6 +1,6 @@
 use Rattle.std.proofs.Common.{◌≡◌, ◌+◌, drop}
 use Rattle.std.specs.List.{prefix_len}
-use Rattle.ckc_lexer_tokens.specs.Bytes.{is_blank}
+use Rattle.ckc_lexer.specs.Bytes.{is_blank}
 use Rattle.ckc_lexer.proofs.directive.blanks_len.Given as goal
 
 -- the bytes so far and those that are left to count are all

@@ -1,9 +1,9 @@
 use Rattle.std.proofs.Common.{true, false, codes, refl, arith}
 use Rattle.ckc_text.specs.declared.code.Code.TheVariants.{E02, E03, E04}
-use Rattle.ckc_lexer_tokens.specs.declared.piece.ScopeWord.TheVariants as word
-use Rattle.ckc_lexer_tokens.specs.declared.piece.Piece.TheVariants.{Gap, Lexeme, Named, Define, Scope, CommentFault, Fault}
-use Rattle.ckc_lexer_tokens.specs.declared.keyword.Keyword.TheVariants as keyword
-use Rattle.ckc_lexer_tokens.specs.declared.token.TokenKind.TheVariants as kind
+use Rattle.ckc_lexer.specs.declared.piece.ScopeWord.TheVariants as word
+use Rattle.ckc_lexer.specs.declared.piece.Piece.TheVariants.{Gap, Lexeme, Named, Define, Scope, CommentFault, Fault}
+use Rattle.ckc_lexer.specs.declared.keyword.Keyword.TheVariants as keyword
+use Rattle.ckc_lexer.specs.declared.token.TokenKind.TheVariants as kind
 use Rattle.ckc_lexer.specs.Directives.{part, named_directive, definition_of, signed_definition, numbered_definition, pragma_of, scope_of}
 use Rattle.ckc_lexer.specs.Runs.{ends, goes}
 use Rattle.ckc_lexer.specs.Tokens as tokens

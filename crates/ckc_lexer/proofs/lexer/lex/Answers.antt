@@ -4,7 +4,7 @@ use Rattle.ckc_text.specs.declared.fault.SourceFault.{SourceFault}
 use Rattle.ckc_text.specs.declared.fault.Refused.{Refused}
 use Rattle.ckc_text.specs.declared.fault.Refused.TheVariants.{Source, NoMemory}
 use Rattle.ckc_lexer.specs.declared.lexer.Lexer.{Lexer}
-use Rattle.ckc_lexer_tokens.specs.declared.token.Token.{Token}
+use Rattle.ckc_lexer.specs.declared.token.Token.{Token}
 use Rattle.ckc_lexer.specs.Tokens.{Cut, ends, stops, goes, great, cut, initial, LexAnswers}
 use Rattle.ckc_lexer.specs.Progress.{state_of, Steps}
 use Rattle.ckc_lexer.proofs.lexer.lex.Goals as goal
@@ -14,10 +14,8 @@ failed : (src : List ℕ) (old new : Lexer) (e : Refused) → length src ≤ 104
 failed src old new (Source fault) small completed step = cut small (completed (Err fault) (stops step))
 failed src old new NoMemory small completed step = tt
 
-pub returns-then-not-is_read : goal.returns-then-not-is_read
-returns-then-not-is_read c =
-    let h : 1048576 < length c.args.src.now = grind (arith, nat_tests, c.if-not-is_read.ensures) in
-    rw c.fault_at.ensures (great h)
+pub returns-then-src-gt-MAX_SOURCE : goal.returns-then-src-gt-MAX_SOURCE
+returns-then-src-gt-MAX_SOURCE c = rw c.fault_at.ensures (great {src = c.args.src.now} (omega (arith, c.if-src-gt-MAX_SOURCE.true)))
 
 pub loop-lexer-preserved : goal.loop-lexer-preserved
 loop-lexer-preserved c =

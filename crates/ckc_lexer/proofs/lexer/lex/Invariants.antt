@@ -1,6 +1,6 @@
 use Rattle.std.proofs.Common.{◌-◌, ◌≤◌, length, List, Result}
 use Rattle.ckc_text.specs.declared.fault.SourceFault.{SourceFault}
-use Rattle.ckc_lexer_tokens.specs.declared.token.Token.{Token}
+use Rattle.ckc_lexer.specs.declared.token.Token.{Token}
 use Rattle.ckc_lexer.specs.Tokens.{Cut, initial}
 use Rattle.ckc_lexer.specs.Progress.{state_of}
 use Rattle.ckc_lexer.proofs.lexer.lex.Given as goal

@@ -1,6 +1,6 @@
 use Rattle.std.proofs.Common.{◌≡◌, drop}
 use Rattle.std.specs.List.{list_any}
-use Rattle.ckc_lexer_tokens.specs.Bytes.{is_line_feed}
+use Rattle.ckc_lexer.specs.Bytes.{is_line_feed}
 use Rattle.ckc_lexer.proofs.pieces.has_line_feed.Given as goal
 
 -- the bytes that are left decide it

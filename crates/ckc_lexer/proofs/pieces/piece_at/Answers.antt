@@ -2,7 +2,7 @@ use Rattle.std.proofs.Common.{◌≡◌, ◌∙◌, ℕ, Bool, List, sym, subst,
 use Rattle.std.proofs.lemmas.List.{take_rest}
 use Rattle.ckc_lexer.specs.Pieces.{front_of, StandsAs, Stands}
 use Rattle.ckc_lexer.specs.declared.front.Front.{Front}
-use Rattle.ckc_lexer_tokens.specs.declared.piece.Piece.{Piece}
+use Rattle.ckc_lexer.specs.declared.piece.Piece.{Piece}
 use Rattle.ckc_lexer.proofs.pieces.piece_at.Goals as goal
 
 -- what stands as its front says stands there

@@ -1,6 +1,6 @@
 use Rattle.std.proofs.Common.{◌≡◌, drop}
 use Rattle.std.specs.List.{list_any}
-use Rattle.ckc_lexer_tokens.specs.Bytes.{is_control}
+use Rattle.ckc_lexer.specs.Bytes.{is_control}
 use Rattle.ckc_lexer.proofs.quoted.has_control.Given as goal
 
 -- the bytes that are left decide it

@@ -1,6 +1,6 @@
 use Rattle.std.proofs.Common.{◌≡◌, map, drop}
 use Rattle.ckc_lexer.specs.Keywords.{spelled}
-use Rattle.ckc_lexer_tokens.specs.Words.{listed}
+use Rattle.ckc_lexer.specs.Words.{listed}
 use Rattle.ckc_lexer.proofs.word.listed.Given as goal
 
 -- the word is none of the keywords before this one

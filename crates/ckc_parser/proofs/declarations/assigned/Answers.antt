@@ -1,8 +1,8 @@
 use Rattle.ckc_parser.specs.StatementReadings as readings
-use Rattle.ckc_parser_cursor.proofs.Readings.{low_around}
+use Rattle.ckc_parser_grammar.proofs.Readings.{low_around}
 use Rattle.ckc_parser.proofs.Ahead.{no_assign_word}
 use Rattle.ckc_parser_grammar.proofs.Paths.{low_beside}
-use Rattle.ckc_parser_cursor.proofs.Readings.{err}
+use Rattle.ckc_parser_grammar.proofs.Readings.{err}
 use Rattle.ckc_parser.proofs.declarations.assigned.Goals as goal
 
 pub returns-in-Ok : goal.returns-in-Ok

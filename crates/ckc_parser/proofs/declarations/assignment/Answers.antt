@@ -1,11 +1,11 @@
 use Rattle.std.proofs.Common.{◌≡◌, ◌<◌, true, arith, sym}
 use Rattle.ckc_parser_grammar.specs.Tokens.{next_is}
 use Rattle.ckc_parser_grammar.specs.StuckStatements.{assignment_word}
-use Rattle.ckc_parser_cursor.proofs.Readings.{next, next_none, low_around}
+use Rattle.ckc_parser_grammar.proofs.Readings.{next, next_none, low_around}
 use Rattle.ckc_parser.proofs.Assignments.{no_step_word, assignment_reads}
 use Rattle.ckc_parser_grammar.specs.StatementGrammar as g
 use Rattle.ckc_parser_grammar.specs.StuckStatements as stuck
-use Rattle.ckc_parser_cursor.proofs.Readings.{err}
+use Rattle.ckc_parser_grammar.proofs.Readings.{err}
 use Rattle.ckc_parser.proofs.declarations.assignment.Goals as goal
 
 pub returns-in_default : goal.returns-in_default

@@ -5,7 +5,7 @@ use Rattle.ckc_parser_grammar.proofs.Paths.{shorter}
 use Rattle.ckc_parser_grammar.proofs.StatementPaths.{signed_path}
 use Rattle.ckc_parser_grammar.specs.StatementGrammar as g
 use Rattle.ckc_parser_grammar.specs.StuckStatements as stuck
-use Rattle.ckc_parser_cursor.proofs.Readings.{err}
+use Rattle.ckc_parser_grammar.proofs.Readings.{err}
 use Rattle.ckc_parser.proofs.declarations.constants.Goals as goal
 
 pub returns-in_err-item : goal.returns-in_err-item

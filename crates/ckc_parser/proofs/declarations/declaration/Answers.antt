@@ -1,10 +1,10 @@
 use Rattle.std.proofs.Common.{arith}
-use Rattle.ckc_parser_cursor.proofs.Readings.{low_around}
+use Rattle.ckc_parser_grammar.proofs.Readings.{low_around}
 use Rattle.ckc_parser.proofs.Assignments.{deep_declaration}
 use Rattle.ckc_parser_grammar.proofs.Paths.{low_beside}
 use Rattle.ckc_parser_grammar.specs.StatementGrammar as g
 use Rattle.ckc_parser_grammar.specs.StuckStatements as stuck
-use Rattle.ckc_parser_cursor.proofs.Readings.{err}
+use Rattle.ckc_parser_grammar.proofs.Readings.{err}
 use Rattle.ckc_parser.proofs.declarations.declaration.Goals as goal
 
 pub returns-in_err-check : goal.returns-in_err-check

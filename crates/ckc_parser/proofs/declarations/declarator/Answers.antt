@@ -1,7 +1,7 @@
 use Rattle.ckc_parser_grammar.proofs.Paths.{low_beside}
 use Rattle.ckc_parser_grammar.specs.StuckStatements as stuck
 use Rattle.ckc_parser_grammar.specs.StuckStatements.{StuckDeclarator}
-use Rattle.ckc_parser_cursor.proofs.Readings.{err, name_fails}
+use Rattle.ckc_parser_grammar.proofs.Readings.{err, name_fails}
 use Rattle.ckc_parser.proofs.NamedForms.{declarator_named}
 use Rattle.ckc_parser.proofs.declarations.declarator.Goals as goal
 

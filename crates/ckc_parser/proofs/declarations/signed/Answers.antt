@@ -1,7 +1,7 @@
 use Rattle.ckc_parser.proofs.Ahead.{no_minus_or_constant}
 use Rattle.ckc_parser_grammar.specs.StatementGrammar as g
 use Rattle.ckc_parser_grammar.specs.StuckStatements as stuck
-use Rattle.ckc_parser_cursor.proofs.Readings.{err}
+use Rattle.ckc_parser_grammar.proofs.Readings.{err}
 use Rattle.ckc_parser.proofs.declarations.signed.Goals as goal
 
 pub returns-in_err-constant : goal.returns-in_err-constant

@@ -1,5 +1,5 @@
 use Rattle.ckc_parser.proofs.FileLevel.{stuck_result, stuck_callee}
-use Rattle.ckc_parser_cursor.proofs.Readings.{err}
+use Rattle.ckc_parser_grammar.proofs.Readings.{err}
 use Rattle.ckc_parser.proofs.items.alone.Goals as goal
 
 pub returns-in_err-returned : goal.returns-in_err-returned

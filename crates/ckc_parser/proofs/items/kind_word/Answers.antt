@@ -1,7 +1,7 @@
 use Rattle.std.proofs.Common.{ap, ◌∙◌}
-use Rattle.ckc_lexer_tokens.specs.declared.token.TokenKind.TheVariants as kinds
+use Rattle.ckc_lexer.specs.declared.token.TokenKind.TheVariants as kinds
 use Rattle.ckc_parser_grammar.specs.ItemGrammar as g
-use Rattle.ckc_parser_cursor.proofs.Readings.{begins}
+use Rattle.ckc_parser_grammar.proofs.Readings.{begins}
 use Rattle.ckc_parser.proofs.items.kind_word.Goals as goal
 
 pub returns-in-Keyword-Tainted : goal.returns-in-Keyword-Tainted

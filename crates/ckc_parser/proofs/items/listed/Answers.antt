@@ -4,7 +4,7 @@ use Rattle.ckc_parser.proofs.FileLevel.{low_parameter, member_shorter, no_comma_
 use Rattle.ckc_parser_grammar.proofs.Lists.{goes_on, ends}
 use Rattle.ckc_parser_grammar.specs.ItemGrammar as g
 use Rattle.ckc_parser_grammar.specs.StuckItems as stuck
-use Rattle.ckc_parser_cursor.proofs.Readings.{err}
+use Rattle.ckc_parser_grammar.proofs.Readings.{err}
 use Rattle.ckc_parser.proofs.items.listed.Goals as goal
 
 pub returns-in_err-item : goal.returns-in_err-item

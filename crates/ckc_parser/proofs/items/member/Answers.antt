@@ -1,6 +1,6 @@
 use Rattle.ckc_parser_grammar.specs.StuckItems as stuck
 use Rattle.ckc_parser_grammar.specs.StuckItems.{StuckMember}
-use Rattle.ckc_parser_cursor.proofs.Readings.{err, name_fails}
+use Rattle.ckc_parser_grammar.proofs.Readings.{err, name_fails}
 use Rattle.ckc_parser.proofs.NamedForms.{member_named}
 use Rattle.ckc_parser.proofs.items.member.Goals as goal
 

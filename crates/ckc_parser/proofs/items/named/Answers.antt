@@ -1,5 +1,5 @@
 use Rattle.ckc_parser.specs.ItemReadings as readings
-use Rattle.ckc_parser_cursor.proofs.Readings.{err}
+use Rattle.ckc_parser_grammar.proofs.Readings.{err}
 use Rattle.ckc_parser.proofs.items.named.Goals as goal
 
 pub returns-in_err-name : goal.returns-in_err-name

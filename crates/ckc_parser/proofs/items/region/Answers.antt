@@ -1,5 +1,5 @@
 use Rattle.ckc_parser_grammar.specs.ItemGrammar as g
-use Rattle.ckc_parser_cursor.proofs.Readings.{begins}
+use Rattle.ckc_parser_grammar.proofs.Readings.{begins}
 use Rattle.ckc_parser.proofs.items.region.Goals as goal
 
 pub returns-in-Scope : goal.returns-in-Scope

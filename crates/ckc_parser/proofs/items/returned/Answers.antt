@@ -1,7 +1,7 @@
 use Rattle.std.proofs.Common.{arith}
 use Rattle.ckc_parser.specs.ItemReadings as readings
 use Rattle.ckc_parser_grammar.specs.ItemGrammar as g
-use Rattle.ckc_parser_cursor.proofs.Readings.{err}
+use Rattle.ckc_parser_grammar.proofs.Readings.{err}
 use Rattle.ckc_parser.proofs.items.returned.Goals as goal
 
 pub returns-in-Ok : goal.returns-in-Ok

@@ -3,7 +3,7 @@ use Rattle.ckc_parser.specs.ItemReadings as readings
 use Rattle.ckc_parser.proofs.FileLevel.{stuck_result, stuck_callee, no_function, void_result}
 use Rattle.ckc_parser_grammar.specs.ItemGrammar as g
 use Rattle.ckc_parser_grammar.specs.StuckItems as stuck
-use Rattle.ckc_parser_cursor.proofs.Readings.{err}
+use Rattle.ckc_parser_grammar.proofs.Readings.{err}
 use Rattle.ckc_parser.proofs.items.unmarked.Goals as goal
 
 pub returns-in_err-named : goal.returns-in_err-named

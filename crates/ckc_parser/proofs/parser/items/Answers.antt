@@ -5,7 +5,7 @@ use Rattle.ckc_parser.proofs.FileLevel.{stuck_first, item_shorter, none_left}
 use Rattle.ckc_parser_grammar.proofs.Lists.{goes_on}
 use Rattle.ckc_parser_grammar.specs.ItemGrammar as g
 use Rattle.ckc_parser_grammar.specs.StuckItems as stuck
-use Rattle.ckc_parser_cursor.proofs.Readings.{err}
+use Rattle.ckc_parser_grammar.proofs.Readings.{err}
 use Rattle.ckc_parser.proofs.parser.items.Goals as goal
 
 pub returns : goal.returns

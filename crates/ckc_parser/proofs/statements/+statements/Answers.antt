@@ -1,9 +1,9 @@
 use Rattle.std.proofs.Common.{◌≡◌, [], ◌∷◌, ◌++◌, length, true, sym, ap, ◌∙◌, arith}
 use Rattle.ckc_tree.specs.Statements.{statement}
-use Rattle.ckc_lexer_tokens.specs.declared.token.TokenKind.TheVariants as kinds
+use Rattle.ckc_lexer.specs.declared.token.TokenKind.TheVariants as kinds
 use Rattle.ckc_parser_grammar.specs.Tokens.{next_is}
 use Rattle.ckc_parser_grammar.specs.StuckStatements.{plain_word, statement_word}
-use Rattle.ckc_parser_cursor.proofs.Readings.{begins, next, next_none, low_around}
+use Rattle.ckc_parser_grammar.proofs.Readings.{begins, next, next_none, low_around}
 use Rattle.ckc_parser_grammar.proofs.Lists.{goes_on, ended}
 use Rattle.ckc_parser_grammar.proofs.Paths.{low_beside, shorter}
 use Rattle.ckc_parser_grammar.proofs.StatementPaths.{statement_path}
@@ -11,7 +11,7 @@ use Rattle.ckc_parser.proofs.Blocks as blocks
 use Rattle.ckc_parser.proofs.Blocks.{no_other_word, condition_shorter, head_shorter, statement_shorter}
 use Rattle.ckc_parser_grammar.specs.StatementGrammar as g
 use Rattle.ckc_parser_grammar.specs.StuckStatements as stuck
-use Rattle.ckc_parser_cursor.proofs.Readings.{err}
+use Rattle.ckc_parser_grammar.proofs.Readings.{err}
 use Rattle.ckc_parser.proofs.statements.+statements.Goals as goal
 
 pub statement-returns-in_default : goal.statement-returns-in_default

@@ -1,7 +1,7 @@
-use Rattle.ckc_parser_cursor.proofs.Readings.{low_around}
+use Rattle.ckc_parser_grammar.proofs.Readings.{low_around}
 use Rattle.ckc_parser_grammar.specs.StatementGrammar as g
 use Rattle.ckc_parser_grammar.specs.StuckStatements as stuck
-use Rattle.ckc_parser_cursor.proofs.Readings.{err}
+use Rattle.ckc_parser_grammar.proofs.Readings.{err}
 use Rattle.ckc_parser.proofs.statements.bundle.Goals as goal
 
 pub returns-in_err-open_brace : goal.returns-in_err-open_brace

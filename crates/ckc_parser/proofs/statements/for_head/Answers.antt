@@ -1,6 +1,6 @@
 use Rattle.ckc_parser.proofs.Blocks.{end_of}
 use Rattle.ckc_parser_grammar.specs.StuckStatements as stuck
-use Rattle.ckc_parser_cursor.proofs.Readings.{err}
+use Rattle.ckc_parser_grammar.proofs.Readings.{err}
 use Rattle.ckc_parser.proofs.statements.for_head.Goals as goal
 
 pub returns-in_err-open_paren : goal.returns-in_err-open_paren

@@ -1,6 +1,6 @@
 use Rattle.ckc_parser.proofs.Blocks.{stuck_jump, is_jump}
 use Rattle.ckc_parser_grammar.specs.StuckStatements as stuck
-use Rattle.ckc_parser_cursor.proofs.Readings.{err}
+use Rattle.ckc_parser_grammar.proofs.Readings.{err}
 use Rattle.ckc_parser.proofs.statements.jump.Goals as goal
 
 pub returns-in_err-end : goal.returns-in_err-end

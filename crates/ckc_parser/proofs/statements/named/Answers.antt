@@ -1,10 +1,10 @@
-use Rattle.ckc_parser_cursor.proofs.Readings.{low_around}
+use Rattle.ckc_parser_grammar.proofs.Readings.{low_around}
 use Rattle.ckc_parser.proofs.Assignments.{is_assignment}
 use Rattle.ckc_parser_grammar.proofs.Ahead.{call_of}
 use Rattle.ckc_parser.proofs.Blocks.{stuck_named}
 use Rattle.ckc_parser_grammar.specs.StatementGrammar as g
 use Rattle.ckc_parser_grammar.specs.StuckStatements as stuck
-use Rattle.ckc_parser_cursor.proofs.Readings.{err}
+use Rattle.ckc_parser_grammar.proofs.Readings.{err}
 use Rattle.ckc_parser.proofs.statements.named.Goals as goal
 
 pub returns-in_err-target : goal.returns-in_err-target

@@ -1,7 +1,7 @@
-use Rattle.ckc_parser_cursor.proofs.Readings.{low_around}
+use Rattle.ckc_parser_grammar.proofs.Readings.{low_around}
 use Rattle.ckc_parser.proofs.Blocks.{is_return}
 use Rattle.ckc_parser_grammar.specs.StuckStatements as stuck
-use Rattle.ckc_parser_cursor.proofs.Readings.{err}
+use Rattle.ckc_parser_grammar.proofs.Readings.{err}
 use Rattle.ckc_parser.proofs.statements.return_statement.Goals as goal
 
 pub returns-in_err-read : goal.returns-in_err-read

@@ -1,6 +1,6 @@
 use Rattle.ckc_parser_grammar.specs.StatementGrammar as g
 use Rattle.ckc_parser_grammar.specs.StuckStatements as stuck
-use Rattle.ckc_parser_cursor.proofs.Readings.{err}
+use Rattle.ckc_parser_grammar.proofs.Readings.{err}
 use Rattle.ckc_parser.proofs.statements.stored.Goals as goal
 
 pub returns-in_err-assignment : goal.returns-in_err-assignment

@@ -1,7 +1,7 @@
 use Rattle.std.proofs.Common.{[], ◌≡◌, ℕ, suc, false, List, ◌∷◌, None, refl, arith}
 use Rattle.ckc_text.specs.declared.place.Span.{Span}
-use Rattle.ckc_lexer_tokens.specs.declared.token.Token.{Token}
-use Rattle.ckc_lexer_tokens.specs.declared.token.TokenKind.TheVariants as kinds
+use Rattle.ckc_lexer.specs.declared.token.Token.{Token}
+use Rattle.ckc_lexer.specs.declared.token.TokenKind.TheVariants as kinds
 use Rattle.ckc_tree.specs.Expressions.{Expression, Name}
 use Rattle.ckc_parser_grammar.specs.Tokens.{token, identifier, operator_at, next_is, open_paren, selector}
 use Rattle.ckc_parser_grammar.specs.TypeGrammar.{int, pointer, none, type_name}

@@ -1,5 +1,5 @@
 use Rattle.std.proofs.Common.{List, ap}
-use Rattle.ckc_tree_texts.specs.Texts.{Text}
+use Rattle.ckc_tree.specs.Texts.{Text}
 use Rattle.region_typing.specs.Items.{walk}
 use Rattle.region_typing.proofs.functions.add_texts.Goals as goal
 

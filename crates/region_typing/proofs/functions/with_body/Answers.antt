@@ -1,7 +1,7 @@
 use Rattle.std.proofs.Common.{◌≡◌, Some, map, ap, sym, ◌∙◌, subst}
 use Rattle.ckc_text.specs.Places.{place_at}
 use Rattle.ckc_tree.specs.Items as trees
-use Rattle.ckc_tree_texts.specs.Texts.{body_texts}
+use Rattle.ckc_tree.specs.Texts.{body_texts}
 use Rattle.ckc_core.specs.Core.{function}
 use Rattle.region_typing_rules.specs.Scopes.{Scope}
 use Rattle.region_typing_rules.specs.Items.{Walk, body_scope}

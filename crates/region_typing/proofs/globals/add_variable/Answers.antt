@@ -1,6 +1,6 @@
 use Rattle.std.proofs.Common.{List, ap, ◌∙◌}
 use Rattle.ckc_tree.specs.Statements.{declarator}
-use Rattle.ckc_tree_texts.specs.Texts.{Text, initializer_texts}
+use Rattle.ckc_tree.specs.Texts.{Text, initializer_texts}
 use Rattle.region_typing_rules.specs.Scopes.{Scope}
 use Rattle.region_typing_rules.specs.Items.{with_texts}
 use Rattle.region_typing_scope.specs.Views.{scope}

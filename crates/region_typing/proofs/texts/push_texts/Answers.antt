@@ -1,5 +1,5 @@
 use Rattle.std.proofs.Common.{◌++◌, map, refl, arith}
-use Rattle.ckc_tree_texts.specs.Texts.{text}
+use Rattle.ckc_tree.specs.Texts.{text}
 use Rattle.ckc_core.specs.Core.{object}
 use Rattle.region_typing_rules.specs.Strings.{text_object}
 use Rattle.region_typing.proofs.Lists.{made_more, made_all}

@@ -1,6 +1,6 @@
 use Rattle.std.proofs.Common.{refl}
 use Rattle.std.proofs.lemmas.Result.{err_from_is_err_and}
-use Rattle.run_core_transcript.specs.Finishes.{Finish}
+use Rattle.run_core.specs.Finishes.{Finish}
 use Rattle.run_core.specs.Progress.{blocks_of}
 use Rattle.run_core.proofs.run.finish.Goals as goal
 

@@ -1,6 +1,6 @@
 use Rattle.std.proofs.Common.{[], refl, ◌∙◌, subst}
 use Rattle.std.proofs.lemmas.Result.{err_from_is_err_and}
-use Rattle.run_core_transcript.specs.Finishes.{Finishes}
+use Rattle.run_core.specs.Finishes.{Finishes}
 use Rattle.run_core.specs.Chains.{Chain}
 use Rattle.run_core.specs.Runs.{CameTo}
 use Rattle.run_core.specs.Progress.{blocks_of}

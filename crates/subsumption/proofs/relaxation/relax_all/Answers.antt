@@ -5,4 +5,4 @@ pub loop-fact-init : goal.loop-fact-init
 loop-fact-init c = rw c.requires.same (round_start _ _ _)
 
 pub loop-fact-preserved : goal.loop-fact-preserved
-loop-fact-preserved c = rw c.either-fell.ensures (round_take _ _ _ _ _ _ _ _ _ _ _ c.loop-fact-test.true c.requires.edges c.requires.last_size c.loop-fact.invariant c.relax.ensures)
+loop-fact-preserved c = round_take _ _ _ _ _ _ _ _ _ _ _ c.loop-fact-test.true c.requires.edges c.requires.last_size c.loop-fact.invariant c.relax-fell.ensures

@@ -1,5 +1,5 @@
 use Rattle.std.proofs.Common.{◌≡◌, ◌+◌, ◌≤◌, map, drop}
-use Rattle.ckc_tree_texts.specs.Texts.{text}
+use Rattle.ckc_tree.specs.Texts.{text}
 use Rattle.region_typing_rules.specs.Strings.{texts_size}
 use Rattle.region_typing_scope.proofs.strings.Strings.fit_behind.Given as goal
 

@@ -4,7 +4,7 @@ use Rattle.std.proofs.lemmas.Int.{to_z-of_z}
 use mir.Syntax.{w32}
 use Rattle.two_memory_machine.specs.Machines.{Machine, HasNumber}
 use Rattle.run_core.specs.declared.play.Play.{Play}
-use Rattle.run_core_transcript.specs.Inputs.{TakesInput}
+use Rattle.run_core.specs.Inputs.{TakesInput}
 use Rattle.run_core.specs.Progress.{Tells}
 use Rattle.run_core.proofs.Reaching.{given_leads}
 use Rattle.run_core.proofs.play.Play.give.Goals as goal

@@ -2,7 +2,7 @@ use Rattle.std.proofs.Common.{Ok, subst}
 use Rattle.std.proofs.lemmas.Result.{err_from_is_err_and}
 use Rattle.act_words.specs.Acts.{act_view}
 use Rattle.two_memory_machine.specs.Machines.{turn_of}
-use Rattle.run_core_transcript.specs.Asked.{AskAnswers, AskLowers}
+use Rattle.run_core.specs.Asked.{AskAnswers, AskLowers}
 use Rattle.run_core.specs.Progress.{moment_in}
 use Rattle.run_core.proofs.Playing.{played_take, played_none, played_stops, act_short, none_short}
 use Rattle.run_core.proofs.Nearing.{act_nears, none_nears}

@@ -1,8 +1,0 @@
-use Rattle.std.proofs.Common.{◌≡◌, drop}
-use Rattle.std.specs.List.{list_all}
-use Rattle.ckc_lexer_tokens.specs.Bytes.{is_hexadecimal_digit}
-use Rattle.ckc_lexer_tokens.proofs.number.are_hexadecimal_digits.Given as goal
-
--- the bytes that are left decide it
-abbrev pub invariant-loop-b : goal.invariant-loop-b
-invariant-loop-b l = list_all is_hexadecimal_digit (drop l.b-index l.bytes) ≡ list_all is_hexadecimal_digit l.bytes

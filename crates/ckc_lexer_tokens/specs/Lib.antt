@@ -1,4 +1,0 @@
-pub mod Bytes
-pub mod Words
-pub mod Marks
-pub mod Rules

@@ -1,4 +1,0 @@
-pub mod Answers
-pub mod Terminals
-pub mod Depths
-pub mod Faults

@@ -1,5 +1,0 @@
-mod Pops
-mod Tries
-pub mod Stepped
-mod Turns
-pub mod MadeTogether

@@ -1,4 +1,0 @@
-use Rattle.two_memory_machine_steps.proofs.stack.check.Goals as goal
-
-pub returns : goal.returns
-returns c = λ acts inputs events. rw c.if-not-holds.false (c.go_on.ensures acts inputs events)

@@ -1,4 +1,0 @@
-pub mod Families
-pub mod Running
-pub mod Told
-pub mod Together
