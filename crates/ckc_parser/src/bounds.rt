@@ -134,7 +134,10 @@ fn counted(is_count: bool, start: Span, count: Ended) -> ReadBounds
 #[cycle(expressions)]
 fn ends(depth: Depth, start: Span, tokens: &mut &[Token]) -> Result<ReadBounds, Stuck>
     requires { depth ≤ 200 }
-    ensures reads { (p : Place) → Reads (λ x rest. IsBounds depth (token (kinds.Name (codes "bounds")) start ∷ token kinds.OpenParen p ∷ tokens.old.now) (bounds_of x.text) x.span rest) (StuckBounds depth (token (kinds.Name (codes "bounds")) start ∷ token kinds.OpenParen p ∷ tokens.old.now)) result tokens.new.now }
+    ensures reads { (p : Place) → Reads
+        (λ x rest. IsBounds depth (token (kinds.Name (codes "bounds")) start ∷ token kinds.OpenParen p ∷ tokens.old.now)
+        (bounds_of x.text) x.span rest)
+        (StuckBounds depth (token (kinds.Name (codes "bounds")) start ∷ token kinds.OpenParen p ∷ tokens.old.now)) result tokens.new.now }
     ensures shorter { TakesTokens tokens.old.now result tokens.new.now }
 {
     if let Some((end, rest)) = unknown(tokens) {
@@ -189,7 +192,10 @@ fn goes_on(tokens: &[Token]) -> bool
 fn range(depth: Depth, start: Span, tokens: &mut &[Token]) -> Result<ReadBounds, Stuck>
     requires high { depth ≤ 200 }
     requires known { is_unknown tokens.old.now ≡ false }
-    ensures reads { (p : Place) → Reads (λ x rest. IsBounds depth (token (kinds.Name (codes "bounds")) start ∷ token kinds.OpenParen p ∷ tokens.old.now) (bounds_of x.text) x.span rest) (StuckBounds depth (token (kinds.Name (codes "bounds")) start ∷ token kinds.OpenParen p ∷ tokens.old.now)) result tokens.new.now }
+    ensures reads { (p : Place) → Reads
+        (λ x rest. IsBounds depth (token (kinds.Name (codes "bounds")) start ∷ token kinds.OpenParen p ∷ tokens.old.now)
+        (bounds_of x.text) x.span rest)
+        (StuckBounds depth (token (kinds.Name (codes "bounds")) start ∷ token kinds.OpenParen p ∷ tokens.old.now)) result tokens.new.now }
     ensures shorter { TakesTokens tokens.old.now result tokens.new.now }
 {
     too_deep(depth, tokens)?;

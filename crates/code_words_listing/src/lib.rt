@@ -1,6 +1,7 @@
 // The listing of an image: a text of lines, and the image that a text spells.
 #![tactic(auto)]
 
+mod bytes;
 mod drafts;
 mod field;
 mod instruction_words;

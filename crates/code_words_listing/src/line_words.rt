@@ -12,6 +12,7 @@ ghost use Rattle.code_words_listing.specs.Reading.{number_in, size_in, signed_in
 ghost use Rattle.code_words_listing.specs.ReadLines.{kind_in};
 ghost use Rattle.code_words_listing.specs.Left.{words_left};
 
+use crate::bytes::first;
 use crate::words::{is_name, kind, number, number_or_none, place, signed_32, signed_64, size};
 use ckc_text::place::Place;
 use marshalling::kind::WordKind;
@@ -20,13 +21,6 @@ use marshalling::kind::WordKind;
 #[derive(Clone, Copy)]
 pub struct Words<'a> {
     left: Option<&'a [u8]>,
-}
-
-// Where the first space stands.
-fn space(bytes: &[u8]) -> Option<usize>
-    ensures { result ≡ position (λ b. b == 32) bytes.now }
-{
-    bytes.iter().position(|b| *b == b' ')
 }
 
 impl<'a> Words<'a> {
@@ -42,7 +36,7 @@ impl<'a> Words<'a> {
         ensures { MatchOption result (words_left self.old ≡ []) (λ word. words_left self.old ≡ word.now ∷ words_left self.new) }
     {
         let left = self.left?;
-        match space(left) {
+        match first(left, b' ') {
             Some(at) => {
                 self.left = Some(&left[at + 1..]);
                 Some(&left[..at])

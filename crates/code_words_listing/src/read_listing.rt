@@ -11,6 +11,7 @@ ghost use Rattle.code_words_listing.specs.States.{seen};
 ghost use Rattle.code_words_listing.specs.Steps as steps;
 ghost use Rattle.code_words_listing.specs.Verdicts.{Verdict, off_pace};
 
+use crate::bytes::first;
 use crate::pace::off_pace;
 use crate::read_lines::read_line;
 use crate::states::State;
@@ -90,18 +91,11 @@ fn finish(state: State, number: u32, rest: &[u8]) -> Result<Image, ListRefused>
     }
 }
 
-// Where the first line feed stands.
-fn line_feed(text: &[u8]) -> Option<usize>
-    ensures { result ≡ position (λ b. b == 10) text.now }
-{
-    text.iter().position(|b| *b == b'\n')
-}
-
 // The first line of a text without its line feed and what stands behind it, if there is a line feed.
 fn split_line(text: &[u8]) -> Option<(&[u8], &[u8])>
     ensures { MatchOption result (parts_of text.now ≡ record { lines = []; rest = text.now }) (λ both. IsFirstLine text.now both.0.now both.1.now) }
 {
-    match line_feed(text) {
+    match first(text, b'\n') {
         Some(end) => Some((&text[..end], &text[end + 1..])),
         None => None,
     }

@@ -7,6 +7,7 @@ ghost use Rattle.ckc_text.specs.Names as names;
 ghost use Rattle.code_words_listing.specs.ReadLines.{kind_in, parameter_kind_in};
 ghost use Rattle.code_words_listing.specs.Reading.{number_in, size_in, signed_in, number_or_none_in, bytes_in, place_in};
 
+use crate::bytes::first;
 use crate::lines::kind_word;
 use ckc_text::fault::NoMemory;
 use ckc_text::place::Place;
@@ -112,7 +113,7 @@ pub fn place(word: &[u8]) -> Option<Place>
     ensures { result ≡ place_in word.now }
 {
     let (at, rest) = word.split_first()?;
-    let colon = colon(rest)?;
+    let colon = first(rest, b':')?;
     let line = number(&rest[..colon])?;
     let col = number(&rest[colon + 1..])?;
     if *at == b'@' {
@@ -120,13 +121,6 @@ pub fn place(word: &[u8]) -> Option<Place>
     } else {
         None
     }
-}
-
-// Where the first colon stands.
-fn colon(bytes: &[u8]) -> Option<usize>
-    ensures { result ≡ position (λ b. b == 58) bytes.now }
-{
-    bytes.iter().position(|b| *b == b':')
 }
 
 static KINDS: [WordKind; 4] = [
