@@ -23,7 +23,7 @@ fn is_behind_pointer(cell: &CellPlace) -> bool {
 fn is_store(statement: &Stmt) -> bool {
     match statement {
         Stmt::Store { cell, value, .. } => {
-            matches!(value, Expr::Number(7)) && is_behind_pointer(cell)
+            matches!(**value, Expr::Number(7)) && is_behind_pointer(cell)
         }
         _ => false,
     }
@@ -32,7 +32,7 @@ fn is_store(statement: &Stmt) -> bool {
 // Whether a statement returns what a cell holds.
 fn is_return(statement: &Stmt) -> bool {
     match statement {
-        Stmt::Return(value) => matches!(value, Expr::Load { .. }),
+        Stmt::Return(value) => matches!(**value, Expr::Load { .. }),
         _ => false,
     }
 }

@@ -162,18 +162,18 @@ abbrev mutual
   -- the statement
   pub statement : code.Stmt.Stmt → Statement
   statement stmts.Nothing = Nothing
-  statement (stmts.SetLocal local value) = SetLocal local (expression value)
-  statement (stmts.Store type cell value end) = Store (ctype type) (place cell) (expression value) end
-  statement (stmts.UpdateLocal is_char local operator value site) = UpdateLocal is_char local operator (expression value) site
-  statement (stmts.Update type cell operator value site end) = Update (ctype type) (place cell) operator (expression value) site end
-  statement (stmts.Evaluate value) = Evaluate (expression value)
+  statement (stmts.SetLocal local value) = SetLocal local (expression value.value)
+  statement (stmts.Store type cell value end) = Store (ctype type) (place cell) (expression value.value) end
+  statement (stmts.UpdateLocal is_char local operator value site) = UpdateLocal is_char local operator (expression value.value) site
+  statement (stmts.Update type cell operator value site end) = Update (ctype type) (place cell) operator (expression value.value) site end
+  statement (stmts.Evaluate value) = Evaluate (expression value.value)
   statement (stmts.CallAlone call) = CallAlone call.callee (arguments_of call.arguments.items)
-  statement (stmts.Print number) = Print (expression number)
-  statement (stmts.PutByte number) = PutByte (expression number)
+  statement (stmts.Print number) = Print (expression number.value)
+  statement (stmts.PutByte number) = PutByte (expression number.value)
   statement (stmts.Block' shape row) = Block (statements row)
-  statement (stmts.If' condition p consequent q alternative) = If (expression condition) (statement consequent) (statement alternative)
-  statement (stmts.Loop' condition p body q step) = Loop (expression condition) (statement body) (statement step)
-  statement (stmts.Return value) = Return (expression value)
+  statement (stmts.If' condition p consequent q alternative) = If (expression condition.value) (statement consequent) (statement alternative)
+  statement (stmts.Loop' condition p body q step) = Loop (expression condition.value) (statement body) (statement step)
+  statement (stmts.Return value) = Return (expression value.value)
   statement stmts.ReturnNothing = ReturnNothing
   statement stmts.Break = Break
   statement stmts.Continue = Continue

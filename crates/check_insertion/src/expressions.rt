@@ -78,9 +78,9 @@ pub fn expression(alloc: Global, expr: &program::Expr) -> Result<Expr, NoMemory>
     }
 }
 
-// An expression with its checks, on the heap.
+/// An expression with its checks, on the heap.
 #[cycle(expressions)]
-fn boxed(alloc: Global, expr: &program::Expr) -> Result<Box<Expr>, NoMemory>
+pub fn boxed(alloc: Global, expr: &program::Expr) -> Result<Box<Expr>, NoMemory>
     ensures { IfOk result (λ e. erased.expression e.value ≡ insert.expression (core.expression expr.now)) }
 {
     on_heap::boxed(alloc, expression(alloc, expr)?)

@@ -8,7 +8,7 @@ ghost use Rattle.check_insertion.specs.Insert as insert;
 
 use crate::checks::store_end;
 use crate::erased::{Reading, Stmt};
-use crate::expressions::{call, expression, place};
+use crate::expressions::{boxed as boxed_expression, call, place};
 use act_words::operator::Operator;
 use ckc_core::program;
 use ckc_core::program::Site;
@@ -21,7 +21,7 @@ use std::alloc::Global;
 fn set_local(alloc: Global, local: u32, value: &program::Expr) -> Result<Stmt, NoMemory>
     ensures { IfOk result (λ s. erased.statement s ≡ erased.SetLocal local (insert.expression (core.expression value.now))) }
 {
-    let value = expression(alloc, value)?;
+    let value = boxed_expression(alloc, value)?;
     Ok(Stmt::SetLocal { local, value })
 }
 
@@ -52,7 +52,7 @@ fn store(
 {
     let end = end_of(cell);
     let cell = place(alloc, cell)?;
-    let value = expression(alloc, value)?;
+    let value = boxed_expression(alloc, value)?;
     let ctype = ctype.copy(alloc)?;
     Ok(Stmt::Store {
         ctype,
@@ -73,7 +73,7 @@ fn update_local(
 ) -> Result<Stmt, NoMemory>
     ensures { IfOk result (λ s. erased.statement s ≡ erased.UpdateLocal is_char local operator (insert.expression (core.expression value.now)) site) }
 {
-    let value = expression(alloc, value)?;
+    let value = boxed_expression(alloc, value)?;
     Ok(Stmt::UpdateLocal {
         is_char,
         local,
@@ -97,7 +97,7 @@ fn update(
 {
     let end = end_of(cell);
     let cell = place(alloc, cell)?;
-    let value = expression(alloc, value)?;
+    let value = boxed_expression(alloc, value)?;
     let ctype = ctype.copy(alloc)?;
     Ok(Stmt::Update {
         ctype,
@@ -140,10 +140,10 @@ pub fn statement(alloc: Global, stmt: &program::Stmt) -> Result<Stmt, NoMemory>
             value,
             site,
         } => update(alloc, ctype, cell, *operator, value, *site),
-        program::Stmt::Evaluate(value) => Ok(Stmt::Evaluate(expression(alloc, value)?)),
+        program::Stmt::Evaluate(value) => Ok(Stmt::Evaluate(boxed_expression(alloc, value)?)),
         program::Stmt::CallAlone(call) => call_alone(alloc, call),
-        program::Stmt::Print(number) => Ok(Stmt::Print(expression(alloc, number)?)),
-        program::Stmt::PutByte(number) => Ok(Stmt::PutByte(expression(alloc, number)?)),
+        program::Stmt::Print(number) => Ok(Stmt::Print(boxed_expression(alloc, number)?)),
+        program::Stmt::PutByte(number) => Ok(Stmt::PutByte(boxed_expression(alloc, number)?)),
         program::Stmt::Block(inner) => block(alloc, inner.as_slice()),
         program::Stmt::If {
             condition,
@@ -155,7 +155,7 @@ pub fn statement(alloc: Global, stmt: &program::Stmt) -> Result<Stmt, NoMemory>
             body,
             step,
         } => repetition(alloc, condition, body, step),
-        program::Stmt::Return(value) => Ok(Stmt::Return(expression(alloc, value)?)),
+        program::Stmt::Return(value) => Ok(Stmt::Return(boxed_expression(alloc, value)?)),
         program::Stmt::ReturnNothing => Ok(Stmt::ReturnNothing),
         program::Stmt::Break => Ok(Stmt::Break),
         program::Stmt::Continue => Ok(Stmt::Continue),
@@ -183,7 +183,7 @@ fn choice(
 {
     let consequent = boxed(alloc, consequent)?;
     let alternative = boxed(alloc, alternative)?;
-    let condition = expression(alloc, condition)?;
+    let condition = boxed_expression(alloc, condition)?;
     Ok(Stmt::If {
         condition,
         consequent,
@@ -204,7 +204,7 @@ fn repetition(
 {
     let body = boxed(alloc, body)?;
     let step = boxed(alloc, step)?;
-    let condition = expression(alloc, condition)?;
+    let condition = boxed_expression(alloc, condition)?;
     Ok(Stmt::Loop {
         condition,
         body,

@@ -182,47 +182,47 @@ pub enum Stmt {
     Nothing,
     SetLocal {
         local: u32,
-        value: Expr,
+        value: Box<Expr>,
     },
     Store {
         ctype: CType,
         cell: CellPlace,
-        value: Expr,
+        value: Box<Expr>,
     },
     /// The old value and an operator with another one. A local of type `char` keeps the result modulo 256.
     UpdateLocal {
         is_char: bool,
         local: u32,
         operator: Operator,
-        value: Expr,
+        value: Box<Expr>,
         site: Site,
     },
     Update {
         ctype: CType,
         cell: CellPlace,
         operator: Operator,
-        value: Expr,
+        value: Box<Expr>,
         site: Site,
     },
     /// A value that is left.
-    Evaluate(Expr),
+    Evaluate(Box<Expr>),
     /// A call without a result.
     CallAlone(Call),
-    Print(Expr),
-    PutByte(Expr),
+    Print(Box<Expr>),
+    PutByte(Box<Expr>),
     Block(Vec<Stmt>),
     If {
-        condition: Expr,
+        condition: Box<Expr>,
         consequent: Box<Stmt>,
         alternative: Box<Stmt>,
     },
     /// A loop with what follows each turn.
     Loop {
-        condition: Expr,
+        condition: Box<Expr>,
         body: Box<Stmt>,
         step: Box<Stmt>,
     },
-    Return(Expr),
+    Return(Box<Expr>),
     ReturnNothing,
     Break,
     Continue,

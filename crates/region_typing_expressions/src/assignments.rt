@@ -106,8 +106,8 @@ fn target_of(context: &Context, t: Box<Typed>, span: Span) -> Result<Box<Target>
 }
 
 // A store.
-fn store(target: Target, value: program::Expr) -> Stmt
-    ensures { statement result ≡ store_of (lvalue target.place) (ctype_of target.ctype) (expression value) }
+fn store(target: Target, value: Box<program::Expr>) -> Stmt
+    ensures { statement result ≡ store_of (lvalue target.place) (ctype_of target.ctype) (expression value.value) }
 {
     let Target { ctype, place, .. } = target;
     match place {
@@ -120,8 +120,8 @@ fn store(target: Target, value: program::Expr) -> Stmt
 }
 
 // A store in a file-level pointer.
-fn store_object(object: u32, ctype: CType, value: program::Expr) -> Stmt
-    ensures { statement result ≡ Store (ctype_of ctype) (Direct object 0) (expression value) }
+fn store_object(object: u32, ctype: CType, value: Box<program::Expr>) -> Stmt
+    ensures { statement result ≡ Store (ctype_of ctype) (Direct object 0) (expression value.value) }
 {
     Stmt::Store {
         ctype,
@@ -178,8 +178,8 @@ fn updated_place(place: CellPlace, site: Site) -> CellPlace
 }
 
 // An update.
-fn update(target: Target, operator: Operator, value: program::Expr, site: Site) -> Stmt
-    ensures { statement result ≡ update_with (lvalue target.place) (ctype_of target.ctype) operator (expression value) site }
+fn update(target: Target, operator: Operator, value: Box<program::Expr>, site: Site) -> Stmt
+    ensures { statement result ≡ update_with (lvalue target.place) (ctype_of target.ctype) operator (expression value.value) site }
 {
     let Target { ctype, place, .. } = target;
     match place {
@@ -238,7 +238,7 @@ fn store_sum(
 {
     let met = value_meets(&scope.flow, &sum, declared)?;
     needs(met, Code::E17, span)?;
-    Ok(store_object(object, ctype, Box::into_inner(sum)))
+    Ok(store_object(object, ctype, sum))
 }
 
 // No sum is stored in a cell, whether it meets the bounds that are asked there or not.
@@ -300,7 +300,7 @@ fn moved(
     match place {
         Lvalue::Local(local) => {
             let pointer = context.boxed(program::Expr::Local { local, bounds })?;
-            let value = pointer_sum(scope, direction, pointer, number, site);
+            let value = context.boxed(pointer_sum(scope, direction, pointer, number, site))?;
             Ok(Stmt::SetLocal { local, value })
         }
         Lvalue::Cell(cell) => {
@@ -336,7 +336,7 @@ fn update_by(
         moved(context, scope, direction, target, number, site, span)
     } else {
         let operator = operator_along(direction);
-        Ok(update(target, operator, Box::into_inner(number), site))
+        Ok(update(target, operator, number, site))
     }
 }
 

@@ -13,7 +13,7 @@ ghost use Rattle.region_typing_scope.specs.Views.{scope as scope_of, signature};
 ghost use Rattle.region_typing_scope.specs.Answering.{Answers};
 ghost use Rattle.region_typing_rules.specs.Verdicts.{Passes};
 ghost use Rattle.region_typing_scope.specs.Typed.{typed as inline_typed};
-ghost use Rattle.region_typing_scope.specs.OnHeap.{typed};
+ghost use Rattle.region_typing_scope.specs.OnHeap.{typed, expression as expression_on_heap};
 ghost use Rattle.region_typing_expressions.specs.Calls.{argument, called as called_as, converted_call, only_argument as only_argument_in, only_number, reads as reads_in};
 
 use crate::argument_bounds::{bounds_at_call, unless_unmet};
@@ -66,7 +66,7 @@ fn arguments_as(
     while let Some(argument) = arguments.pop_front() {
         let to = &types[built.len()];
         let value = converted(context, argument.typed, to, argument.span)?;
-        built.push(value)?;
+        built.push(Box::into_inner(value))?;
     }
     Ok(built)
 }
@@ -89,8 +89,8 @@ fn one_number(
     context: &Context,
     arguments: VecDeque<Argument>,
     span: Span,
-) -> Result<Expr, CheckError>
-    ensures { Answers expression (only_number (map argument arguments.items) span) result }
+) -> Result<Box<Expr>, CheckError>
+    ensures { Answers expression_on_heap (only_number (map argument arguments.items) span) result }
 {
     let argument = only_argument(arguments, span)?;
     converted(context, argument.typed, &CType::Int, argument.span)

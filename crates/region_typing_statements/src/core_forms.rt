@@ -52,7 +52,6 @@ pub fn choice(
 ) -> Result<Box<Stmt>, NoMemory>
     ensures { IfOk result (λ s. statement_of s ≡ If (expression_of condition) (statement_of consequent) (statement_of alternative)) }
 {
-    let condition = Box::into_inner(condition);
     context.boxed(Stmt::If {
         condition,
         consequent,
@@ -69,7 +68,6 @@ pub fn repeated(
 ) -> Result<Box<Stmt>, NoMemory>
     ensures { IfOk result (λ s. statement_of s ≡ Loop (expression_of condition) (statement_of body) (statement_of step)) }
 {
-    let condition = Box::into_inner(condition);
     context.boxed(Stmt::Loop {
         condition,
         body,

@@ -89,7 +89,7 @@ pub fn from_zero(
 {
     let initial = initialised(context, scope, written, t, local, span)?;
     needs(is_scalar(t), Code::E13, span)?;
-    let first = context.boxed(set_to_zero(local, t))?;
+    let first = set_to_zero(context, local, t)?;
     scope.settle(last_given(written, &initial, &first), span)?;
     Ok(both(context, first, initial)?)
 }

@@ -188,7 +188,7 @@ fn made(
 {
     let value = converted(context, memory, t, span)?;
     let made = context.boxed(Stmt::SetLocal { local, value })?;
-    let first = context.boxed(set_to_zero(local, t))?;
+    let first = set_to_zero(context, local, t)?;
     scope.settle(&made, span)?;
     Ok(both(context, first, made)?)
 }

@@ -38,10 +38,7 @@ fn alone(context: &Context, call: Called) -> Result<Box<Stmt>, NoMemory>
     ensures { IfOk result (λ s. statement s ≡ alone_of (called_as call)) }
 {
     match call {
-        Called::Gives { ctype: _, value } => {
-            let value = Box::into_inner(value);
-            context.boxed(Stmt::Evaluate(value))
-        }
+        Called::Gives { ctype: _, value } => context.boxed(Stmt::Evaluate(value)),
         Called::GivesNothing { call } => Ok(call),
     }
 }

@@ -1,4 +1,4 @@
-use Rattle.std.proofs.Common.{◌≡◌, ◌<◌, length, map, drop, get_or, ap, sym, ◌∙◌, arith}
+use Rattle.std.proofs.Common.{◌≡◌, ◌<◌, ◌++◌, ◌∷◌, [], length, map, drop, get_or, ap, sym, ◌∙◌, arith}
 use Rattle.pointer_modes.specs.Types.{ctype}
 use Rattle.region_typing_rules.specs.Calls.{arguments_as}
 use Rattle.region_typing_expressions.specs.Calls.{argument}
@@ -24,9 +24,10 @@ loop-argument-preserved c =
     let t = c.index-types-len.result in
     let less : length built < length types = omega (arith, c.loop-argument.invariant.long, ap length c.in-Some.ensures.items) in
     let at : t ≡ get_or types (length built) t = c.index-types-len.is ∙ ap (λ k. get_or types k t) (c.len.ensures ∙ c.loop-argument.built.ok.0) in
+    let pushed : c.push.new.self.items ≡ built ++ (c.in_ok-value.value.value ∷ []) = c.in_ok-push.ensures.items ∙ ap (λ v. built ++ (v ∷ [])) c.into_inner.ensures in
     record {
-      long = omega (arith, c.loop-argument.invariant.long, ap length c.in-Some.ensures.items, pushed_long built c.push.new.self.items c.in_ok-value.value c.in_ok-push.ensures.items);
-      same = value_pushed (arguments_as (map argument c.args.arguments.items) (map ctype types)) c.in-Some.argument c.pop_front.new.self.items types t c.loop-argument.arguments.items built c.push.new.self.items c.in_ok-value.value c.in_ok-push.ensures.items c.in-Some.ensures.items less at c.loop-argument.invariant.same c.in_ok-value.ensures.so;
+      long = omega (arith, c.loop-argument.invariant.long, ap length c.in-Some.ensures.items, pushed_long built c.push.new.self.items c.in_ok-value.value.value pushed);
+      same = value_pushed (arguments_as (map argument c.args.arguments.items) (map ctype types)) c.in-Some.argument c.pop_front.new.self.items types t c.loop-argument.arguments.items built c.push.new.self.items c.in_ok-value.value.value pushed c.in-Some.ensures.items less at c.loop-argument.invariant.same c.in_ok-value.ensures.so;
     }
 
 pub returns : goal.returns

@@ -1,4 +1,3 @@
-use Rattle.std.proofs.Common.{ap, ◌∙◌}
 use Rattle.std.specs.Option.{option_map}
 use Rattle.ckc_tree.specs.Statements.{initializer}
 use Rattle.pointer_modes.specs.Types.{ctype}
@@ -19,7 +18,7 @@ returns-in_err-needs c = goes_on _ c.in_ok-initial.ensures (walk_fails _ _ _ _ _
 
 pub returns-in_err-settle : goal.returns-in_err-settle
 returns-in_err-settle c =
-    let zero = ap core.statement c.in_ok-first.ensures ∙ c.set_to_zero.ensures in
+    let zero = c.in_ok-first.ensures in
     let given = rw (c.deref.ensures, c.deref-2.ensures) at c.last_given.ensures in
     let last = last_is (option_map initializer c.args.written.now) c.in_ok-initial.initial c.in_ok-first.first c.last_given.result.now c.args.local (ctype c.args.t.now) given zero in
     let broken = rw last at c.in_err-settle.ensures.known in
@@ -28,7 +27,7 @@ returns-in_err-settle c =
 
 pub returns : goal.returns
 returns c =
-    let zero = ap core.statement c.in_ok-first.ensures ∙ c.set_to_zero.ensures in
+    let zero = c.in_ok-first.ensures in
     let given = rw (c.deref.ensures, c.deref-2.ensures) at c.last_given.ensures in
     let last = last_is (option_map initializer c.args.written.now) c.in_ok-initial.initial c.in_ok-first.first c.last_given.result.now c.args.local (ctype c.args.t.now) given zero in
     let settled = rw last at c.in_ok-settle.ensures.known in

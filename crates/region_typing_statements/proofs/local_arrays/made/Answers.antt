@@ -1,4 +1,4 @@
-use Rattle.std.proofs.Common.{ap, ◌∙◌}
+use Rattle.std.proofs.Common.{ap}
 use Rattle.pointer_modes.specs.Types.{ctype}
 use Rattle.ckc_core.specs.Core as core
 use Rattle.region_typing_scope.specs.OnHeap.{typed}
@@ -21,7 +21,7 @@ returns-in_err-settle c =
 
 pub returns : goal.returns
 returns c =
-    let zero = ap core.statement c.in_ok-first.ensures ∙ c.set_to_zero.ensures in
+    let zero = c.in_ok-first.ensures in
     let made = ap core.statement c.in_ok-made.ensures in
     let settled = rw (c.deref.ensures, made) at c.in_ok-settle.ensures.known in
     let built = rw (zero, made) at c.in_ok-both.ensures in
