@@ -1,10 +1,13 @@
 -- The words of the command line, as `clap` takes them.
 use Rattle.std.specs.Prelude.{ℕ, Bool, true, false, List, [], ◌∷◌, codes, Option, Some, None}
+use Rattle.std.specs.Borrow.{Bor}
 use Rattle.std.specs.Option.{option_map_or}
 use Rattle.std.specs.Str.{bytes_eq}
-use Rattle.clap.specs.Words.{App, Kinds, Row, Rule, fault_of, first_of, matches_of, new_rule}
+use Rattle.clap.specs.Words.{App, Kinds, Row, Rule, fault_of, first_of, matches_of, new_rule, with_rule}
 use Rattle.clap.specs.Simple.{new_shape}
 use Rattle.clap.specs.declared.builder.action.ArgAction.TheVariants.{SetTrue}
+use Rattle.ccbox_call_words.specs.declared.command_line.Role.{Role}
+use Rattle.ccbox_call_words.specs.declared.command_line.Role.TheVariants as roles
 
 -- a word that stands by itself
 abbrev pub positional : List ℕ → Rule
@@ -17,6 +20,22 @@ text_option name = record (new_rule name) { long = Some name }
 -- an option that takes none
 abbrev pub flag : List ℕ → Rule
 flag name = record (new_rule name) { long = Some name; action = Some SetTrue }
+
+-- a word in its role
+abbrev pub rule_for : Role → List ℕ → Rule
+rule_for roles.Command name = record (positional name) { required = true }
+rule_for roles.Word name = positional name
+rule_for roles.Text name = text_option name
+rule_for roles.Flag name = flag name
+
+-- a word of a table
+abbrev pub told : Bor (List ℕ) × Role → Rule
+told word = rule_for word.1 word.0.now
+
+-- a command with more words, one behind the other
+abbrev pub with_rules : App → List Rule → App
+with_rules app [] = app
+with_rules app (rule ∷ more) = with_rules (with_rule app rule) more
 
 abbrev pub rules : List Rule
 rules =

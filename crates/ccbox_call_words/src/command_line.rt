@@ -2,7 +2,7 @@
 
 ghost use Rattle.std.specs.Prelude.{◌≡◌, IfOk, option_map, map, false};
 ghost use Rattle.clap.specs.Words.{app_of, rows_of, rule_of, found_of};
-ghost use Rattle.ccbox_call_words.specs.CommandLine.{command_line, positional, text_option, flag, found_in, found_by, is_true};
+ghost use Rattle.ccbox_call_words.specs.CommandLine.{command_line, with_rules, rule_for, told, found_in, found_by, is_true};
 ghost use Rattle.ccbox_call_words.specs.Requested.{found as found_view, text_of};
 
 use ckc_text::fault::NoMemory;
@@ -45,41 +45,72 @@ pub(crate) fn find<'a>(alloc: Global, words: &'a [&'a str]) -> Result<Option<Fou
     }
 }
 
+// How a word of the command line is taken.
+#[derive(Clone, Copy)]
+pub(crate) enum Role {
+    /// It stands by itself, and has to be there.
+    Command,
+    /// It stands by itself.
+    Word,
+    /// An option that takes one text.
+    Text,
+    /// An option that takes none.
+    Flag,
+}
+
+// The words of the command line.
+const WORDS: [(&str, Role); 13] = [
+    ("command", Role::Command),
+    ("first", Role::Word),
+    ("second", Role::Word),
+    ("acts", Role::Text),
+    ("input", Role::Text),
+    ("budget", Role::Text),
+    ("sandbox", Role::Text),
+    ("trusted", Role::Text),
+    ("base", Role::Text),
+    ("view", Role::Flag),
+    ("releases", Role::Flag),
+    ("dump", Role::Flag),
+    ("code", Role::Flag),
+];
+
 // The program's command: its words begin behind the program's name, and none of them asks for help.
 fn command_line<'a>(alloc: Global) -> Result<Command<'a>, NoMemory>
     ensures { IfOk result (λ command. app_of command ≡ command_line) }
 {
     let command = Command::new(alloc, "ccbox")
         .no_binary_name(true)
-        .disable_help_flag(true)
-        .arg(Arg::new(alloc, "command").required(true))?
-        .arg(Arg::new(alloc, "first"))?
-        .arg(Arg::new(alloc, "second"))?
-        .arg(text_option(alloc, "acts"))?
-        .arg(text_option(alloc, "input"))?
-        .arg(text_option(alloc, "budget"))?
-        .arg(text_option(alloc, "sandbox"))?
-        .arg(text_option(alloc, "trusted"))?
-        .arg(text_option(alloc, "base"))?
-        .arg(flag(alloc, "view"))?
-        .arg(flag(alloc, "releases"))?
-        .arg(flag(alloc, "dump"))?
-        .arg(flag(alloc, "code"))?;
+        .disable_help_flag(true);
+    with_words(alloc, command, &WORDS)
+}
+
+// A command with words more.
+fn with_words<'a>(
+    alloc: Global,
+    command: Command<'a>,
+    words: &[(&'a str, Role)],
+) -> Result<Command<'a>, NoMemory>
+    ensures { IfOk result (λ next. app_of next ≡ with_rules (app_of command.entry) (map told words.entry.now)) }
+{
+    let mut command = command;
+    for (name, role) in words {
+        command = command.arg(argument(alloc, name, *role))?;
+    }
     Ok(command)
 }
 
-// An option that takes one text.
-fn text_option<'a>(alloc: Global, name: &'a str) -> Arg<'a>
-    ensures { (rule_of result ≡ text_option name.entry.now) × (result.global ≡ false) }
+// A word in its role.
+fn argument<'a>(alloc: Global, name: &'a str, role: Role) -> Arg<'a>
+    ensures { (rule_of result ≡ rule_for role name.entry.now) × (result.global ≡ false) }
 {
-    Arg::new(alloc, name).long(name)
-}
-
-// An option that takes none.
-fn flag<'a>(alloc: Global, name: &'a str) -> Arg<'a>
-    ensures { (rule_of result ≡ flag name.entry.now) × (result.global ≡ false) }
-{
-    Arg::new(alloc, name).long(name).action(ArgAction::SetTrue)
+    let word = Arg::new(alloc, name);
+    match role {
+        Role::Command => word.required(true),
+        Role::Word => word,
+        Role::Text => word.long(name),
+        Role::Flag => word.long(name).action(ArgAction::SetTrue),
+    }
 }
 
 // What the matches tell of each argument.
