@@ -1,16 +1,15 @@
 // The instruction that words spell.
 
-ghost use Rattle.std.specs.Prelude.{◌≡◌, ℕ, find, option_map, IfSome, FitsSigned};
+ghost use Rattle.std.specs.Prelude.{◌≡◌, ℕ, find, option_map};
 ghost use Rattle.std.proofs.Common.{ℤ};
 ghost use Rattle.std.specs.Str.{bytes_eq};
 ghost use Rattle.ckc_text.specs.declared.place.Place as places;
 ghost use Rattle.code_words.specs.declared.op.Op.TheVariants as ops;
 ghost use Rattle.code_words_listing.specs.Instructions as table;
 ghost use Rattle.code_words_listing.specs.Left.{words_left};
-ghost use Rattle.code_words_listing.specs.Lines.{Line, Instruction};
-ghost use Rattle.code_words_listing.specs.Reading.{number_in, size_in, signed_in, place_in, one, done};
+ghost use Rattle.code_words_listing.specs.Lines.{Instruction};
+ghost use Rattle.code_words_listing.specs.Reading.{done};
 ghost use Rattle.code_words_listing.specs.ReadInstructions.{samples, with_operands, instruction_of};
-ghost use Rattle.std.specs.Int.{w32};
 
 use crate::instruction_words::instruction_word;
 use crate::line_words::Words;
@@ -159,43 +158,6 @@ fn sample(word: &[u8]) -> Option<Op>
         .find(|op| instruction_word(*op).as_bytes() == word)
 }
 
-fn one_number(words: Words<'_>) -> Option<u32>
-    ensures { (make : ℕ → Line) → one number_in (λ n. done (make n)) (words_left words.entry) ≡ option_map make result }
-{
-    let mut words = words;
-    let number = words.number()?;
-    words.end()?;
-    Some(number)
-}
-
-fn one_size(words: Words<'_>) -> Option<u32>
-    ensures { (make : ℕ → Line) → one size_in (λ n. done (make n)) (words_left words.entry) ≡ option_map make result }
-{
-    let mut words = words;
-    let size = words.size()?;
-    words.end()?;
-    Some(size)
-}
-
-fn one_signed(words: Words<'_>) -> Option<i32>
-    ensures fits { IfSome result (λ n. FitsSigned w32 n) }
-    ensures value { (make : ℤ → Line) → one (signed_in w32) (λ n. done (make n)) (words_left words.entry) ≡ option_map make result }
-{
-    let mut words = words;
-    let number = words.signed_32()?;
-    words.end()?;
-    Some(number)
-}
-
-fn one_place(words: Words<'_>) -> Option<Place>
-    ensures { (make : places.Place → Line) → one place_in (λ p. done (make p)) (words_left words.entry) ≡ option_map make result }
-{
-    let mut words = words;
-    let place = words.place()?;
-    words.end()?;
-    Some(place)
-}
-
 // The check of an access.
 fn read_in(words: Words<'_>) -> Option<Op>
     ensures { (a b : ℤ) (c : ℕ) (d : places.Place) → option_map Instruction result ≡ with_operands (ops.In a b c d) (words_left words.entry) }
@@ -204,8 +166,7 @@ fn read_in(words: Words<'_>) -> Option<Op>
     let low = words.signed_64()?;
     let high = words.signed_64()?;
     let size = words.size()?;
-    let place = words.place()?;
-    words.end()?;
+    let place = words.last_place()?;
     Some(Op::In {
         low,
         high,
@@ -222,8 +183,7 @@ fn read_up_to(words: Words<'_>) -> Option<Op>
     let low = words.signed_64()?;
     let high = words.signed_64()?;
     let size = words.size()?;
-    let place = words.place()?;
-    words.end()?;
+    let place = words.last_place()?;
     Some(Op::UpTo {
         low,
         high,
@@ -239,8 +199,7 @@ fn read_term(words: Words<'_>) -> Option<Op>
     let mut words = words;
     let high = words.signed_64()?;
     let size = words.size()?;
-    let place = words.place()?;
-    words.end()?;
+    let place = words.last_place()?;
     Some(Op::Term { high, size, place })
 }
 
@@ -254,8 +213,7 @@ fn read_contain(words: Words<'_>) -> Option<Op>
     let new_low = words.signed_64()?;
     let new_high = words.signed_64()?;
     let size = words.size()?;
-    let place = words.place()?;
-    words.end()?;
+    let place = words.last_place()?;
     Some(Op::Contain {
         old_low,
         old_high,
@@ -275,8 +233,7 @@ fn read_lies(words: Words<'_>) -> Option<Op>
     let high = words.signed_64()?;
     let size = words.size()?;
     let more = words.number()?;
-    let place = words.place()?;
-    words.end()?;
+    let place = words.last_place()?;
     Some(Op::Lies {
         low,
         high,
@@ -293,8 +250,7 @@ fn read_range(words: Words<'_>) -> Option<Op>
     let mut words = words;
     let offset = words.number()?;
     let len = words.number()?;
-    let place = words.place()?;
-    words.end()?;
+    let place = words.last_place()?;
     Some(Op::Range { offset, len, place })
 }
 
@@ -314,36 +270,36 @@ fn with_operands(sample: Op, words: Words<'_>) -> Option<Op>
     ensures { option_map Instruction result ≡ with_operands sample (words_left words.entry) }
 {
     match sample {
-        Op::Const(_) => Some(Op::Const(one_signed(words)?)),
-        Op::Local(_) => Some(Op::Local(one_number(words)?)),
-        Op::Set(_) => Some(Op::Set(one_number(words)?)),
-        Op::BlockAddress(_) => Some(Op::BlockAddress(one_number(words)?)),
-        Op::BlockOffset(_) => Some(Op::BlockOffset(one_number(words)?)),
-        Op::Jump(_) => Some(Op::Jump(one_number(words)?)),
-        Op::JumpIfZero(_) => Some(Op::JumpIfZero(one_number(words)?)),
-        Op::Call(_) => Some(Op::Call(one_number(words)?)),
-        Op::CallBack(_) => Some(Op::CallBack(one_number(words)?)),
+        Op::Const(_) => Some(Op::Const(words.last_signed_32()?)),
+        Op::Local(_) => Some(Op::Local(words.last_number()?)),
+        Op::Set(_) => Some(Op::Set(words.last_number()?)),
+        Op::BlockAddress(_) => Some(Op::BlockAddress(words.last_number()?)),
+        Op::BlockOffset(_) => Some(Op::BlockOffset(words.last_number()?)),
+        Op::Jump(_) => Some(Op::Jump(words.last_number()?)),
+        Op::JumpIfZero(_) => Some(Op::JumpIfZero(words.last_number()?)),
+        Op::Call(_) => Some(Op::Call(words.last_number()?)),
+        Op::CallBack(_) => Some(Op::CallBack(words.last_number()?)),
         Op::Index { .. } => Some(Op::Index {
-            size: one_size(words)?,
+            size: words.last_size()?,
         }),
         Op::Alloc { .. } => Some(Op::Alloc {
-            size: one_size(words)?,
+            size: words.last_size()?,
         }),
         Op::AllocTerminated { .. } => Some(Op::AllocTerminated {
-            size: one_size(words)?,
+            size: words.last_size()?,
         }),
         Op::SandboxAlloc { .. } => Some(Op::SandboxAlloc {
-            size: one_size(words)?,
+            size: words.last_size()?,
         }),
         Op::Arithmetic { operator, .. } => Some(Op::Arithmetic {
             operator,
-            place: one_place(words)?,
+            place: words.last_place()?,
         }),
         Op::Neg { .. } => Some(Op::Neg {
-            place: one_place(words)?,
+            place: words.last_place()?,
         }),
         Op::NonNull { .. } => Some(Op::NonNull {
-            place: one_place(words)?,
+            place: words.last_place()?,
         }),
         Op::In { .. } => read_in(words),
         Op::UpTo { .. } => read_up_to(words),

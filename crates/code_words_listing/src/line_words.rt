@@ -140,4 +140,45 @@ impl<'a> Words<'a> {
     {
         place(self.word()?)
     }
+
+    /// A number, which is the last word.
+    pub fn last_number(self) -> Option<u32>
+        ensures { (make : ℕ → Line) → one number_in (λ n. done (make n)) (words_left self.entry) ≡ option_map make result }
+    {
+        let mut words = self;
+        let number = words.number()?;
+        words.end()?;
+        Some(number)
+    }
+
+    /// A size, which is the last word.
+    pub fn last_size(self) -> Option<u32>
+        ensures { (make : ℕ → Line) → one size_in (λ n. done (make n)) (words_left self.entry) ≡ option_map make result }
+    {
+        let mut words = self;
+        let size = words.size()?;
+        words.end()?;
+        Some(size)
+    }
+
+    /// A number of 32 bits with a sign, which is the last word.
+    pub fn last_signed_32(self) -> Option<i32>
+        ensures fits { IfSome result (λ n. FitsSigned w32 n) }
+        ensures value { (make : ℤ → Line) → one (signed_in w32) (λ n. done (make n)) (words_left self.entry) ≡ option_map make result }
+    {
+        let mut words = self;
+        let number = words.signed_32()?;
+        words.end()?;
+        Some(number)
+    }
+
+    /// A place, which is the last word.
+    pub fn last_place(self) -> Option<Place>
+        ensures { (make : places.Place → Line) → one place_in (λ p. done (make p)) (words_left self.entry) ≡ option_map make result }
+    {
+        let mut words = self;
+        let place = words.place()?;
+        words.end()?;
+        Some(place)
+    }
 }

@@ -58,7 +58,6 @@ fn put_imports(alloc: Global, out: &mut Vec<u8>, imports: &[Import]) -> Result<(
     Ok(())
 }
 
-#[tactic(auto, using(crate::proofs::Written::lines_text_append))]
 fn put_callbacks(alloc: Global, out: &mut Vec<u8>, callbacks: &[Callback]) -> Result<(), NoMemory>
     ensures { OnOk result (out.new.items ≡ out.old.items ++ lines_text (flat_map callback_lines callbacks.now)) }
 {
@@ -86,7 +85,6 @@ fn put_parameters(alloc: Global, out: &mut Vec<u8>, params: &[Param]) -> Result<
     Ok(())
 }
 
-#[tactic(auto, using(crate::proofs::Written::lines_text_append))]
 fn put_functions(alloc: Global, out: &mut Vec<u8>, funs: &[Func]) -> Result<(), NoMemory>
     ensures { OnOk result (out.new.items ≡ out.old.items ++ lines_text (flat_map function_lines funs.now)) }
 {

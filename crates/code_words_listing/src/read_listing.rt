@@ -4,16 +4,18 @@ ghost use Rattle.std.specs.Prelude.{◌≡◌, ◌<◌, ◌^◌, ◌==◌, suc, 
 ghost use Rattle.code_words.specs.Images as images;
 ghost use Rattle.code_words.specs.Paced.{is_paced};
 ghost use Rattle.code_words_listing.specs.Listings.{listing, InFormat};
-ghost use Rattle.code_words_listing.specs.Reached.{IsReached, IsFirstLine, Follows, RefusedBehind, refused_from};
+ghost use Rattle.code_words_listing.specs.ReadLines.{line_of};
+ghost use Rattle.code_words_listing.specs.Reached.{IsReached, IsFirstLine, EndsOnPace, Follows, RefusedBehind, refused_from};
 ghost use Rattle.code_words_listing.specs.Refusals.{AtLine};
 ghost use Rattle.code_words_listing.specs.Refused.{parts_of};
 ghost use Rattle.code_words_listing.specs.States.{seen};
 ghost use Rattle.code_words_listing.specs.Steps as steps;
+ghost use Rattle.code_words_listing.specs.Told.{told};
 ghost use Rattle.code_words_listing.specs.Verdicts.{Verdict, off_pace};
 
 use crate::bytes::first;
 use crate::pace::off_pace;
-use crate::read_lines::read_line;
+use crate::read_lines::{ReadLine, read_line};
 use crate::states::State;
 use ckc_text::fault::NoMemory;
 use code_words::image::Image;
@@ -55,22 +57,54 @@ fn check_pace(state: &State, number: u32) -> Result<(), ListRefused>
     }
 }
 
+// The next line, which has this number.
+fn next_line<'a>(
+    alloc: Global,
+    state: &State,
+    number: u32,
+    text: &'a [u8],
+) -> Result<ReadLine<'a>, ListRefused>
+    requires reached { IsReached (seen state.now) }
+    requires number { number ≡ suc (length (steps.lines_to (seen state.now))) }
+    ensures { MatchResult result (λ line. (line_of text.now ≡ Some (told line)) × EndsOnPace (seen state.now) (told line))
+        (AtLine (RefusedBehind (seen state.now) text.now)) }
+{
+    let Some(line) = read_line(alloc, text)? else {
+        check_pace(state, number)?;
+        return Err(ListRefused::Line(number));
+    };
+    if !line.is_instruction() {
+        check_pace(state, number)?;
+    }
+    Ok(line)
+}
+
 // The state behind one more line, which has this number.
 fn read_next(alloc: Global, state: State, number: u32, text: &[u8]) -> Result<State, ListRefused>
     requires reached { IsReached (seen state) }
     requires number { number ≡ suc (length (steps.lines_to (seen state))) }
     ensures { MatchResult result (λ next. Follows (seen state) (seen next) text.now) (AtLine (RefusedBehind (seen state) text.now)) }
 {
-    let Some(line) = read_line(alloc, text)? else {
-        check_pace(&state, number)?;
-        return Err(ListRefused::Line(number));
-    };
-    if !line.is_instruction() {
-        check_pace(&state, number)?;
+    let line = next_line(alloc, &state, number, text)?;
+    match state.step(alloc, line) {
+        Ok(Some(next)) => Ok(next),
+        Ok(None) => Err(ListRefused::Line(number)),
+        Err(NoMemory) => Err(ListRefused::NoMemory),
     }
-    match state.step(alloc, line)? {
-        Some(next) => Ok(next),
-        None => Err(ListRefused::Line(number)),
+}
+
+// Refuses what breaks the pace, or stands behind the last line feed, where a line of these bytes would have this number.
+fn check_end(state: &State, number: u32, rest: &[u8]) -> Result<(), ListRefused>
+    requires reached { IsReached (seen state.now) }
+    requires number { number ≡ suc (length (steps.lines_to (seen state.now))) }
+    ensures { MatchResult result (λ _. (off_pace 1 (steps.lines_to (seen state.now)) ≡ None) × (rest.now ≡ []))
+        (AtLine (λ at. refused_from (seen state.now) [] rest.now ≡ Some at)) }
+{
+    check_pace(state, number)?;
+    if rest.is_empty() {
+        Ok(())
+    } else {
+        Err(ListRefused::Line(number))
     }
 }
 
@@ -81,10 +115,7 @@ fn finish(state: State, number: u32, rest: &[u8]) -> Result<Image, ListRefused>
     ensures { MatchResult result (λ image. (seen state ≡ steps.Closed image) × (rest.now ≡ []))
         (AtLine (λ at. refused_from (seen state) [] rest.now ≡ Some at)) }
 {
-    check_pace(&state, number)?;
-    if !rest.is_empty() {
-        return Err(ListRefused::Line(number));
-    }
+    check_end(&state, number, rest)?;
     match state.into_image() {
         Some(image) => Ok(image),
         None => Err(ListRefused::Line(number)),

@@ -1,4 +1,5 @@
 use Rattle.std.proofs.Common.{◌≡◌, ◌+◌, suc, true, length, ap, sym, ◌∙◌, arith, subst}
+use Rattle.std.proofs.lemmas.Grind.{common_steps}
 use Rattle.marshalling.specs.Signatures.{IsSignature}
 use Rattle.code_words_listing.specs.Drafts.{image, callback}
 use Rattle.code_words_listing.specs.Steps.{no_side, is_among}
@@ -13,3 +14,6 @@ open_callback-requires c = λ none.
     ap (λ n. is_among n c.args.param.region) count ∙ sym c.is_among.ensures ∙ c.if-not-is_among.false in
     subst IsSignature (sym c.in_ok-push.ensures)
     (last-parameter (image c.args.draft no_side) (callback c.args.callback) c.args.left c.args.param c.requires.reached c.requires.allowed among none)
+
+pub returns : goal.returns
+returns c = grind (arith, common_steps)

@@ -1,0 +1,7 @@
+use Rattle.std.proofs.Common.{arith}
+use Rattle.std.proofs.lemmas.Grind.{common_steps}
+use Rattle.code_words_listing.proofs.Written.{lines_text_append}
+use Rattle.code_words_listing.proofs.listing.put_instructions.Goals as goal
+
+pub loop-op-preserved : goal.loop-op-preserved
+loop-op-preserved c = grind (arith, common_steps, lines_text_append)
