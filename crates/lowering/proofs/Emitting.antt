@@ -24,6 +24,10 @@ use Rattle.lowering.proofs.Slices.{arguments_drop, statements_drop}
 pub emitted_then : (old mid new a b : List Op) → mid ≡ old ++ a → new ≡ mid ++ b → new ≡ old ++ (a ++ b)
 emitted_then old mid new a b first second = second ∙ ap (λ l. l ++ b) first ∙ append_assoc old a b
 
+-- two parts, and what follows them
+pub both_then : (old mid new a b rest : List Op) → mid ≡ old ++ (a ++ b) → new ≡ mid ++ rest → new ≡ old ++ (a ++ (b ++ rest))
+both_then old mid new a b rest first second = emitted_then old mid new (a ++ b) rest first second ∙ ap (λ l. old ++ l) (append_assoc a b rest)
+
 -- the place behind a part
 pub place_after : (old mid a : List Op) (n : ℕ) → length a ≡ n → mid ≡ old ++ a → length mid ≡ length old + n
 place_after old mid a n long first = omega (arith, ap length first, length-append old a)

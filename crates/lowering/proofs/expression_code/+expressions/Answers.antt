@@ -1,11 +1,12 @@
-use Rattle.std.proofs.Common.{◌++◌, length, refl, sym, ap, ◌∙◌, subst, arith, rules}
+use Rattle.std.proofs.Common.{◌++◌, length, refl, sym, ap, ◌∙◌, subst, arith, rules, [], ◌∷◌}
 use Rattle.std.proofs.lemmas.Result.{IfOk-weaker}
+use Rattle.code_words.specs.declared.op.Op.TheVariants as ops
 use Rattle.check_insertion.specs.declared.erased.Expr.{the_lemmas}
-use Rattle.check_insertion.specs.Erased.{expression, index}
+use Rattle.check_insertion.specs.Erased.{expression, index, place}
 use Rattle.check_insertion.proofs.Rows.{call_of}
-use Rattle.lowering.specs.Code.{expression_size, expression_code}
+use Rattle.lowering.specs.Code.{expression_size, expression_code, Still, checks_code, order_code, place_code, sum_code, through_code}
 use Rattle.lowering.specs.Sized.{SizedExpression}
-use Rattle.lowering.proofs.Emitting.{place_after, after_expression, and_emitted, or_emitted, both_emitted, target_emitted, argument_at, argument_sized, argument_room, arguments_emitted}
+use Rattle.lowering.proofs.Emitting.{place_after, after_expression, and_emitted, or_emitted, both_emitted, target_emitted, argument_at, argument_sized, argument_room, arguments_emitted, emitted_then, both_then, right_emitted}
 use Rattle.lowering.proofs.expression_code.+expressions.Goals as goal
 
 pub emit_and-returns : goal.emit_and-returns
@@ -35,6 +36,55 @@ emit_arguments-loop-place-preserved t c =
     let ensured = c.emit_argument.ensures at.0 at.1.0 in
     let emitted = rw c.in_ok-emit_argument.was at ensured in
     arguments_emitted c.args.slot args c.loop-place.place at.0 c.loop-place.ops.items c.emit_argument.new.ops.items _ c.loop-place-test.true at.1.1 c.loop-place.invariant emitted
+
+pub emit_call-returns : goal.emit_call-returns
+emit_call-returns t c = IfOk-weaker c.put_call.result _ _ (λ _ e. emitted_then c.args.ops.now.items c.emit_arguments.new.ops.items _ _ _ c.in_ok-emit_arguments.ensures (e ∙ ap (λ o. c.emit_arguments.new.ops.items ++ ops.Tick ∷ o ∷ []) c.callee_op.ensures)) c.put_call.ensures
+
+pub emit_expression-returns-in_ok-emit_place-in-Load : goal.emit_expression-returns-in_ok-emit_place-in-Load
+emit_expression-returns-in_ok-emit_place-in-Load t c =
+    let old = c.args.ops.now.items in
+    IfOk-weaker c.put-in-Load.result _ _ (λ _ e. emitted_then old c.emit_place.new.ops.items _ _ _ c.in_ok-emit_place-in-Load.ensures (e ∙ ap (λ o. c.emit_place.new.ops.items ++ o ∷ []) c.load_op.ensures) ∙ sym (ap (λ x. old ++ expression_code c.args.slot (length old) (expression x)) c.in-Load.is)) c.put-in-Load.ensures
+
+pub emit_expression-returns-in_ok-emit_both-in-Sum : goal.emit_expression-returns-in_ok-emit_both-in-Sum
+emit_expression-returns-in_ok-emit_both-in-Sum t c =
+    let old = c.args.ops.now.items in
+    let mid = c.emit_both.new.ops.items in
+    let first = rw (c.deref-in-Sum.ensures, c.deref-in-Sum-2.ensures) at c.in_ok-emit_both-in-Sum.ensures in
+    IfOk-weaker c.emit_sum.result _ _ (λ _ e. both_then old mid _ _ _ _ first (e ∙ ap (λ cs. mid ++ sum_code c.args.slot c.in-Sum.direction c.in-Sum.size cs) c.as_slice-in-Sum.ensures.value) ∙ sym (ap (λ x. old ++ expression_code c.args.slot (length old) (expression x)) c.in-Sum.is)) c.emit_sum.ensures
+
+pub emit_expression-returns-in_ok-emit_both-in-Order : goal.emit_expression-returns-in_ok-emit_both-in-Order
+emit_expression-returns-in_ok-emit_both-in-Order t c =
+    let old = c.args.ops.now.items in
+    let mid = c.emit_both-in-Order.new.ops.items in
+    let first = rw (c.deref-in-Order.ensures, c.deref-in-Order-2.ensures) at c.in_ok-emit_both-in-Order.ensures in
+    IfOk-weaker c.emit_order.result _ _ (λ _ e. both_then old mid _ _ _ _ first (e ∙ ap (λ cs. mid ++ order_code c.args.slot c.in-Order.comparison cs c.as_slice-in-Order.result.now) c.as_slice-left.ensures.value ∙ ap (λ cs. mid ++ order_code c.args.slot c.in-Order.comparison c.in-Order.left_checks.items cs) c.as_slice-in-Order.ensures.value) ∙ sym (ap (λ x. old ++ expression_code c.args.slot (length old) (expression x)) c.in-Order.is)) c.emit_order.ensures
+
+pub emit_expression-returns-in_ok-emit_expression-in-Length : goal.emit_expression-returns-in_ok-emit_expression-in-Length
+emit_expression-returns-in_ok-emit_expression-in-Length t c =
+    let old = c.args.ops.now.items in
+    let mid = c.emit_expression.new.ops.items in
+    let first = rw (c.deref-in-Length.ensures) at c.in_ok-emit_expression-in-Length.ensures in
+    IfOk-weaker c.emit_length.result _ _ (λ _ e. emitted_then old mid _ _ _ first (e ∙ ap (λ cs. mid ++ (checks_code c.args.slot (Still c.in-Length.size) cs ++ ops.TextLength ∷ [])) c.as_slice-in-Length.ensures.value) ∙ sym (ap (λ x. old ++ expression_code c.args.slot (length old) (expression x)) c.in-Length.is)) c.emit_length.ensures
+
+pub emit_expression-returns-in_ok-emit_expression-in-Cast : goal.emit_expression-returns-in_ok-emit_expression-in-Cast
+emit_expression-returns-in_ok-emit_expression-in-Cast t c =
+    let old = c.args.ops.now.items in
+    let mid = c.emit_expression-in-Cast.new.ops.items in
+    let first = rw (c.deref-in-Cast.ensures) at c.in_ok-emit_expression-in-Cast.ensures in
+    IfOk-weaker c.emit_checks.result _ _ (λ _ e. emitted_then old mid _ _ _ first (e ∙ ap (λ cs. mid ++ checks_code c.args.slot (Still c.in-Cast.size) cs) c.as_slice-in-Cast.ensures.value) ∙ sym (ap (λ x. old ++ expression_code c.args.slot (length old) (expression x)) c.in-Cast.is)) c.emit_checks.ensures
+
+pub emit_place-returns-in_ok-emit_target-in-Through : goal.emit_place-returns-in_ok-emit_target-in-Through
+emit_place-returns-in_ok-emit_target-in-Through t c =
+    let old = c.args.ops.now.items in
+    let mid = c.emit_target.new.ops.items in
+    let first = rw (c.deref.ensures) at c.in_ok-emit_target-in-Through.ensures in
+    IfOk-weaker c.emit_through.result _ _ (λ _ e. both_then old mid _ _ _ _ first (e ∙ ap (λ cs. mid ++ through_code c.args.slot (index c.in-Through.index) c.in-Through.offset cs) c.as_slice.ensures.value) ∙ sym (ap (λ x. old ++ place_code c.args.slot (length old) (place x)) c.in-Through.is)) c.emit_through.ensures
+
+pub emit_two-returns : goal.emit_two-returns
+emit_two-returns t c = right_emitted c.args.slot (expression c.args.left.now) (expression c.args.right.now) c.args.ops.now.items c.emit_expression.new.ops.items c.emit_with.new.ops.items c.args.op c.emit_with.result c.in_ok-emit_expression.ensures c.emit_with.ensures
+
+pub emit_with-returns : goal.emit_with-returns
+emit_with-returns t c = IfOk-weaker c.put.result _ _ (λ _ e. emitted_then c.args.ops.now.items c.emit_expression.new.ops.items _ _ _ c.in_ok-emit_expression.ensures e) c.put.ensures
 
 -- ---- room for what is left
 
