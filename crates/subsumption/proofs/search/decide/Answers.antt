@@ -1,4 +1,4 @@
-use Rattle.std.proofs.Common.{◌≡◌, ◌≤ℤ◌, ◌<ℤ◌, arith}
+use Rattle.std.proofs.Common.{◌≡◌, ◌≤ℤ◌, ◌<ℤ◌, arith, rules}
 use Rattle.std.proofs.lemmas.Int.{ints}
 use Rattle.subsumption.specs.Graphs.{at}
 use Rattle.subsumption.proofs.Rounds.{relaxed_small}
@@ -23,3 +23,21 @@ returns c =
     let e : c.distance_at.result ≡ at c.args.search.now.distances.items c.args.goal.now.left = rw c.as_slice.ensures.value at c.distance_at.ensures in
     let over : c.args.goal.now.plus <ℤ at c.args.search.now.distances.items c.args.goal.now.left = (let h = c.if-distance_at-goal.false in omega (arith, ints, e)) in
     no_answer _ _ _ _ _ _ c.requires.edges c.requires.settled (rw c.as_slice-2.ensures.value at c.in_ok-values.ensures) c.requires.left c.requires.right over
+
+pub path_of-requires-clause-few : goal.path_of-requires-clause-few
+path_of-requires-clause-few c = search rules
+
+pub path_of-requires-clause-left : goal.path_of-requires-clause-left
+path_of-requires-clause-left c = search rules
+
+pub path_of-requires-clause-near : goal.path_of-requires-clause-near
+path_of-requires-clause-near c = search rules
+
+pub returns-in_err-facts : goal.returns-in_err-facts
+returns-in_err-facts c = search rules
+
+pub numbers-requires-clause-some : goal.numbers-requires-clause-some
+numbers-requires-clause-some c = search rules
+
+pub returns-in_err-values : goal.returns-in_err-values
+returns-in_err-values c = search rules

@@ -81,3 +81,57 @@ returns-clause-ok c =
     let P : Table → Fact → Type 0 = λ t f. Becomes t (Entails (t.facts ++ f ∷ [])) (view c.self.inside.vars c.self.inside.broken c.self.inside.path.items c.add.new.self) in
     subst (λ t. P t (fact_of c.args.a c.args.b)) c.self.view_is (subst (P (view c.self.inside.vars c.self.inside.broken c.self.inside.path.items c.self.inside.matrix)) c.fact_from-fact.ensures.value
     (add_becomes _ _ _ _ _ _ _ c.self.invariant after f about (table_here c)))
+
+pub contradiction-requires-clause-left : goal.contradiction-requires-clause-left
+contradiction-requires-clause-left c = search rules
+
+pub contradiction-requires-clause-right : goal.contradiction-requires-clause-right
+contradiction-requires-clause-right c = search rules
+
+pub contradiction-requires-clause-canonical : goal.contradiction-requires-clause-canonical
+contradiction-requires-clause-canonical c = search rules
+
+pub invariant_of-self : goal.invariant_of-self
+invariant_of-self c = search rules
+
+pub returns-in_err-contradiction-clause-ok : goal.returns-in_err-contradiction-clause-ok
+returns-in_err-contradiction-clause-ok c = search rules
+
+pub returns-in_err-contradiction-clause-table : goal.returns-in_err-contradiction-clause-table
+returns-in_err-contradiction-clause-table c = search rules
+
+pub returns-in_err-contradiction-clause-path : goal.returns-in_err-contradiction-clause-path
+returns-in_err-contradiction-clause-path c = search rules
+
+pub returns-in_err-contradiction-clause-err : goal.returns-in_err-contradiction-clause-err
+returns-in_err-contradiction-clause-err c = search rules
+
+pub add-requires-clause-placed : goal.add-requires-clause-placed
+add-requires-clause-placed c = search rules
+
+pub add-requires-clause-canonical : goal.add-requires-clause-canonical
+add-requires-clause-canonical c = search rules
+
+pub add-requires-clause-met : goal.add-requires-clause-met
+add-requires-clause-met c = search rules
+
+pub invariant_of-self-in_err-add : goal.invariant_of-self-in_err-add
+invariant_of-self-in_err-add c = search rules
+
+pub returns-in_err-add-clause-ok : goal.returns-in_err-add-clause-ok
+returns-in_err-add-clause-ok c = search rules
+
+pub returns-in_err-add-clause-table : goal.returns-in_err-add-clause-table
+returns-in_err-add-clause-table c = search rules
+
+pub returns-in_err-add-clause-path : goal.returns-in_err-add-clause-path
+returns-in_err-add-clause-path c = search rules
+
+pub returns-in_err-add-clause-err : goal.returns-in_err-add-clause-err
+returns-in_err-add-clause-err c = search rules
+
+pub invariant_of-self-2 : goal.invariant_of-self-2
+invariant_of-self-2 c = search rules
+
+pub returns-clause-path : goal.returns-clause-path
+returns-clause-path c = search rules
