@@ -2,6 +2,7 @@
 use Rattle.std.proofs.Common.{◌≡◌, ℕ, zero, suc, ◌+◌, ◌<◌, ◌≤◌, Bool, true, false, nat_lt, List, [], ◌∷◌, Option, Some, None, length, drop, refl, sym, subst, ap, ◌∙◌, arith}
 use Rattle.std.specs.Prelude.{IsTrue, slice_get}
 use Rattle.std.proofs.lemmas.Bool.Decides.{nat_tests}
+use Rattle.std.proofs.lemmas.Option.{none-some}
 use Rattle.std.proofs.Common.{ℤ}
 use Rattle.ckc_text.specs.declared.place.Place.{Place}
 use Rattle.act_words.specs.Arithmetic.{bit}
@@ -124,13 +125,13 @@ module _ (m : Machine) (f : Func) (can : CanRun m f) (slots : List ℕ) where
       there = grind (arith, nat_tests, room)
 
       by : (found : Option Op) → slice_get (ahead_of m) k ≡ found → operand_of found slots ≡ Some w → RunsTo (moved_on at slots stack m) (moved_on next slots (w ∷ stack) m)
-      by None stands is = absurd (cc)
+      by None stands is = absurd (none-some _ is)
       by (Some (ops.Const number)) stands is =
           let word_is : word number ≡ w = cc in
           one_step (ops.Const number) at stack next slots (w ∷ stack) (ahead_is m f k at (Some (ops.Const number)) can.here same stands) refl (λ s. rw (there, on, word_is) refl)
       by (Some (ops.Local slot)) stands is =
           one_step (ops.Local slot) at stack next slots (w ∷ stack) (ahead_is m f k at (Some (ops.Local slot)) can.here same stands) refl (λ s. rw (is, there, on) refl)
-      by (Some _) stands is = absurd (cc)
+      by (Some _) stands is = absurd (none-some _ is)
 
   -- a check of an element holds
   pub checked : (k at next : ℕ) (below : List ℕ) (p i b l h : ℕ) → at ≡ m.frame.next + k → next ≡ at + 1 → HoldsAt (slice_get (ahead_of m) k) p i b l h → RunsTo (moved_on at slots (h ∷ l ∷ b ∷ i ∷ p ∷ below) m) (moved_on next slots below m)
@@ -150,11 +151,11 @@ module _ (m : Machine) (f : Func) (can : CanRun m f) (slots : List ℕ) where
       there = grind (arith, nat_tests, room)
 
       by : (found : Option Op) → slice_get (ahead_of m) k ≡ found → moved_of found a n ≡ Some w → RunsTo (moved_on at slots (n ∷ a ∷ below) m) (moved_on next slots (w ∷ below) m)
-      by None stands is = absurd (cc)
+      by None stands is = absurd (none-some _ is)
       by (Some (ops.Index size)) stands is =
           let to : element a n size ≡ w = cc in
           one_step (ops.Index size) at (n ∷ a ∷ below) next slots (w ∷ below) (ahead_is m f k at (Some (ops.Index size)) can.here same stands) refl (λ s. rw (there, on, to) refl)
-      by (Some _) stands is = absurd (cc)
+      by (Some _) stands is = absurd (none-some _ is)
 
   -- two words are combined
   pub combined : (k at next : ℕ) (below : List ℕ) (a b w : ℕ) → at ≡ m.frame.next + k → next ≡ at + 1 → combined_of (slice_get (ahead_of m) k) a b ≡ Some w → length below < f.stack → RunsTo (moved_on at slots (b ∷ a ∷ below) m) (moved_on next slots (w ∷ below) m)
@@ -168,13 +169,13 @@ module _ (m : Machine) (f : Func) (can : CanRun m f) (slots : List ℕ) where
       checks operator place (Fails ending) is has = absurd (cc)
 
       by : (found : Option Op) → slice_get (ahead_of m) k ≡ found → combined_of found a b ≡ Some w → RunsTo (moved_on at slots (b ∷ a ∷ below) m) (moved_on next slots (w ∷ below) m)
-      by None stands is = absurd (cc)
+      by None stands is = absurd (none-some _ is)
       by (Some (ops.Arithmetic operator place)) stands is =
           one_step (ops.Arithmetic operator place) at (b ∷ a ∷ below) next slots (w ∷ below) (ahead_is m f k at (Some (ops.Arithmetic operator place)) can.here same stands) refl (checks operator place (arithmetic_result operator place (signed a) (signed b)) refl is)
       by (Some (ops.Compare comparison)) stands is =
           let to : bit (holds_of_words comparison a b) ≡ w = cc in
           one_step (ops.Compare comparison) at (b ∷ a ∷ below) next slots (w ∷ below) (ahead_is m f k at (Some (ops.Compare comparison)) can.here same stands) refl (λ s. rw (there, on, to) refl)
-      by (Some _) stands is = absurd (cc)
+      by (Some _) stands is = absurd (none-some _ is)
 
 -- the element is checked, and its address found
 pub element_runs : (m : Machine) (f : Func) → CanRun m f → (address : ℕ) → IsElement (ahead_of m) m.frame.slots address → length m.frame.stack + 6 ≤ f.stack → RunsTo m (moved_on (m.frame.next + 9) m.frame.slots (address ∷ m.frame.stack) m)
