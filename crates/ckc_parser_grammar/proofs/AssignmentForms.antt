@@ -1,5 +1,5 @@
 -- Assignments as forms that are built of others: reading them goes one way, and where they are stuck they fail.
-use Rattle.std.proofs.Common.{◌≡◌, ◌≤◌, ◌<◌, ◌||◌, ◌⊎◌, inl, ℕ, zero, suc, length, Bool, true, false, List, [], ◌∷◌, refl, sym, ap, subst, ◌∙◌, arith, Some}
+use Rattle.std.proofs.Common.{◌≡◌, ◌≤◌, ◌<◌, ◌||◌, ◌⊎◌, inl, ℕ, zero, suc, length, Bool, true, false, List, [], ◌∷◌, refl, sym, ap, subst, ◌∙◌, arith, Some, true≢false}
 use Rattle.std.specs.Option.{is_some}
 use Rattle.ckc_text.specs.declared.place.Span.{Span}
 use Rattle.ckc_lexer.specs.declared.token.Token.{Token}
@@ -94,7 +94,7 @@ assigned_exact = either_all (after_all unary_exact) target_exact
 step_apart : Apart step_word unary_word
 step_apart kinds.PlusPlus so = refl
 step_apart kinds.MinusMinus so = refl
-step_apart _ so = absurd cc
+step_apart _ so = absurd (true≢false (sym so))
 
 unary_apart : Apart unary_word step_word
 unary_apart kinds.PlusPlus so = absurd cc
@@ -155,7 +155,7 @@ no_unary (t ∷ ts) none = (either_false (step_word t.kind) (unary_word t.kind) 
 step_assigns : (k : TokenKind) → step_word k ≡ true → assignment_word k ≡ true
 step_assigns kinds.PlusPlus so = refl
 step_assigns kinds.MinusMinus so = refl
-step_assigns _ so = absurd cc
+step_assigns _ so = absurd (true≢false (sym so))
 
 pub either_true : (a c : Bool) → c ≡ true → a || c ≡ true
 either_true true c so = refl
@@ -252,7 +252,7 @@ BundleB = EitherS (next_is close_brace) (AfterB (Is kinds.CloseBrace) DoneS) (Se
 
 brace_apart : Apart close_brace assignment_word
 brace_apart kinds.CloseBrace so = refl
-brace_apart _ so = absurd cc
+brace_apart _ so = absurd (true≢false (sym so))
 
 word_apart : Apart assignment_word close_brace
 word_apart kinds.CloseBrace so = absurd cc

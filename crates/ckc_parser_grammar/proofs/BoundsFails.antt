@@ -1,5 +1,5 @@
 -- What is needed where bounds are stuck: the word `unknown` may be bounds of its own, or an expression.
-use Rattle.std.proofs.Common.{◌≡◌, ◌≤◌, ◌<◌, ◌+◌, ◌⊎◌, inl, inr, ℕ, zero, suc, nat_lt, length, Bool, true, false, List, [], ◌∷◌, ◌&&◌, ◌||◌, codes, Option, Some, None, refl, sym, ap, subst, ◌∙◌, arith}
+use Rattle.std.proofs.Common.{◌≡◌, ◌≤◌, ◌<◌, ◌+◌, ◌⊎◌, inl, inr, ℕ, zero, suc, nat_lt, length, Bool, true, false, List, [], ◌∷◌, ◌&&◌, ◌||◌, codes, Option, Some, None, refl, sym, ap, subst, ◌∙◌, arith, true≢false}
 use Rattle.std.specs.Str.{bytes_eq}
 use Rattle.std.specs.Option.{is_some}
 use Rattle.std.proofs.lemmas.Slice.Eq.{bytes_eq-Decides}
@@ -61,7 +61,7 @@ word_at (kinds.Name x) so = by_first (bytes_eq x (codes "count")) refl
     by_first : (so : Bool) → bytes_eq x (codes "count") ≡ so → Worded (kinds.Name x)
     by_first true first = record { head = counted; is = bounds.count (same_bytes x (codes "count") first) }
     by_first false first = by_second (bytes_eq x (codes "byte_count")) refl first
-word_at _ so = absurd cc
+word_at _ so = absurd (true≢false (sym so))
 
 pub head_word : {k : TokenKind} {h : Head} → IsHead k h → bounds_word k ≡ true
 head_word (bounds.count same) = rw same refl
@@ -341,7 +341,7 @@ after_started {y} {q} t {us} so = by_kind t.kind so
     by_kind kinds.OpenBracket so = unary_started {r = around q.from (node q.from beside nowhere)} refl (b.selectors (g.name refl) (b.index (no_binary 10)))
     by_kind kinds.Dot so = unary_started {r = around q.from (node q.from)} refl (b.selectors (g.name refl) b.dot)
     by_kind kinds.Arrow so = unary_started {r = around q.from (node q.from)} refl (b.selectors (g.name refl) b.arrow)
-    by_kind _ so = absurd cc
+    by_kind _ so = absurd (true≢false (sym so))
 
 started : {y : List ℕ} {q : Span} {t : Token} {us : List Token} → goes_on (t ∷ us) ≡ true → Started y q t us
 started {y} {q} {t} {us} so = by_operator (operator_at (t ∷ us)) refl

@@ -1,5 +1,5 @@
 -- Declarations as forms that are built of others: reading them goes one way, and where they are stuck they fail.
-use Rattle.std.proofs.Common.{◌≡◌, ◌≤◌, ◌<◌, ℕ, zero, suc, true, false, List, ◌∷◌, Option, refl, sym, subst, arith, ap, Some}
+use Rattle.std.proofs.Common.{◌≡◌, ◌≤◌, ◌<◌, ℕ, zero, suc, true, false, List, ◌∷◌, Option, refl, sym, subst, arith, ap, Some, true≢false}
 use Rattle.std.specs.Option.{is_some}
 use Rattle.ckc_text.specs.declared.place.Span.{Span}
 use Rattle.ckc_lexer.specs.declared.token.Token.{Token}
@@ -149,7 +149,7 @@ ValueB = EitherS (next_is open_brace) (AfterB (Is kinds.OpenBrace) ConstantsB) (
 
 brace_apart : Apart open_brace unary_word
 brace_apart kinds.OpenBrace so = refl
-brace_apart _ so = absurd cc
+brace_apart _ so = absurd (true≢false (sym so))
 
 word_apart : Apart unary_word open_brace
 word_apart kinds.OpenBrace so = absurd cc

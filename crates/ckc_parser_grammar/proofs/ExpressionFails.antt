@@ -1,5 +1,5 @@
 -- Where reading an expression is stuck, it fails.
-use Rattle.std.proofs.Common.{◌≡◌, ◌≤◌, ◌<◌, ◌+◌, ◌⊎◌, inl, inr, ℕ, suc, length, true, false, List, [], ◌∷◌, Some, refl, sym, ap, subst, ◌∙◌, arith}
+use Rattle.std.proofs.Common.{◌≡◌, ◌≤◌, ◌<◌, ◌+◌, ◌⊎◌, inl, inr, ℕ, suc, length, true, false, List, [], ◌∷◌, Some, refl, sym, ap, subst, ◌∙◌, arith, true≢false}
 use Rattle.std.specs.Option.{is_some}
 use Rattle.ckc_text.specs.declared.place.Span.{Span}
 use Rattle.ckc_lexer.specs.declared.token.Token.{Token}
@@ -195,7 +195,7 @@ select_fails {d} {v} {k} {s} {ts} low high so = by_kind k so
     by_kind kinds.OpenBracket so = too_deep links.unselected low (links.index (no_binary 10)) (start_is ∙ ap (λ (x : Reach). (around v.1.from x).start) (sym (beside_nowhere (reach v)))) (λ q c. index_deep (omega arith) c refl)
     by_kind kinds.Dot so = too_deep links.unselected low links.dot start_is (λ q c. dot_deep c refl)
     by_kind kinds.Arrow so = too_deep links.unselected low links.arrow start_is (λ q c. arrow_deep c refl)
-    by_kind _ so = absurd cc
+    by_kind _ so = absurd (true≢false (sym so))
 
 -- ---- an operator with its right operand
 
@@ -287,7 +287,7 @@ deep_at (kinds.Keyword keywords.Malloc) so = malloc_deep (primaries.malloc refl)
 deep_at (kinds.Keyword keywords.TMalloc) so = malloc_deep (primaries.malloc refl)
 deep_at (kinds.Keyword keywords.Calloc) so = calloc_deep (primaries.calloc refl)
 deep_at (kinds.Keyword keywords.NtCalloc) so = calloc_deep (primaries.calloc refl)
-deep_at _ so = absurd cc
+deep_at _ so = absurd (true≢false (sym so))
 
 primary_deep : {d : ℕ} {k : TokenKind} {s : Span} {ts : List Token} → d ≤ 200 → 200 ≤ d → Deep k → Fails d PrimaryS BeginsPrimary (token k s ∷ ts) (failures.too_deep s.from)
 primary_deep {s} {ts} low high x = fails_as primaries.to_s primaries.into_b primaries.from_b (fails_deep_head primaries.one_head x.is low high (x.plain s.from) (x.begun s.from ts))

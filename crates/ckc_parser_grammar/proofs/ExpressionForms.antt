@@ -1,5 +1,5 @@
 -- Expressions and bounds as forms that are built of others: reading them goes one way.
-use Rattle.std.proofs.Common.{◌≡◌, ◌≤◌, ◌<◌, ℕ, zero, suc, length, Bool, true, false, List, [], ◌∷◌, Some, refl, ap, arith}
+use Rattle.std.proofs.Common.{◌≡◌, ◌≤◌, ◌<◌, ℕ, zero, suc, length, Bool, true, false, List, [], ◌∷◌, Some, refl, ap, arith, sym, true≢false}
 use Rattle.std.specs.Option.{is_some}
 use Rattle.std.proofs.lemmas.Bool.{eq-eqb}
 use Rattle.ckc_text.specs.declared.place.Span.{Span}
@@ -183,7 +183,7 @@ no_class (t ∷ ts) so = by_kind t.kind so
   where
     by_kind : (k : TokenKind) → close_paren k ≡ true → class k ≡ 0
     by_kind kinds.CloseParen so = refl
-    by_kind _ so = absurd cc
+    by_kind _ so = absurd (true≢false (sym so))
 
 pub no_paren : {n : ℕ} {ts m : List Token} {e : Expression} {o : Span} → SpellsBinary n ts e o m → next_is close_paren ts ≡ false
 no_paren {ts} d = by_test (next_is close_paren ts) refl

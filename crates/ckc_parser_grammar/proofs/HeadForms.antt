@@ -1,6 +1,6 @@
 -- The heads of statements as forms that are built of others: reading them goes one way, and where they are stuck they fail.
 -- A mark that ends a part is read where the next part begins, so the whole parts are added to their beginnings.
-use Rattle.std.proofs.Common.{◌≡◌, ◌≤◌, ℕ, Bool, true, false, List, Option, refl, sym, ◌∙◌}
+use Rattle.std.proofs.Common.{◌≡◌, ◌≤◌, ℕ, Bool, true, false, List, Option, refl, sym, ◌∙◌, true≢false}
 use Rattle.ckc_lexer.specs.declared.token.Token.{Token}
 use Rattle.ckc_lexer.specs.declared.token.TokenKind.{TokenKind}
 use Rattle.ckc_lexer.specs.declared.keyword.Keyword.TheVariants as keywords
@@ -34,11 +34,11 @@ use Rattle.ckc_parser_grammar.proofs.AssignmentForms.{AssignmentS, assigned, ass
 
 pub semicolon_type : Apart semicolon type_word
 semicolon_type kinds.Semicolon so = refl
-semicolon_type _ so = absurd cc
+semicolon_type _ so = absurd (true≢false (sym so))
 
 pub semicolon_assignment : Apart semicolon assignment_word
 semicolon_assignment kinds.Semicolon so = refl
-semicolon_assignment _ so = absurd cc
+semicolon_assignment _ so = absurd (true≢false (sym so))
 
 pub type_assignment : Apart type_word assignment_word
 type_assignment (kinds.Keyword keywords.Int) so = refl
@@ -50,7 +50,7 @@ type_assignment (kinds.Keyword keywords.NtArrayPtr) so = refl
 type_assignment (kinds.Keyword keywords.TPtr) so = refl
 type_assignment (kinds.Keyword keywords.TArrayPtr) so = refl
 type_assignment (kinds.Keyword keywords.TNtArrayPtr) so = refl
-type_assignment _ so = absurd cc
+type_assignment _ so = absurd (true≢false (sym so))
 
 -- of two tests that no token meets both of, the second keeps off the first
 pub turned : {is other : TokenKind → Bool} → Apart is other → Apart other is
@@ -154,7 +154,7 @@ ValueB = EndedB (Is kinds.Semicolon) (BinaryS 10) (BeginsBinary 10)
 
 semicolon_unary : Apart semicolon unary_word
 semicolon_unary kinds.Semicolon so = refl
-semicolon_unary _ so = absurd cc
+semicolon_unary _ so = absurd (true≢false (sym so))
 
 condition_exact_marked : Exact nowhere (MarkedS ValueS) (MarkedB ValueB)
 condition_exact_marked = either_all (after_all done_all) (ended_all (binary_exact 10))
@@ -197,7 +197,7 @@ StepB = EitherS (next_is close_paren) (AfterB (Is kinds.CloseParen) DoneS) (Ende
 
 paren_assignment : Apart close_paren assignment_word
 paren_assignment kinds.CloseParen so = refl
-paren_assignment _ so = absurd cc
+paren_assignment _ so = absurd (true≢false (sym so))
 
 step_exact_marked : Exact nowhere StepS StepB
 step_exact_marked = either_all (after_all done_all) (ended_all assignment_exact)

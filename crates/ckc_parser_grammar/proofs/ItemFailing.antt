@@ -1,5 +1,5 @@
 -- Items: reading them goes one way, and where they are stuck they fail.
-use Rattle.std.proofs.Common.{◌≡◌, ◌<◌, ℕ, length, Bool, true, false, List, [], ◌∷◌, Option, refl, sym, ap, subst, arith}
+use Rattle.std.proofs.Common.{◌≡◌, ◌<◌, ℕ, length, Bool, true, false, List, [], ◌∷◌, Option, refl, sym, ap, subst, arith, true≢false}
 use Rattle.ckc_text.specs.declared.place.Span.{Span}
 use Rattle.ckc_lexer.specs.declared.token.Token.{Token}
 use Rattle.ckc_lexer.specs.declared.token.TokenKind.{TokenKind}
@@ -73,7 +73,7 @@ more_ahead (call e) = call (tg.more e)
 
 paren_ahead : (x : List ℕ) (s p : Span) (us : List Token) (k : TokenKind) → open_paren k ≡ true → Ahead (token (kinds.Name x) s ∷ token k p ∷ us)
 paren_ahead x s p us kinds.OpenParen so = call (tg.none refl)
-paren_ahead x s p us _ so = absurd cc
+paren_ahead x s p us _ so = absurd (true≢false (sym so))
 
 name_ahead : (x : List ℕ) (s : Span) (us : List Token) → next_is open_paren us ≡ true → Ahead (token (kinds.Name x) s ∷ us)
 name_ahead x s [] so = absurd cc

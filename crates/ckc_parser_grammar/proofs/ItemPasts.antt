@@ -1,6 +1,6 @@
 -- What an item goes on with past the tokens that say which it is: a structure behind its brace, a function behind its
 -- result or its parenthesis, variables behind their type.
-use Rattle.std.proofs.Common.{◌≡◌, ◌≤◌, ◌<◌, ℕ, length, Bool, true, false, List, [], ◌∷◌, Option, refl, sym, ap, subst, arith}
+use Rattle.std.proofs.Common.{◌≡◌, ◌≤◌, ◌<◌, ℕ, length, Bool, true, false, List, [], ◌∷◌, Option, refl, sym, ap, subst, arith, true≢false}
 use Rattle.ckc_text.specs.declared.place.Span.{Span}
 use Rattle.ckc_lexer.specs.declared.token.Token.{Token}
 use Rattle.ckc_lexer.specs.declared.token.TokenKind.{TokenKind}
@@ -76,7 +76,7 @@ typed_role (t ∷ ts) so = by_kind t.kind so
     by_kind (kinds.Keyword keywords.TPtr) so = refl
     by_kind (kinds.Keyword keywords.TArrayPtr) so = refl
     by_kind (kinds.Keyword keywords.TNtArrayPtr) so = refl
-    by_kind _ so = absurd cc
+    by_kind _ so = absurd (true≢false (sym so))
 
 not_kind : (ts : List Token) → next_is type_word ts ≡ true → next_is kind_word ts ≡ false
 not_kind [] so = absurd cc

@@ -1,6 +1,6 @@
 -- Members, parameters and bodies as forms that are built of others: reading them goes one way, and where they are stuck
 -- they fail.
-use Rattle.std.proofs.Common.{◌≡◌, ◌≤◌, ◌<◌, ℕ, zero, suc, length, Bool, true, false, List, [], ◌∷◌, Option, refl, sym, subst, arith, ap, Some}
+use Rattle.std.proofs.Common.{◌≡◌, ◌≤◌, ◌<◌, ℕ, zero, suc, length, Bool, true, false, List, [], ◌∷◌, Option, refl, sym, subst, arith, ap, Some, true≢false}
 use Rattle.std.specs.Option.{is_some}
 use Rattle.ckc_text.specs.declared.place.Span.{Span}
 use Rattle.ckc_lexer.specs.declared.token.Token.{Token}
@@ -117,7 +117,7 @@ OthersB = EitherS (next_is close_brace) (AfterB (Is kinds.CloseBrace) DoneS) Beg
 
 brace_type : Apart close_brace type_word
 brace_type kinds.CloseBrace so = refl
-brace_type _ so = absurd cc
+brace_type _ so = absurd (true≢false (sym so))
 
 members_at : {x : List Member} {ts m : List Token} → SpellsMembers ts x m → next_is type_word ts ≡ true
 members_at (g.one d) = member_at d
@@ -290,11 +290,11 @@ TakenB = EitherS (next_is close_paren) (AfterB (Is kinds.CloseParen) DoneS) Some
 
 paren_type : Apart close_paren type_word
 paren_type kinds.CloseParen so = refl
-paren_type _ so = absurd cc
+paren_type _ so = absurd (true≢false (sym so))
 
 pub void_type : Apart void_word type_word
 void_type (kinds.Keyword keywords.Void) so = refl
-void_type _ so = absurd cc
+void_type _ so = absurd (true≢false (sym so))
 
 listed_at : {x : List Member} {t : Span} {ts m : List Token} → SpellsListed ts x t m → next_is type_word ts ≡ true
 listed_at (g.one d) = member_at d
@@ -432,16 +432,16 @@ implied {is} fewer (t ∷ ts) none = by_next is (t ∷ ts) (λ so. never (fewer 
 
 semicolon_body : (k : TokenKind) → semicolon k ≡ true → body_word k ≡ true
 semicolon_body kinds.Semicolon so = refl
-semicolon_body _ so = absurd cc
+semicolon_body _ so = absurd (true≢false (sym so))
 
 brace_body : (k : TokenKind) → open_brace k ≡ true → body_word k ≡ true
 brace_body kinds.OpenBrace so = refl
-brace_body _ so = absurd cc
+brace_body _ so = absurd (true≢false (sym so))
 
 mark_body : (k : TokenKind) → mark_word k ≡ true → body_word k ≡ true
 mark_body (kinds.Keyword keywords.Checked) so = refl
 mark_body (kinds.Keyword keywords.Unchecked) so = refl
-mark_body _ so = absurd cc
+mark_body _ so = absurd (true≢false (sym so))
 
 pub body_fails : {ts : List Token} {f : Failure} → StuckBody ts f → Fails 0 BodyS BeginsBody ts f
 body_fails {ts} (stuck.no_body none) = fails_as body_to body_into body_from (fails_no (implied semicolon_body ts none) (fails_put marked_exact (omega arith) (fails_no (implied mark_body ts none) (fails_at_first (is_it open_brace refl) (omega arith) (implied brace_body ts none)))))

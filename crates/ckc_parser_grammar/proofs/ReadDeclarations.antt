@@ -1,5 +1,5 @@
 -- Each list of tokens is read as a declaration, an assignment or a part of one, or has a refusal.
-use Rattle.std.proofs.Common.{◌≡◌, ◌≤◌, ◌<◌, ℕ, suc, length, true, false, List, [], ◌∷◌, Option, Some, None, arith, refl}
+use Rattle.std.proofs.Common.{◌≡◌, ◌≤◌, ◌<◌, ℕ, suc, length, true, false, List, [], ◌∷◌, Option, Some, None, arith, refl, sym, true≢false}
 use Rattle.ckc_text.specs.declared.place.Span.{Span}
 use Rattle.ckc_lexer.specs.declared.token.Token.{Token}
 use Rattle.ckc_lexer.specs.declared.token.TokenKind.{TokenKind}
@@ -39,34 +39,34 @@ use Rattle.ckc_parser_grammar.proofs.OneMeaning.{some_word}
 
 is_colon : Marks kinds.Colon colon
 is_colon kinds.Colon so = it
-is_colon _ so = absurd cc
+is_colon _ so = absurd (true≢false (sym so))
 
 is_equal : Marks kinds.Equal equal
 is_equal kinds.Equal so = it
-is_equal _ so = absurd cc
+is_equal _ so = absurd (true≢false (sym so))
 
 is_open_bracket : Marks kinds.OpenBracket open_bracket
 is_open_bracket kinds.OpenBracket so = it
-is_open_bracket _ so = absurd cc
+is_open_bracket _ so = absurd (true≢false (sym so))
 
 pub is_open_brace : Marks kinds.OpenBrace open_brace
 is_open_brace kinds.OpenBrace so = it
-is_open_brace _ so = absurd cc
+is_open_brace _ so = absurd (true≢false (sym so))
 
 pub is_close_brace : Marks kinds.CloseBrace close_brace
 is_close_brace kinds.CloseBrace so = it
-is_close_brace _ so = absurd cc
+is_close_brace _ so = absurd (true≢false (sym so))
 
 pub is_semicolon : Marks kinds.Semicolon semicolon
 is_semicolon kinds.Semicolon so = it
-is_semicolon _ so = absurd cc
+is_semicolon _ so = absurd (true≢false (sym so))
 
 data IsNumber : TokenKind → Type 0 where
   number : {n : ℕ} → IsNumber (kinds.Number n)
 
 is_number : (k : TokenKind) → number_token k ≡ true → IsNumber k
 is_number (kinds.Number n) so = number
-is_number _ so = absurd cc
+is_number _ so = absurd (true≢false (sym so))
 
 array_word_at : (k : TokenKind) → array_word k ≡ true → (w : ArrayKind) × (array_kind_of k ≡ Some w)
 array_word_at k so = some_word (array_kind_of k) so
@@ -82,7 +82,7 @@ signed_at : (k : TokenKind) → minus_or_constant k ≡ true → StartsSigned k
 signed_at kinds.Minus so = minus
 signed_at (kinds.Number n) so = plain refl
 signed_at (kinds.Character n) so = plain refl
-signed_at _ so = absurd cc
+signed_at _ so = absurd (true≢false (sym so))
 
 data EndsConstant : TokenKind → Type 0 where
   comma : EndsConstant kinds.Comma
@@ -91,7 +91,7 @@ data EndsConstant : TokenKind → Type 0 where
 ends_constant : (k : TokenKind) → comma_or_brace k ≡ true → EndsConstant k
 ends_constant kinds.Comma so = comma
 ends_constant kinds.CloseBrace so = brace
-ends_constant _ so = absurd cc
+ends_constant _ so = absurd (true≢false (sym so))
 
 data IsAssignWord : TokenKind → Type 0 where
   stores : {k : TokenKind} {w : StoreOperator} → store_operator_of k ≡ Some w → IsAssignWord k
@@ -103,7 +103,7 @@ assign_word_at kinds.PlusEqual so = stores refl
 assign_word_at kinds.MinusEqual so = stores refl
 assign_word_at kinds.PlusPlus so = steps refl
 assign_word_at kinds.MinusMinus so = steps refl
-assign_word_at _ so = absurd cc
+assign_word_at _ so = absurd (true≢false (sym so))
 
 -- the first token of an assignment
 data StartsAssignment : TokenKind → Type 0 where

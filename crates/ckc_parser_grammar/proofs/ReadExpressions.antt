@@ -1,5 +1,5 @@
 -- Each list of tokens is read as an expression or as bounds, or has a refusal.
-use Rattle.std.proofs.Common.{◌≡◌, ◌≤◌, ◌<◌, ◌+◌, inl, inr, ℕ, zero, suc, length, Bool, true, false, List, [], ◌∷◌, Option, Some, None, refl, arith}
+use Rattle.std.proofs.Common.{◌≡◌, ◌≤◌, ◌<◌, ◌+◌, inl, inr, ℕ, zero, suc, length, Bool, true, false, List, [], ◌∷◌, Option, Some, None, refl, arith, sym, true≢false}
 use Rattle.std.specs.Prelude.{codes}
 use Rattle.std.proofs.lemmas.Bool.{eqb-true}
 use Rattle.ckc_text.specs.declared.place.Span.{Span}
@@ -76,15 +76,15 @@ Shorter n = (us : List Token) → length us < n → (level d : ℕ) → ReadsBin
 
 pub is_close_paren : Marks kinds.CloseParen close_paren
 is_close_paren kinds.CloseParen so = it
-is_close_paren _ so = absurd cc
+is_close_paren _ so = absurd (true≢false (sym so))
 
 pub is_close_bracket : Marks kinds.CloseBracket close_bracket
 is_close_bracket kinds.CloseBracket so = it
-is_close_bracket _ so = absurd cc
+is_close_bracket _ so = absurd (true≢false (sym so))
 
 pub is_comma : Marks kinds.Comma words.comma
 is_comma kinds.Comma so = it
-is_comma _ so = absurd cc
+is_comma _ so = absurd (true≢false (sym so))
 
 pub data EndsArgument : TokenKind → Type 0 where
   comma : EndsArgument kinds.Comma
@@ -93,7 +93,7 @@ pub data EndsArgument : TokenKind → Type 0 where
 pub ends_argument : (k : TokenKind) → comma_or_paren k ≡ true → EndsArgument k
 ends_argument kinds.Comma so = comma
 ends_argument kinds.CloseParen so = paren
-ends_argument _ so = absurd cc
+ends_argument _ so = absurd (true≢false (sym so))
 
 data Selects : TokenKind → Type 0 where
   bracket : Selects kinds.OpenBracket
@@ -104,7 +104,7 @@ selects : (k : TokenKind) → selector k ≡ true → Selects k
 selects kinds.OpenBracket so = bracket
 selects kinds.Dot so = dot
 selects kinds.Arrow so = arrow
-selects _ so = absurd cc
+selects _ so = absurd (true≢false (sym so))
 
 -- ---- operators behind an expression
 
@@ -240,7 +240,7 @@ data IsUnknown : TokenKind → Type 0 where
 
 unknown_at : (k : TokenKind) → unknown_word k ≡ true → IsUnknown k
 unknown_at (kinds.Name y) so = word (same_bytes y (codes "unknown") so)
-unknown_at _ so = absurd cc
+unknown_at _ so = absurd (true≢false (sym so))
 
 no_paren : {y : List ℕ} (q : Span) (ts : List Token) → y ≡ codes "unknown" → is_unknown (token (kinds.Name y) q ∷ ts) ≡ false → next_is close_paren ts ≡ false
 no_paren q ts too none = rw (is_word too) at none

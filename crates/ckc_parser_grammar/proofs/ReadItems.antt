@@ -1,5 +1,5 @@
 -- Each list of tokens is read as a whole source, or has a refusal.
-use Rattle.std.proofs.Common.{◌≡◌, ◌≤◌, ◌<◌, ◌⊎◌, inl, inr, ℕ, length, Bool, true, false, List, [], ◌∷◌, Option, Some, None, refl, arith}
+use Rattle.std.proofs.Common.{◌≡◌, ◌≤◌, ◌<◌, ◌⊎◌, inl, inr, ℕ, length, Bool, true, false, List, [], ◌∷◌, Option, Some, None, refl, arith, sym, true≢false}
 use Rattle.ckc_text.specs.declared.fault.SourceFault.{SourceFault}
 use Rattle.ckc_text.specs.declared.place.Span.{Span}
 use Rattle.ckc_lexer.specs.declared.token.CheckedScope.{CheckedScope}
@@ -48,11 +48,11 @@ use Rattle.ckc_parser_grammar.proofs.OneMeaning.{some_word}
 
 is_void : Marks (kinds.Keyword keywords.Void) void_word
 is_void (kinds.Keyword keywords.Void) so = it
-is_void _ so = absurd cc
+is_void _ so = absurd (true≢false (sym so))
 
 is_struct : Marks (kinds.Keyword keywords.Struct) struct_word
 is_struct (kinds.Keyword keywords.Struct) so = it
-is_struct _ so = absurd cc
+is_struct _ so = absurd (true≢false (sym so))
 
 data IsScope : TokenKind → Type 0 where
   scope : {c : CheckedScope} {r : Region} → SpellsRegion c r → IsScope (kinds.Scope c)
@@ -60,7 +60,7 @@ data IsScope : TokenKind → Type 0 where
 scope_at : (k : TokenKind) → scope_word k ≡ true → IsScope k
 scope_at (kinds.Scope scopes.On) so = scope g.on
 scope_at (kinds.Scope scopes.Off) so = scope g.off
-scope_at _ so = absurd cc
+scope_at _ so = absurd (true≢false (sym so))
 
 mark_at : (k : TokenKind) → mark_word k ≡ true → (w : Mark) × (mark_of k ≡ Some w)
 mark_at k so = some_word (mark_of k) so
@@ -72,7 +72,7 @@ data IsKindWord : TokenKind → Type 0 where
 kind_word_at : (k : TokenKind) → kind_word k ≡ true → IsKindWord k
 kind_word_at (kinds.Keyword keywords.Tainted) so = tainted
 kind_word_at (kinds.Keyword keywords.Callback) so = callback
-kind_word_at _ so = absurd cc
+kind_word_at _ so = absurd (true≢false (sym so))
 
 -- what ends a function or begins its body
 data StartsBody : TokenKind → Type 0 where
@@ -85,7 +85,7 @@ body_at kinds.Semicolon so = none
 body_at kinds.OpenBrace so = brace
 body_at (kinds.Keyword keywords.Checked) so = mark refl
 body_at (kinds.Keyword keywords.Unchecked) so = mark refl
-body_at _ so = absurd cc
+body_at _ so = absurd (true≢false (sym so))
 
 -- ---- members and parameters
 

@@ -1,5 +1,5 @@
 -- Each list of tokens is read as a statement or as the statements of a block, or has a refusal.
-use Rattle.std.proofs.Common.{◌≡◌, ◌≤◌, ◌<◌, ◌||◌, ℕ, suc, length, Bool, true, false, List, ◌∷◌, Option, Some, None, refl, arith}
+use Rattle.std.proofs.Common.{◌≡◌, ◌≤◌, ◌<◌, ◌||◌, ℕ, suc, length, Bool, true, false, List, ◌∷◌, Option, Some, None, refl, arith, sym, true≢false}
 use Rattle.ckc_text.specs.declared.place.Span.{Span}
 use Rattle.ckc_lexer.specs.declared.token.Token.{Token}
 use Rattle.ckc_lexer.specs.declared.token.TokenKind.{TokenKind}
@@ -45,7 +45,7 @@ Shorter n = (us : List Token) → length us < n → (d : ℕ) → d ≤ 200 → 
 
 is_else : Marks (kinds.Keyword keywords.Else) else_word
 is_else (kinds.Keyword keywords.Else) so = it
-is_else _ so = absurd cc
+is_else _ so = absurd (true≢false (sym so))
 
 -- ---- declarations, assignments and calls
 

@@ -1,5 +1,5 @@
 -- Each list of tokens is read as a type, or has a refusal.
-use Rattle.std.proofs.Common.{◌≡◌, ◌<◌, ℕ, zero, suc, length, true, List, [], ◌∷◌, refl, arith, Some}
+use Rattle.std.proofs.Common.{◌≡◌, ◌<◌, ℕ, zero, suc, length, true, List, [], ◌∷◌, refl, arith, Some, sym, true≢false}
 use Rattle.ckc_text.specs.declared.place.Span.{Span}
 use Rattle.ckc_lexer.specs.declared.token.Token.{Token}
 use Rattle.ckc_lexer.specs.declared.token.TokenKind.{TokenKind}
@@ -23,19 +23,19 @@ use Rattle.ckc_parser_grammar.proofs.OneMeaning.{some_word}
 
 is_star : Marks kinds.Star star
 is_star kinds.Star so = it
-is_star _ so = absurd cc
+is_star _ so = absurd (true≢false (sym so))
 
 is_less : Marks kinds.Less less
 is_less kinds.Less so = it
-is_less _ so = absurd cc
+is_less _ so = absurd (true≢false (sym so))
 
 is_greater : Marks kinds.Greater greater
 is_greater kinds.Greater so = it
-is_greater _ so = absurd cc
+is_greater _ so = absurd (true≢false (sym so))
 
 pub is_open_paren : Marks kinds.OpenParen open_paren
 is_open_paren kinds.OpenParen so = it
-is_open_paren _ so = absurd cc
+is_open_paren _ so = absurd (true≢false (sym so))
 
 -- ---- stars, which are always read
 

@@ -1,5 +1,5 @@
 -- Tokens that are read as a form, or that have a refusal: which of the two, and how it goes on behind a part.
-use Rattle.std.proofs.Common.{◌≡◌, ◌≤◌, ◌<◌, ℕ, zero, suc, nat_lt, length, Bool, true, false, List, [], ◌∷◌, refl, arith}
+use Rattle.std.proofs.Common.{◌≡◌, ◌≤◌, ◌<◌, ℕ, zero, suc, nat_lt, length, Bool, true, false, List, [], ◌∷◌, refl, arith, sym, true≢false}
 use Rattle.std.proofs.lemmas.Bool.{ltb-true, ltb-false}
 use Rattle.ckc_text.specs.declared.place.Span.{Span}
 use Rattle.ckc_lexer.specs.declared.token.Token.{Token}
@@ -66,7 +66,7 @@ marked {k} {is} mark P ts otherwise so = by (next mark ts)
 
 is_name : (j : TokenKind) → name_token j ≡ true → IsName j
 is_name (kinds.Name x) so = name
-is_name _ so = absurd cc
+is_name _ so = absurd (true≢false (sym so))
 
 pub named : (P : List Token → Type 0) (ts : List Token) → ((us : List Token) → next_is name_token us ≡ false → P us) → ((x : List ℕ) (s : Span) (us : List Token) → P (token (kinds.Name x) s ∷ us)) → P ts
 named P ts otherwise so = by (next is_name ts)

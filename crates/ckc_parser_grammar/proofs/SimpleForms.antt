@@ -1,6 +1,6 @@
 -- Statements that are an assignment or a call, as forms that are built of others: reading them goes one way, and where they
 -- are stuck they fail. What begins with a name is read as an expression first; what it is says how it goes on.
-use Rattle.std.proofs.Common.{◌≡◌, ◌≤◌, ◌<◌, ◌&&◌, ◌⊎◌, inl, inr, ℕ, suc, length, Bool, true, false, List, [], ◌∷◌, refl, sym, ap, subst, ◌∙◌, arith, Some}
+use Rattle.std.proofs.Common.{◌≡◌, ◌≤◌, ◌<◌, ◌&&◌, ◌⊎◌, inl, inr, ℕ, suc, length, Bool, true, false, List, [], ◌∷◌, refl, sym, ap, subst, ◌∙◌, arith, Some, true≢false}
 use Rattle.ckc_text.specs.declared.place.Span.{Span}
 use Rattle.ckc_lexer.specs.declared.token.Token.{Token}
 use Rattle.ckc_lexer.specs.declared.token.TokenKind.{TokenKind}
@@ -181,7 +181,7 @@ name_unary (t ∷ ts) so = by_kind t.kind so
   where
     by_kind : (k : TokenKind) → name_token k ≡ true → unary_word k ≡ true
     by_kind (kinds.Name x) so = refl
-    by_kind _ so = absurd cc
+    by_kind _ so = absurd (true≢false (sym so))
 
 pub name_assigns : (ts : List Token) → next_is name_token ts ≡ true → next_is assignment_word ts ≡ true
 name_assigns ts so = unary_assigns ts (name_unary ts so)

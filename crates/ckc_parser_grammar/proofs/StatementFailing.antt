@@ -1,5 +1,5 @@
 -- Where statements are stuck, they fail.
-use Rattle.std.proofs.Common.{◌≡◌, ◌≤◌, ◌<◌, ◌||◌, ℕ, suc, Bool, true, false, List, ◌∷◌, refl, arith}
+use Rattle.std.proofs.Common.{◌≡◌, ◌≤◌, ◌<◌, ◌||◌, ℕ, suc, Bool, true, false, List, ◌∷◌, refl, arith, sym, true≢false}
 use Rattle.ckc_text.specs.declared.place.Span.{Span}
 use Rattle.ckc_lexer.specs.declared.token.Token.{Token}
 use Rattle.ckc_lexer.specs.declared.token.TokenKind.{TokenKind}
@@ -62,7 +62,7 @@ plain_at (kinds.Keyword keywords.For) so = record { plain = fors; is = for }
 plain_at (kinds.Keyword keywords.Return) so = record { plain = returns; is = return }
 plain_at (kinds.Keyword keywords.Break) so = record { plain = leaves; is = break }
 plain_at (kinds.Keyword keywords.Continue) so = record { plain = leaves; is = continue }
-plain_at _ so = absurd cc
+plain_at _ so = absurd (true≢false (sym so))
 
 inner_here : (h : Plain) (ts : List Token) → InnerB h ts ts nowhere
 inner_here blocks ts = b.first b.nothing

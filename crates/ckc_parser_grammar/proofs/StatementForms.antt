@@ -1,5 +1,5 @@
 -- Statements as forms that are built of others: reading them goes one way.
-use Rattle.std.proofs.Common.{◌≡◌, ◌<◌, ◌||◌, ℕ, zero, suc, Bool, true, false, List, [], ◌∷◌, refl, sym, ap, ◌∙◌, arith, Some}
+use Rattle.std.proofs.Common.{◌≡◌, ◌<◌, ◌||◌, ℕ, zero, suc, Bool, true, false, List, [], ◌∷◌, refl, sym, ap, ◌∙◌, arith, Some, true≢false}
 use Rattle.ckc_text.specs.declared.place.Span.{Span}
 use Rattle.ckc_lexer.specs.declared.token.Token.{Token}
 use Rattle.ckc_lexer.specs.declared.token.TokenKind.{TokenKind}
@@ -186,7 +186,7 @@ plain_type (kinds.Keyword keywords.For) so = refl
 plain_type (kinds.Keyword keywords.Return) so = refl
 plain_type (kinds.Keyword keywords.Break) so = refl
 plain_type (kinds.Keyword keywords.Continue) so = refl
-plain_type _ so = absurd cc
+plain_type _ so = absurd (true≢false (sym so))
 
 pub plain_assignment : Apart plain_word assignment_word
 plain_assignment (kinds.Keyword keywords.Checked) so = refl
@@ -200,7 +200,7 @@ plain_assignment (kinds.Keyword keywords.For) so = refl
 plain_assignment (kinds.Keyword keywords.Return) so = refl
 plain_assignment (kinds.Keyword keywords.Break) so = refl
 plain_assignment (kinds.Keyword keywords.Continue) so = refl
-plain_assignment _ so = absurd cc
+plain_assignment _ so = absurd (true≢false (sym so))
 
 pub mark_plain : (k : TokenKind) {w : Mark} → mark_of k ≡ Some w → plain_word k ≡ true
 mark_plain k w = each_mark (λ k. plain_word k ≡ true) k w refl refl
@@ -388,7 +388,7 @@ ListB = EitherS (next_is close_brace) (AfterB (Is kinds.CloseBrace) DoneS) (SeqB
 
 brace_apart : Apart close_brace statement_word
 brace_apart kinds.CloseBrace so = refl
-brace_apart _ so = absurd cc
+brace_apart _ so = absurd (true≢false (sym so))
 
 either_first : (a c : Bool) → a ≡ true → a || c ≡ true
 either_first true c so = refl
