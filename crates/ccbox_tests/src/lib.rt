@@ -18,8 +18,6 @@ mod facts;
 #[cfg(test)]
 mod files;
 #[cfg(test)]
-mod flows;
-#[cfg(test)]
 mod layouts;
 #[cfg(test)]
 mod lines;

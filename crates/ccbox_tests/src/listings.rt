@@ -3,6 +3,7 @@
 use ccbox_call::call::ccbox;
 use ckc_io::mem_shelf::MemShelf;
 use ckc_io::mem_sink::MemSink;
+use code_words::image::Image;
 use code_words_listing::listing::list;
 use code_words_listing::read_listing::{ListRefused, read_list};
 use std::alloc::Global;
@@ -60,18 +61,30 @@ static ROWS: [Row; 19] = [
     ),
 ];
 
+// Whether an image has this text as its listing, and no line is to be refused.
+fn is_listed(alloc: Global, image: &Image, text: &[u8], refused: Option<u32>) -> bool {
+    match list(alloc, image) {
+        Ok(listing) => refused.is_none() && listing.as_slice() == text,
+        Err(_) => false,
+    }
+}
+
+// Whether this line is refused.
+fn is_refused(fault: ListRefused, refused: Option<u32>) -> bool {
+    match fault {
+        ListRefused::Line(line) => refused == Some(line),
+        ListRefused::NoMemory => false,
+    }
+}
+
 // Whether an image is read that has this text as its listing, or this line is refused.
 fn is_read(alloc: Global, text: &[u8], refused: Option<u32>) -> bool {
     if text.len() > 4096 {
         return false;
     }
     match read_list(alloc, text) {
-        Ok(image) => match list(alloc, &image) {
-            Ok(listing) => refused.is_none() && listing.as_slice() == text,
-            Err(_) => false,
-        },
-        Err(ListRefused::Line(line)) => refused == Some(line),
-        Err(ListRefused::NoMemory) => false,
+        Ok(image) => is_listed(alloc, &image, text, refused),
+        Err(fault) => is_refused(fault, refused),
     }
 }
 

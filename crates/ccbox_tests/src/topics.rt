@@ -4,7 +4,6 @@ use crate::acts::acts;
 use crate::exec::runs_of_printed;
 use crate::facts::entailment;
 use crate::files::files_and_outputs;
-use crate::flows::flows;
 use crate::listings::{listings, printed_listings};
 use crate::memories::memories_and_layouts;
 use crate::options::many_inputs;
@@ -34,7 +33,6 @@ fn libraries(alloc: Global) -> Result<(), Fail> {
     acts(alloc)?;
     expect("kept acts", keeps_acts(alloc))?;
     entailment(alloc)?;
-    flows(alloc)?;
     memories_and_layouts(alloc)?;
     listings(alloc)?;
     printed_listings(alloc)
