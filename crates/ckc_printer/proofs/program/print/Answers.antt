@@ -1,4 +1,5 @@
-use Rattle.std.proofs.Common.{◌≡◌, true, [], map, drop, ap, sym, ◌∙◌}
+use Rattle.std.proofs.lemmas.Grind.{common_steps}
+use Rattle.std.proofs.Common.{◌≡◌, true, [], map, drop, ap, sym, ◌∙◌, arith}
 use Rattle.std.proofs.lemmas.List.{drop_all}
 use Rattle.std.proofs.lemmas.Result.{IfOk-weaker}
 use Rattle.ckc_tree.specs.Items.{item}
@@ -19,3 +20,6 @@ returns c =
     (λ text h. let ended = c.end_text.ensures.made h.0 in
     h.1 ∙ ended.1 ∙ ap finished (all ended.0) ∙ items_text (map item items) ∙ ap (λ l. text_of (flat_map item_pieces (map item l))) c.as_slice-items.ensures.value)
     c.finish.ensures
+
+pub loop-written-preserved : goal.loop-written-preserved
+loop-written-preserved c = grind (arith, common_steps)

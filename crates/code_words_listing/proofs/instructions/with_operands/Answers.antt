@@ -1,4 +1,5 @@
-use Rattle.std.proofs.Common.{ap, sym, ◌∙◌, pos}
+use Rattle.std.proofs.lemmas.Bool.Decides.{nat_tests}
+use Rattle.std.proofs.Common.{ap, sym, ◌∙◌, pos, arith}
 use Rattle.std.specs.Prelude.{option_map}
 use Rattle.std.specs.Int.{w32}
 use Rattle.std.proofs.lemmas.Int.{to_z-of_z}
@@ -124,3 +125,6 @@ returns-in-Range c = rw c.in-Range.is (c.read_range.ensures 0 0 nowhere)
 
 pub returns-in-TaintedCall : goal.returns-in-TaintedCall
 returns-in-TaintedCall c = rw c.in-TaintedCall.is (c.read_tainted_call.ensures 0 nowhere)
+
+pub returns-in-Discard : goal.returns-in-Discard
+returns-in-Discard c = grind (arith, nat_tests)

@@ -1,4 +1,4 @@
-use Rattle.std.proofs.Common.{ap, sym, ◌∙◌}
+use Rattle.std.proofs.Common.{ap, sym, ◌∙◌, rules}
 use Rattle.std.specs.Prelude.{option_map}
 use Rattle.code_words_listing.specs.States.{seen}
 use Rattle.code_words_listing.specs.Told.{told}
@@ -11,3 +11,15 @@ returns-in_err-check_pace-2 c =
     let other = sym c.is_instruction.ensures ∙ c.if-not-is_instruction.true in
     passed-on _ _ _ _ c.from_residual-in_err-check_pace-2.ensures.1
     (breaks-at (seen c.args.state.now) c.args.text.now (told c.in-Some.line) c.in_err-check_pace-2.field-0.0 read other c.in_err-check_pace-2.ensures)
+
+pub returns-in_err-line : goal.returns-in_err-line
+returns-in_err-line c = search rules
+
+pub from_residual-requires-in_err-check_pace : goal.from_residual-requires-in_err-check_pace
+from_residual-requires-in_err-check_pace c κs = search rules
+
+pub returns-in_err-check_pace : goal.returns-in_err-check_pace
+returns-in_err-check_pace c = search rules
+
+pub returns : goal.returns
+returns c = search rules

@@ -1,3 +1,5 @@
+use Rattle.std.proofs.lemmas.Grind.{elements}
+use Rattle.std.proofs.Common.{rules, arith}
 use Rattle.code_words_listing.specs.States.{seen}
 use Rattle.code_words_listing.proofs.ListRead.{one-read, Answers, answers-at, answers-behind}
 use Rattle.code_words_listing.proofs.read_listing.read_list.Goals as goal
@@ -56,3 +58,12 @@ finish-requires-clause-reached c = c.loop-line.invariant.reached
 
 pub finish-requires-clause-number : goal.finish-requires-clause-number
 finish-requires-clause-number c = c.loop-line.invariant.counted
+
+pub loop-line-init : goal.loop-line-init
+loop-line-init c = search rules
+
+pub overflow_add-number : goal.overflow_add-number
+overflow_add-number c = search rules
+
+pub loop-line-smaller : goal.loop-line-smaller
+loop-line-smaller c = grind (arith, elements)

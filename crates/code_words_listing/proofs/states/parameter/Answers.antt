@@ -1,4 +1,5 @@
-use Rattle.std.proofs.Common.{◌≡◌, ◌+◌, suc, true, length, ap, sym, ◌∙◌, arith, subst}
+use Rattle.std.proofs.lemmas.Bool.Decides.{nat_tests}
+use Rattle.std.proofs.Common.{◌≡◌, ◌+◌, suc, true, length, ap, sym, ◌∙◌, arith, subst, rules}
 use Rattle.std.proofs.lemmas.Grind.{common_steps}
 use Rattle.marshalling.specs.Signatures.{IsSignature}
 use Rattle.code_words_listing.specs.Drafts.{image, callback}
@@ -17,3 +18,12 @@ open_callback-requires c = λ none.
 
 pub returns : goal.returns
 returns c = grind (arith, common_steps)
+
+pub returns-then-not-is_among : goal.returns-then-not-is_among
+returns-then-not-is_among c = grind (arith, nat_tests)
+
+pub drop-draft-requires-in_err-push-2 : goal.drop-draft-requires-in_err-push-2
+drop-draft-requires-in_err-push-2 c κs = search rules
+
+pub returns-in_err-push : goal.returns-in_err-push
+returns-in_err-push c = search rules

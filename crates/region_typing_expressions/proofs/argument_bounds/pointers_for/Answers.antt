@@ -1,3 +1,5 @@
+use Rattle.std.proofs.lemmas.Grind.{common_steps}
+use Rattle.std.proofs.lemmas.Bool.Decides.{nat_tests}
 use Rattle.std.proofs.Common.{◌≡◌, ℕ, ◌+◌, ◌<◌, List, [], ◌∷◌, ◌++◌, Option, length, map, drop, get_or, refl, ap, sym, ◌∙◌, append_assoc, arith}
 use Rattle.pointer_modes.specs.Types.{CType, ctype}
 use Rattle.region_typing_rules.specs.Operands.{Typed, Value, AStruct}
@@ -33,3 +35,9 @@ loop-a-preserved c =
     record {
       so_far = pointer_more (map ctype c.args.locals.now) xs c.loop-a.a-index c.a-item.result c.loop-a.pointers.items c.push.new.self.items _ c.pointer_for.result less c.a-item.is pointer c.in_ok-push.ensures.items c.loop-a.invariant.so_far;
     }
+
+pub returns-in_err-push : goal.returns-in_err-push
+returns-in_err-push c = grind (arith, nat_tests)
+
+pub returns : goal.returns
+returns c = grind (arith, common_steps)

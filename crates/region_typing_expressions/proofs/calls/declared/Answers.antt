@@ -1,3 +1,4 @@
+use Rattle.std.proofs.lemmas.Grind.{common_steps}
 use Rattle.std.proofs.Common.{◌≡◌, length, map, arith}
 use Rattle.std.proofs.lemmas.List.{length-map}
 use Rattle.pointer_modes.specs.Types.{ctype}
@@ -25,3 +26,6 @@ returns c =
     let many : length (map argument items) ≡ length (map ctype types) = omega (arith, few, length-map items argument, length-map types ctype) in
     let kept = rw (c.is_import.ensures, c.as_slice.ensures.value) at c.in_ok-crossing.ensures in
     rw (declared_parts (point c.args.point.now) (signature c.args.f.now) (map argument items) c.args.site c.args.span many) (goes_on _ kept c.call_with.ensures)
+
+pub returns-then-len : goal.returns-then-len
+returns-then-len c = grind (arith, common_steps)

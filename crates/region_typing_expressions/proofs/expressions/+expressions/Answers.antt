@@ -1,4 +1,5 @@
-use Rattle.std.proofs.Common.{◌≡◌, ◌<◌, length, map, Box, Global, ap, sym, ◌∙◌, arith}
+use Rattle.std.proofs.lemmas.Bool.Decides.{nat_tests}
+use Rattle.std.proofs.Common.{◌≡◌, ◌<◌, length, map, Box, Global, ap, sym, ◌∙◌, arith, rules}
 use Rattle.ckc_text.specs.Places.{place_at}
 use Rattle.ckc_text.specs.declared.place.Span.{Span}
 use Rattle.ckc_tree.specs.declared.identifier.Identifier.{Identifier}
@@ -153,3 +154,129 @@ all_typed-loop-written-preserved t c =
 pub all_typed-returns : goal.all_typed-returns
 all_typed-returns t c =
     record { so = arguments_done (place_at c.args.context.now) (point c.args.point.now) c.args.arguments.now c.loop-written.written-index (map argument c.loop-written.built.items) (omega (arith, c.loop-written-test.false)) c.loop-written.invariant.so_far }
+
+pub all_typed-alloc-requires : goal.all_typed-alloc-requires
+all_typed-alloc-requires t c = search rules
+
+pub all_typed-loop-written-init : goal.all_typed-loop-written-init
+all_typed-loop-written-init t c = search rules
+
+pub all_typed-branch-typed-requires : goal.all_typed-branch-typed-requires
+all_typed-branch-typed-requires t c κs = search rules
+
+pub all_typed-from_residual-requires : goal.all_typed-from_residual-requires
+all_typed-from_residual-requires t c κs = search rules
+
+pub all_typed-drop-built-requires : goal.all_typed-drop-built-requires
+all_typed-drop-built-requires t c κs = search rules
+
+pub all_typed-push-requires : goal.all_typed-push-requires
+all_typed-push-requires t c κs = search rules
+
+pub all_typed-branch-push-requires : goal.all_typed-branch-push-requires
+all_typed-branch-push-requires t c κs = search rules
+
+pub all_typed-drop-built-requires-in_err-push : goal.all_typed-drop-built-requires-in_err-push
+all_typed-drop-built-requires-in_err-push t c κs = search rules
+
+pub all_typed-returns-in_err-push : goal.all_typed-returns-in_err-push
+all_typed-returns-in_err-push t c = search rules
+
+pub arrowed_by-returns-in_err-base : goal.arrowed_by-returns-in_err-base
+arrowed_by-returns-in_err-base t c = search rules
+
+pub arrowed_by-returns : goal.arrowed_by-returns
+arrowed_by-returns t c = search rules
+
+pub binary_of-returns-in_err-left : goal.binary_of-returns-in_err-left
+binary_of-returns-in_err-left t c = search rules
+
+pub binary_of-returns-in_err-right : goal.binary_of-returns-in_err-right
+binary_of-returns-in_err-right t c = search rules
+
+pub binary_of-returns : goal.binary_of-returns
+binary_of-returns t c = search rules
+
+pub bounded_cast-returns-in_err-to : goal.bounded_cast-returns-in_err-to
+bounded_cast-returns-in_err-to t c = search rules
+
+pub bounded_cast-returns-in_err-operand : goal.bounded_cast-returns-in_err-operand
+bounded_cast-returns-in_err-operand t c = search rules
+
+pub bounded_cast-returns-in_err-written : goal.bounded_cast-returns-in_err-written
+bounded_cast-returns-in_err-written t c = grind (arith, nat_tests)
+
+pub bounded_cast-returns : goal.bounded_cast-returns
+bounded_cast-returns t c = search rules
+
+pub calloc_of-drop-size-requires : goal.calloc_of-drop-size-requires
+calloc_of-drop-size-requires t c κs = search rules
+
+pub cast_value-returns-in_err-to : goal.cast_value-returns-in_err-to
+cast_value-returns-in_err-to t c = search rules
+
+pub cast_value-returns-in_err-operand : goal.cast_value-returns-in_err-operand
+cast_value-returns-in_err-operand t c = search rules
+
+pub cast_value-returns : goal.cast_value-returns
+cast_value-returns t c = grind (arith, nat_tests)
+
+pub dotted_by-returns-in_err-base : goal.dotted_by-returns-in_err-base
+dotted_by-returns-in_err-base t c = search rules
+
+pub dotted_by-returns : goal.dotted_by-returns
+dotted_by-returns t c = search rules
+
+pub malloc_of-returns-in_err-t : goal.malloc_of-returns-in_err-t
+malloc_of-returns-in_err-t t c = search rules
+
+pub malloc_of-returns-in_err-value : goal.malloc_of-returns-in_err-value
+malloc_of-returns-in_err-value t c = search rules
+
+pub malloc_of-returns : goal.malloc_of-returns
+malloc_of-returns t c = grind (arith, nat_tests)
+
+pub operated_by-returns-in_err-operand : goal.operated_by-returns-in_err-operand
+operated_by-returns-in_err-operand t c = search rules
+
+pub operated_by-returns : goal.operated_by-returns
+operated_by-returns t c = search rules
+
+pub right_typed-returns-in_err-flow-in-Some : goal.right_typed-returns-in_err-flow-in-Some
+right_typed-returns-in_err-flow-in-Some t c = search rules
+
+pub right_typed-invariant_of-behind : goal.right_typed-invariant_of-behind
+right_typed-invariant_of-behind t c = search rules
+
+pub right_typed-returns-in-None : goal.right_typed-returns-in-None
+right_typed-returns-in-None t c = search rules
+
+pub right_typed-returns-in_ok-flow-in-Some : goal.right_typed-returns-in_ok-flow-in-Some
+right_typed-returns-in_ok-flow-in-Some t c = search rules
+
+pub typed_at-deref-requires-in-Arrow : goal.typed_at-deref-requires-in-Arrow
+typed_at-deref-requires-in-Arrow t c κs = search rules
+
+pub typed_at-deref-requires-in-Calloc-2 : goal.typed_at-deref-requires-in-Calloc-2
+typed_at-deref-requires-in-Calloc-2 t c κs = search rules
+
+pub typed_at-returns-in-Number : goal.typed_at-returns-in-Number
+typed_at-returns-in-Number t c = search rules
+
+pub typed_at-returns-in-Text : goal.typed_at-returns-in-Text
+typed_at-returns-in-Text t c = search rules
+
+pub typed_at-returns-in-Name : goal.typed_at-returns-in-Name
+typed_at-returns-in-Name t c = search rules
+
+pub typed_at-returns-in-SizeOf : goal.typed_at-returns-in-SizeOf
+typed_at-returns-in-SizeOf t c = search rules
+
+pub typed_at-returns-in-None : goal.typed_at-returns-in-None
+typed_at-returns-in-None t c = grind (arith, nat_tests)
+
+pub typed_at-returns-in-Some : goal.typed_at-returns-in-Some
+typed_at-returns-in-Some t c = grind (arith, nat_tests)
+
+pub typed_at-returns-in-Malloc : goal.typed_at-returns-in-Malloc
+typed_at-returns-in-Malloc t c = search rules

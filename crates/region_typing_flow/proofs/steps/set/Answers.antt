@@ -1,4 +1,5 @@
-use Rattle.std.proofs.Common.{◌≤◌, ◌<◌, map, length, refl, arith}
+use Rattle.std.proofs.lemmas.Grind.{elements}
+use Rattle.std.proofs.Common.{◌≤◌, ◌<◌, map, length, refl, arith, rules}
 use Rattle.std.specs.Prelude.{slice_get}
 use Rattle.std.proofs.lemmas.List.{length-map}
 use Rattle.pointer_modes.specs.Types.{ctype}
@@ -16,3 +17,24 @@ assign_pointer-requires-clause-below c =
     let few : length types ≤ c.args.flow.now.vars = rw length-map c.requires in
     let below : c.args.local < length types = bounds_below types c.args.local (slice_get types c.args.local) c.in-Bounds.kind refl c.in-Bounds.ensures in
     omega arith
+
+pub declared-requires : goal.declared-requires
+declared-requires c = grind (arith, elements)
+
+pub assign_pointer-requires-clause-from_below : goal.assign_pointer-requires-clause-from_below
+assign_pointer-requires-clause-from_below c = search rules
+
+pub assign_pointer-requires-clause-small : goal.assign_pointer-requires-clause-small
+assign_pointer-requires-clause-small c = grind (arith, elements)
+
+pub returns-in-Number-clause-ok : goal.returns-in-Number-clause-ok
+returns-in-Number-clause-ok c = search rules
+
+pub returns-in-Bounds-clause-ok : goal.returns-in-Bounds-clause-ok
+returns-in-Bounds-clause-ok c = search rules
+
+pub returns-in-Bounds-clause-vars : goal.returns-in-Bounds-clause-vars
+returns-in-Bounds-clause-vars c = search rules
+
+pub returns-in-Nothing-clause-ok : goal.returns-in-Nothing-clause-ok
+returns-in-Nothing-clause-ok c = search rules

@@ -1,4 +1,6 @@
-use Rattle.std.proofs.Common.{Some, sym, arith}
+use Rattle.std.proofs.lemmas.Bool.Decides.{nat_tests}
+use Rattle.std.proofs.lemmas.Grind.{common_steps}
+use Rattle.std.proofs.Common.{Some, sym, arith, rules}
 use Rattle.region_typing_rules.specs.Items.{names}
 use Rattle.region_typing_statements.specs.Marks.{seen}
 use Rattle.region_typing_statements.proofs.InOrder.{added, changed_more, changes_done}
@@ -26,3 +28,39 @@ all_changed-loop-listed-preserved t c =
 pub all_changed-returns-clause-changed : goal.all_changed-returns-clause-changed
 all_changed-returns-clause-changed t c =
     sym (changes_done (names (Some c.args.bounds.now)) c.args.beyond c.args.written.now c.loop-listed.listed-index (seen c.loop-listed.visible.items) _ c.loop-listed.first (omega (arith, c.loop-listed-test.false)) c.loop-listed.invariant.so_far)
+
+pub all_changed-len-outside-requires : goal.all_changed-len-outside-requires
+all_changed-len-outside-requires t c κs = search rules
+
+pub all_changed-loop-listed-init : goal.all_changed-loop-listed-init
+all_changed-loop-listed-init t c = search rules
+
+pub all_changed-bounds-written-listed-index : goal.all_changed-bounds-written-listed-index
+all_changed-bounds-written-listed-index t c = search rules
+
+pub all_changed-loop-listed-smaller : goal.all_changed-loop-listed-smaller
+all_changed-loop-listed-smaller t c = search rules
+
+pub all_changed-returns-clause-kept : goal.all_changed-returns-clause-kept
+all_changed-returns-clause-kept t c = grind (arith, common_steps)
+
+pub changed-returns-in-Bundle-clause-changed : goal.changed-returns-in-Bundle-clause-changed
+changed-returns-in-Bundle-clause-changed t c = search rules
+
+pub changed-returns-in-Assign-clause-changed : goal.changed-returns-in-Assign-clause-changed
+changed-returns-in-Assign-clause-changed t c = grind (arith, nat_tests)
+
+pub changed-returns-in-None-clause-changed : goal.changed-returns-in-None-clause-changed
+changed-returns-in-None-clause-changed t c = search rules
+
+pub changed-returns-in-None-clause-kept : goal.changed-returns-in-None-clause-kept
+changed-returns-in-None-clause-kept t c = search rules
+
+pub changed-returns-in-While-clause-changed : goal.changed-returns-in-While-clause-changed
+changed-returns-in-While-clause-changed t c = search rules
+
+pub turns_change-returns-clause-changed : goal.turns_change-returns-clause-changed
+turns_change-returns-clause-changed t c = search rules
+
+pub turns_change-returns-clause-kept : goal.turns_change-returns-clause-kept
+turns_change-returns-clause-kept t c = grind (arith, common_steps)

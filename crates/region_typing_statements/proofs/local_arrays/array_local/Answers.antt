@@ -1,4 +1,5 @@
-use Rattle.std.proofs.Common.{refl}
+use Rattle.std.proofs.lemmas.Bool.Decides.{nat_tests}
+use Rattle.std.proofs.Common.{refl, rules, arith}
 use Rattle.ckc_text.specs.declared.code.Code.TheVariants.{E13}
 use Rattle.region_typing_statements.proofs.Testing.{walk_fails, walks_behind}
 use Rattle.region_typing_statements.proofs.Walking.{goes_on, refused}
@@ -23,3 +24,9 @@ returns c =
     let passes = rw c.in_ok-given.ensures at c.in_ok-t.ensures in
     walks_behind _ _ _ _ _ c.is_length.ensures c.in_ok-needs.ensures (goes_on _ passes
     (walks_behind _ _ E13 _ _ refl (rw c.is_ended_array-ended.ensures at c.in_ok-array_element.ensures) (rw c.is_ended_array-ended.ensures at c.add_array.ensures)))
+
+pub returns-in_err-given : goal.returns-in_err-given
+returns-in_err-given c = search rules
+
+pub add_array-requires-clause-few : goal.add_array-requires-clause-few
+add_array-requires-clause-few c = grind (arith, nat_tests)

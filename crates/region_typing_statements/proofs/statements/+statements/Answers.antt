@@ -1,4 +1,5 @@
-use Rattle.std.proofs.Common.{◌<◌, None, length, Ok, ap, sym, refl, ◌∙◌, arith}
+use Rattle.std.proofs.lemmas.Bool.Decides.{nat_tests}
+use Rattle.std.proofs.Common.{◌<◌, None, length, Ok, ap, sym, refl, ◌∙◌, arith, rules}
 use Rattle.std.specs.Option.{option_map}
 use Rattle.ckc_text.specs.Places.{place_at}
 use Rattle.ckc_text.specs.declared.code.Code.TheVariants.{E15}
@@ -260,3 +261,318 @@ turns-loop_ended-requires t c =
       breaks = rw (size_kept more, entered.around) c.args.scope.now.breaks_alike;
       continues = rw (size_kept more, entered.around) c.args.scope.now.continues_alike;
     }
+
+pub block-block_start-start-requires : goal.block-block_start-start-requires
+block-block_start-start-requires t c = search rules
+
+pub block-branch-built-requires : goal.block-branch-built-requires
+block-branch-built-requires t c κs = search rules
+
+pub block-from_residual-requires : goal.block-from_residual-requires
+block-from_residual-requires t c κs = search rules
+
+pub block-branch-leave-requires : goal.block-branch-leave-requires
+block-branch-leave-requires t c κs = search rules
+
+pub block-from_residual-requires-in_err-leave : goal.block-from_residual-requires-in_err-leave
+block-from_residual-requires-in_err-leave t c κs = search rules
+
+pub block-drop-built-requires : goal.block-drop-built-requires
+block-drop-built-requires t c κs = search rules
+
+pub block-returns-in_err-leave : goal.block-returns-in_err-leave
+block-returns-in_err-leave t c = grind (arith, nat_tests)
+
+pub block-branch-needs-requires : goal.block-branch-needs-requires
+block-branch-needs-requires t c κs = search rules
+
+pub block-from_residual-requires-in_err-needs : goal.block-from_residual-requires-in_err-needs
+block-from_residual-requires-in_err-needs t c κs = search rules
+
+pub block-drop-built-requires-in_err-needs : goal.block-drop-built-requires-in_err-needs
+block-drop-built-requires-in_err-needs t c κs = search rules
+
+pub block-branch-block-requires : goal.block-branch-block-requires
+block-branch-block-requires t c κs = search rules
+
+pub block-from_residual-requires-in_err-block : goal.block-from_residual-requires-in_err-block
+block-from_residual-requires-in_err-block t c κs = search rules
+
+pub block-returns-in_err-block : goal.block-returns-in_err-block
+block-returns-in_err-block t c = grind (arith, nat_tests)
+
+pub for_loop-branch-first-requires : goal.for_loop-branch-first-requires
+for_loop-branch-first-requires t c κs = search rules
+
+pub for_loop-from_residual-requires : goal.for_loop-from_residual-requires
+for_loop-from_residual-requires t c κs = search rules
+
+pub for_loop-branch-turns-requires : goal.for_loop-branch-turns-requires
+for_loop-branch-turns-requires t c κs = search rules
+
+pub for_loop-drop-first-requires : goal.for_loop-drop-first-requires
+for_loop-drop-first-requires t c κs = search rules
+
+pub for_loop-branch-leave-requires : goal.for_loop-branch-leave-requires
+for_loop-branch-leave-requires t c κs = search rules
+
+pub for_loop-drop-turns-requires : goal.for_loop-drop-turns-requires
+for_loop-drop-turns-requires t c κs = search rules
+
+pub for_loop-drop-first-requires-in_err-leave : goal.for_loop-drop-first-requires-in_err-leave
+for_loop-drop-first-requires-in_err-leave t c κs = search rules
+
+pub for_loop-returns-in_err-leave : goal.for_loop-returns-in_err-leave
+for_loop-returns-in_err-leave t c = grind (arith, nat_tests)
+
+pub for_loop-branch-both-requires : goal.for_loop-branch-both-requires
+for_loop-branch-both-requires t c κs = search rules
+
+pub for_loop-from_residual-requires-in_err-both : goal.for_loop-from_residual-requires-in_err-both
+for_loop-from_residual-requires-in_err-both t c κs = search rules
+
+pub for_loop-returns-in_err-both : goal.for_loop-returns-in_err-both
+for_loop-returns-in_err-both t c = grind (arith, nat_tests)
+
+pub guarded-deref-requires : goal.guarded-deref-requires
+guarded-deref-requires t c κs = search rules
+
+pub guarded-branch-otherwise-requires : goal.guarded-branch-otherwise-requires
+guarded-branch-otherwise-requires t c κs = search rules
+
+pub guarded-from_residual-requires : goal.guarded-from_residual-requires
+guarded-from_residual-requires t c κs = search rules
+
+pub guarded-drop-condition-requires : goal.guarded-drop-condition-requires
+guarded-drop-condition-requires t c κs = search rules
+
+pub guarded-branch-consequent-requires : goal.guarded-branch-consequent-requires
+guarded-branch-consequent-requires t c κs = search rules
+
+pub guarded-drop-otherwise-inside-requires : goal.guarded-drop-otherwise-inside-requires
+guarded-drop-otherwise-inside-requires t c κs = search rules
+
+pub if_alone-returns-in_err-nothing : goal.if_alone-returns-in_err-nothing
+if_alone-returns-in_err-nothing t c = search rules
+
+pub if_alone-branch_ended-requires : goal.if_alone-branch_ended-requires
+if_alone-branch_ended-requires t c = search rules
+
+pub nested-branch-inner-requires : goal.nested-branch-inner-requires
+nested-branch-inner-requires t c κs = search rules
+
+pub nested-from_residual-requires : goal.nested-from_residual-requires
+nested-from_residual-requires t c κs = search rules
+
+pub nested-branch-leave-requires : goal.nested-branch-leave-requires
+nested-branch-leave-requires t c κs = search rules
+
+pub nested-from_residual-requires-in_err-leave : goal.nested-from_residual-requires-in_err-leave
+nested-from_residual-requires-in_err-leave t c κs = search rules
+
+pub nested-drop-inner-requires : goal.nested-drop-inner-requires
+nested-drop-inner-requires t c κs = search rules
+
+pub nested-returns-in_err-leave : goal.nested-returns-in_err-leave
+nested-returns-in_err-leave t c = grind (arith, nat_tests)
+
+pub otherwise-turned-walked-requires : goal.otherwise-turned-walked-requires
+otherwise-turned-walked-requires t c = search rules
+
+pub otherwise-nested-requires : goal.otherwise-nested-requires
+otherwise-nested-requires t c = search rules
+
+pub statement-returns-in_err-nothing-in-Empty : goal.statement-returns-in_err-nothing-in-Empty
+statement-returns-in_err-nothing-in-Empty t c = search rules
+
+pub statement-structured-requires : goal.statement-structured-requires
+statement-structured-requires t c = search rules
+
+pub statement-returns-in-Declare : goal.statement-returns-in-Declare
+statement-returns-in-Declare t c = search rules
+
+pub statements-new-built-requires : goal.statements-new-built-requires
+statements-new-built-requires t c κs = search rules
+
+pub statements-bounds-written-listed-index : goal.statements-bounds-written-listed-index
+statements-bounds-written-listed-index t c = search rules
+
+pub statements-branch-next-requires : goal.statements-branch-next-requires
+statements-branch-next-requires t c κs = search rules
+
+pub statements-from_residual-requires : goal.statements-from_residual-requires
+statements-from_residual-requires t c κs = search rules
+
+pub statements-drop-built-requires : goal.statements-drop-built-requires
+statements-drop-built-requires t c κs = search rules
+
+pub statements-branch-push-requires : goal.statements-branch-push-requires
+statements-branch-push-requires t c κs = search rules
+
+pub statements-drop-built-requires-in_err-push : goal.statements-drop-built-requires-in_err-push
+statements-drop-built-requires-in_err-push t c κs = search rules
+
+pub statements-returns-in_err-push : goal.statements-returns-in_err-push
+statements-returns-in_err-push t c = grind (arith, nat_tests)
+
+pub statements-loop-listed-smaller : goal.statements-loop-listed-smaller
+statements-loop-listed-smaller t c = search rules
+
+pub structured-as_slice-requires : goal.structured-as_slice-requires
+structured-as_slice-requires t c κs = search rules
+
+pub structured-deref-requires : goal.structured-deref-requires
+structured-deref-requires t c κs = search rules
+
+pub structured-deref-requires-in-None : goal.structured-deref-requires-in-None
+structured-deref-requires-in-None t c κs = search rules
+
+pub structured-deref-requires-in-Some : goal.structured-deref-requires-in-Some
+structured-deref-requires-in-Some t c κs = search rules
+
+pub structured-deref-requires-in-Some-2 : goal.structured-deref-requires-in-Some-2
+structured-deref-requires-in-Some-2 t c κs = search rules
+
+pub structured-branch-first-requires : goal.structured-branch-first-requires
+structured-branch-first-requires t c κs = search rules
+
+pub structured-from_residual-requires : goal.structured-from_residual-requires
+structured-from_residual-requires t c κs = search rules
+
+pub structured-deref-requires-in-Some-3 : goal.structured-deref-requires-in-Some-3
+structured-deref-requires-in-Some-3 t c κs = search rules
+
+pub structured-deref-requires-in-While : goal.structured-deref-requires-in-While
+structured-deref-requires-in-While t c κs = search rules
+
+pub structured-deref-requires-in-While-2 : goal.structured-deref-requires-in-While-2
+structured-deref-requires-in-While-2 t c κs = search rules
+
+pub structured-deref-requires-in-For : goal.structured-deref-requires-in-For
+structured-deref-requires-in-For t c κs = search rules
+
+pub structured-unreachable-unreachable : goal.structured-unreachable-unreachable
+structured-unreachable-unreachable t c = search rules
+
+pub then_branch-condition-requires : goal.then_branch-condition-requires
+then_branch-condition-requires t c = search rules
+
+pub then_branch-branch-condition-requires : goal.then_branch-branch-condition-requires
+then_branch-branch-condition-requires t c κs = search rules
+
+pub then_branch-from_residual-requires : goal.then_branch-from_residual-requires
+then_branch-from_residual-requires t c κs = search rules
+
+pub then_branch-returns-clause-size : goal.then_branch-returns-clause-size
+then_branch-returns-clause-size t c = search rules
+
+pub turns-returns-in_err-around : goal.turns-returns-in_err-around
+turns-returns-in_err-around t c = grind (arith, nat_tests)
+
+pub turns-branch-test-requires : goal.turns-branch-test-requires
+turns-branch-test-requires t c κs = search rules
+
+pub turns-from_residual-requires-in_err-test : goal.turns-from_residual-requires-in_err-test
+turns-from_residual-requires-in_err-test t c κs = search rules
+
+pub turns-drop-around-requires : goal.turns-drop-around-requires
+turns-drop-around-requires t c κs = search rules
+
+pub turns-drop-around-requires-in_err-test : goal.turns-drop-around-requires-in_err-test
+turns-drop-around-requires-in_err-test t c κs = search rules
+
+pub turns-drop-around-requires-in_err-test-2 : goal.turns-drop-around-requires-in_err-test-2
+turns-drop-around-requires-in_err-test-2 t c κs = search rules
+
+pub turns-drop-around-requires-in_err-test-3 : goal.turns-drop-around-requires-in_err-test-3
+turns-drop-around-requires-in_err-test-3 t c κs = search rules
+
+pub turns-drop-around-requires-in_err-test-4 : goal.turns-drop-around-requires-in_err-test-4
+turns-drop-around-requires-in_err-test-4 t c κs = search rules
+
+pub turns-drop-around-requires-in_err-test-6 : goal.turns-drop-around-requires-in_err-test-6
+turns-drop-around-requires-in_err-test-6 t c κs = search rules
+
+pub turns-drop-around-requires-in_err-test-7 : goal.turns-drop-around-requires-in_err-test-7
+turns-drop-around-requires-in_err-test-7 t c κs = search rules
+
+pub turns-guarded-requires : goal.turns-guarded-requires
+turns-guarded-requires t c = search rules
+
+pub turns-from_residual-requires-in_err-turn : goal.turns-from_residual-requires-in_err-turn
+turns-from_residual-requires-in_err-turn t c κs = search rules
+
+pub turns-drop-around-requires-in_err-turn-6 : goal.turns-drop-around-requires-in_err-turn-6
+turns-drop-around-requires-in_err-turn-6 t c κs = search rules
+
+pub turns-branch-step-requires : goal.turns-branch-step-requires
+turns-branch-step-requires t c κs = search rules
+
+pub turns-from_residual-requires-in_err-step : goal.turns-from_residual-requires-in_err-step
+turns-from_residual-requires-in_err-step t c κs = search rules
+
+pub turns-drop-turn-requires : goal.turns-drop-turn-requires
+turns-drop-turn-requires t c κs = search rules
+
+pub turns-drop-turn-requires-in_err-step : goal.turns-drop-turn-requires-in_err-step
+turns-drop-turn-requires-in_err-step t c κs = search rules
+
+pub turns-drop-turn-requires-in_err-step-2 : goal.turns-drop-turn-requires-in_err-step-2
+turns-drop-turn-requires-in_err-step-2 t c κs = search rules
+
+pub turns-drop-turn-requires-in_err-step-3 : goal.turns-drop-turn-requires-in_err-step-3
+turns-drop-turn-requires-in_err-step-3 t c κs = search rules
+
+pub turns-drop-turn-requires-in_err-step-4 : goal.turns-drop-turn-requires-in_err-step-4
+turns-drop-turn-requires-in_err-step-4 t c κs = search rules
+
+pub turns-drop-turn-requires-in_err-step-5 : goal.turns-drop-turn-requires-in_err-step-5
+turns-drop-turn-requires-in_err-step-5 t c κs = search rules
+
+pub turns-drop-around-requires-in_err-step : goal.turns-drop-around-requires-in_err-step
+turns-drop-around-requires-in_err-step t c κs = search rules
+
+pub turns-drop-around-requires-in_err-step-2 : goal.turns-drop-around-requires-in_err-step-2
+turns-drop-around-requires-in_err-step-2 t c κs = search rules
+
+pub turns-drop-around-requires-in_err-step-6 : goal.turns-drop-around-requires-in_err-step-6
+turns-drop-around-requires-in_err-step-6 t c κs = search rules
+
+pub turns-drop-around-requires-in_err-step-7 : goal.turns-drop-around-requires-in_err-step-7
+turns-drop-around-requires-in_err-step-7 t c κs = search rules
+
+pub turns-drop-around-requires-in_err-step-8 : goal.turns-drop-around-requires-in_err-step-8
+turns-drop-around-requires-in_err-step-8 t c κs = search rules
+
+pub while_loop-branch-nothing-requires : goal.while_loop-branch-nothing-requires
+while_loop-branch-nothing-requires t c κs = search rules
+
+pub while_loop-from_residual-requires : goal.while_loop-from_residual-requires
+while_loop-from_residual-requires t c κs = search rules
+
+pub while_loop-returns-in_err-nothing : goal.while_loop-returns-in_err-nothing
+while_loop-returns-in_err-nothing t c = grind (arith, nat_tests)
+
+pub while_loop-loop_head-requires : goal.while_loop-loop_head-requires
+while_loop-loop_head-requires t c = search rules
+
+pub while_loop-branch-around-requires : goal.while_loop-branch-around-requires
+while_loop-branch-around-requires t c κs = search rules
+
+pub while_loop-drop-nothing-requires : goal.while_loop-drop-nothing-requires
+while_loop-drop-nothing-requires t c κs = search rules
+
+pub while_loop-returns-in_err-around : goal.while_loop-returns-in_err-around
+while_loop-returns-in_err-around t c = grind (arith, nat_tests)
+
+pub while_loop-then_branch-requires : goal.while_loop-then_branch-requires
+while_loop-then_branch-requires t c = search rules
+
+pub while_loop-branch-turn-requires : goal.while_loop-branch-turn-requires
+while_loop-branch-turn-requires t c κs = search rules
+
+pub while_loop-drop-around-requires : goal.while_loop-drop-around-requires
+while_loop-drop-around-requires t c κs = search rules
+
+pub while_loop-drop-around-requires-in_err-turn : goal.while_loop-drop-around-requires-in_err-turn
+while_loop-drop-around-requires-in_err-turn t c κs = search rules

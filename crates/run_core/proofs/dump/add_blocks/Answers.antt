@@ -1,4 +1,5 @@
-use Rattle.std.proofs.Common.{◌-◌, ◌++◌, take, drop, sym, ap, ◌∙◌, append_assoc}
+use Rattle.std.proofs.lemmas.Grind.{elements}
+use Rattle.std.proofs.Common.{◌-◌, ◌++◌, take, drop, sym, ap, ◌∙◌, append_assoc, rules, arith}
 use Rattle.std.specs.Prelude.{flat_map}
 use Rattle.act_words.specs.Shown.{Shown}
 use Rattle.act_recorder.specs.Lines.{block_text}
@@ -18,3 +19,21 @@ adding-preserved c =
 
 pub returns : goal.returns
 returns c = c.adding.invariant ∙ ap (λ t. c.args.text.now.items ++ t) (text_whole c.args.machine.now c.adding.k c.in_default.ensures.block)
+
+pub line_of-requires : goal.line_of-requires
+line_of-requires c = search rules
+
+pub branch-line-requires : goal.branch-line-requires
+branch-line-requires c κs = search rules
+
+pub returns-in_err-line : goal.returns-in_err-line
+returns-in_err-line c = search rules
+
+pub returns-in_err-extend_from_slice : goal.returns-in_err-extend_from_slice
+returns-in_err-extend_from_slice c = search rules
+
+pub overflow_add-k : goal.overflow_add-k
+overflow_add-k c = search rules
+
+pub adding-smaller : goal.adding-smaller
+adding-smaller c = grind (arith, elements)

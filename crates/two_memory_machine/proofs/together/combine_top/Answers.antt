@@ -1,3 +1,5 @@
+use Rattle.std.proofs.lemmas.Bool.Decides.{nat_tests}
+use Rattle.std.proofs.lemmas.Grind.{common_steps, elements}
 use Rattle.std.proofs.Common.{◌≡◌, ◌+◌, ◌≤◌, Some, length, refl, sym, arith}
 use Rattle.std.specs.Prelude.{slice_get}
 use Rattle.code_words.specs.Functions.{Func}
@@ -19,3 +21,12 @@ returns c =
     let makes : combined_of (slice_get (ahead_of m) 1) left right ≡ Some word = rw stands (sym c.in-Some-combined.ensures) in
     let room : (f : Func) → IsIn m f → length m.frame.stack + 1 ≤ f.stack = λ f here. omega (arith, c.free.ensures f here, c.if-free-lt1.false) in
     rw c.replace.ensures (top_goes m c.requires.paced c.requires.going c.requires.runs right first m.frame.stack left word refl c.in-Some-word.ensures makes room)
+
+pub replace-requires-clause-there : goal.replace-requires-clause-there
+replace-requires-clause-there c = grind (arith, common_steps)
+
+pub replace-requires-clause-room : goal.replace-requires-clause-room
+replace-requires-clause-room c = grind (arith, nat_tests)
+
+pub replace-requires-clause-within : goal.replace-requires-clause-within
+replace-requires-clause-within c = grind (arith, elements)

@@ -1,4 +1,5 @@
-use Rattle.std.proofs.Common.{◌≡◌, ◌+◌, ◌<◌, ◌≤◌, ◌++◌, ◌∷◌, [], length, drop, take, map, sym, ap, ◌∙◌, arith}
+use Rattle.std.proofs.lemmas.Grind.{common_steps}
+use Rattle.std.proofs.Common.{◌≡◌, ◌+◌, ◌<◌, ◌≤◌, ◌++◌, ◌∷◌, [], length, drop, take, map, sym, ap, ◌∙◌, arith, rules}
 use Rattle.std.specs.Prelude.{slice_set}
 use Rattle.std.proofs.Math.ListN.{length-set}
 use Rattle.std.proofs.lemmas.List.{drop_more, take_more_set, append_assoc, map-append}
@@ -62,3 +63,21 @@ loop-i-preserved c =
       low = All-set (λ (r : BlockRow). r.offset ≤ c.args.size) rows i row (omega (arith, within a)) c.loop-i.invariant.low;
       room = omega (arith, some a, next, len, c.loop-i.invariant.room);
     }
+
+pub loop-i-init : goal.loop-i-init
+loop-i-init c = grind (arith, common_steps)
+
+pub offset_bounds-blocks-i : goal.offset_bounds-blocks-i
+offset_bounds-blocks-i c = search rules
+
+pub loop-i-smaller : goal.loop-i-smaller
+loop-i-smaller c = search rules
+
+pub returns-clause-len : goal.returns-clause-len
+returns-clause-len c = search rules
+
+pub returns-clause-low : goal.returns-clause-low
+returns-clause-low c = search rules
+
+pub returns-clause-rows : goal.returns-clause-rows
+returns-clause-rows c = grind (arith, common_steps)

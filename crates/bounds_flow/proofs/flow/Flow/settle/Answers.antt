@@ -1,4 +1,5 @@
-use Rattle.std.proofs.Common.{List, false, ap, length, subst, sym, ◌∙◌}
+use Rattle.std.proofs.lemmas.Grind.{common_steps}
+use Rattle.std.proofs.Common.{List, false, ap, length, subst, sym, ◌∙◌, rules, arith}
 use Rattle.std.proofs.lemmas.List.{length-map}
 use Rattle.bounds_flow.specs.declared.held.Held.{Held}
 use Rattle.bounds_flow.specs.declared.changes.Change.TheVariants.{Settle}
@@ -23,3 +24,18 @@ returns-clause-answers c =
     let P : List Held → Type 0 = λ l. Answers flow.facts.vars flow.facts.table l c.in_ok-answer.answer in
     let Q : Knowledge → Type 0 = λ f. Answers f.vars f.facts f.held c.in_ok-answer.answer in
     subst Q c.self.view_is (subst P c.deref.ensures.value c.in_ok-answer.ensures)
+
+pub first_unmet-requires-clause-below : goal.first_unmet-requires-clause-below
+first_unmet-requires-clause-below c = search rules
+
+pub returns-in_err-answer-clause-answers : goal.returns-in_err-answer-clause-answers
+returns-in_err-answer-clause-answers c = search rules
+
+pub returns-in_err-answer-clause-after : goal.returns-in_err-answer-clause-after
+returns-in_err-answer-clause-after c = search rules
+
+pub returns-in_err-answer-clause-err : goal.returns-in_err-answer-clause-err
+returns-in_err-answer-clause-err c = search rules
+
+pub returns-clause-after : goal.returns-clause-after
+returns-clause-after c = grind (arith, common_steps)

@@ -1,3 +1,4 @@
+use Rattle.std.proofs.Common.{rules}
 use Rattle.code_words_listing.proofs.states.State.step.Goals as goal
 
 pub returns-in-Trusted : goal.returns-in-Trusted
@@ -14,3 +15,24 @@ returns-in-Sandbox c = rw c.in-Sandbox.is c.sandbox_step.ensures
 
 pub returns-in-Body : goal.returns-in-Body
 returns-in-Body c = rw c.in-Body.is c.body_step.ensures
+
+pub returns-in-Start : goal.returns-in-Start
+returns-in-Start c = search rules
+
+pub returns-in-Headed : goal.returns-in-Headed
+returns-in-Headed c = search rules
+
+pub callback_step-requires-clause-reached : goal.callback_step-requires-clause-reached
+callback_step-requires-clause-reached c = search rules
+
+pub trusted_function_step-requires-clause-paced : goal.trusted_function_step-requires-clause-paced
+trusted_function_step-requires-clause-paced c = search rules
+
+pub body_step-requires-clause-reached : goal.body_step-requires-clause-reached
+body_step-requires-clause-reached c = search rules
+
+pub body_step-requires-clause-paced : goal.body_step-requires-clause-paced
+body_step-requires-clause-paced c = search rules
+
+pub returns : goal.returns
+returns c = search rules

@@ -1,4 +1,5 @@
-use Rattle.std.proofs.Common.{◌≡◌, suc, ◌+◌, ◌<◌, Some, true, false, nat_lt, length, drop, refl, subst, sym, ap, ◌∙◌, arith}
+use Rattle.std.proofs.lemmas.Grind.{elements}
+use Rattle.std.proofs.Common.{◌≡◌, suc, ◌+◌, ◌<◌, Some, true, false, nat_lt, length, drop, refl, subst, sym, ap, ◌∙◌, arith, rules}
 use Rattle.std.proofs.lemmas.Bool.Decides.{nat_tests}
 use Rattle.code_words.specs.SandboxCode.{depth, function_of}
 use Rattle.sandbox_actor_code.specs.CallFrames.{Call, at_next, with_stack}
@@ -56,3 +57,27 @@ returns c = λ f here.
     let count = open_behind i.waiting.calls (running (code i)) in
     let room : nat_lt (suc (depth (running (code i)))) 1000 ≡ true = grind (arith, nat_tests, count, c.len.ensures.count, c.if-len-ge-MAX_OPEN.false) in
     rw (← c.self.view_is, named, top.enough, ← top.same, room, c.call.ensures, c.as_slice.ensures.items, c.push.ensures.calls, moved b, p) (refl, refl, refl, (refl, refl))
+
+pub returns-in_default : goal.returns-in_default
+returns-in_default c = search rules
+
+pub returns-in_default-top_words : goal.returns-in_default-top_words
+returns-in_default-top_words c = search rules
+
+pub pop-requires : goal.pop-requires
+pop-requires c = search rules
+
+pub advance-requires : goal.advance-requires
+advance-requires c = search rules
+
+pub push-requires-clause-few : goal.push-requires-clause-few
+push-requires-clause-few c = search rules
+
+pub push-requires-clause-room : goal.push-requires-clause-room
+push-requires-clause-room c = search rules
+
+pub call-requires-clause-room : goal.call-requires-clause-room
+call-requires-clause-room c = search rules
+
+pub call-requires-clause-fits : goal.call-requires-clause-fits
+call-requires-clause-fits c = grind (arith, elements)

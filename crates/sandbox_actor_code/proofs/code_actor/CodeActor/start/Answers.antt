@@ -1,4 +1,5 @@
-use Rattle.std.proofs.Common.{List, ap, ◌∙◌}
+use Rattle.std.proofs.lemmas.Bool.Decides.{nat_tests}
+use Rattle.std.proofs.Common.{List, ap, ◌∙◌, rules, arith}
 use Rattle.std.specs.Prelude.{◌==◌, All, slice_get}
 use Rattle.flat_bytes.specs.Blocks.{first_offset}
 use Rattle.code_words.specs.Functions.{Func}
@@ -25,3 +26,24 @@ invariant_of-result c =
       waiting = _;
       phase = _;
     })
+
+pub offsets_with-requires : goal.offsets_with-requires
+offsets_with-requires c = search rules
+
+pub returns-in_err-offsets_with : goal.returns-in_err-offsets_with
+returns-in_err-offsets_with c = search rules
+
+pub returns-in_err-start : goal.returns-in_err-start
+returns-in_err-start c = search rules
+
+pub branch-start-requires-2 : goal.branch-start-requires-2
+branch-start-requires-2 c κs = search rules
+
+pub from_residual-requires-in_err-start-2 : goal.from_residual-requires-in_err-start-2
+from_residual-requires-in_err-start-2 c κs = search rules
+
+pub returns-in_err-start-2 : goal.returns-in_err-start-2
+returns-in_err-start-2 c = search rules
+
+pub returns : goal.returns
+returns c = grind (arith, nat_tests)

@@ -1,3 +1,4 @@
+use Rattle.std.proofs.lemmas.Bool.Decides.{nat_tests}
 use Rattle.std.proofs.Common.{◌≡◌, ◌<◌, ◌+◌, ◌-◌, ◌∷◌, get_or, subst, sym, ap, refl, ◌∙◌, arith, length}
 use Rattle.std.proofs.lemmas.Option.{slice_get_read, slice_get_within, get_or_from_slice_get}
 use Rattle.code_words.specs.Functions.{Func}
@@ -66,3 +67,6 @@ returns-clause-there c =
     let some = some_wait i c.self.invariant (rw (← c.self.view_is) at c.requires) in
     let last = last_of i c.self.invariant c.index.result.now some c.index.ensures in
     fun_there i.funs.now c.index.result.now.function last.call.f c.index-self-function.result last.call.there
+
+pub overflow_sub-self : goal.overflow_sub-self
+overflow_sub-self c = grind (arith, nat_tests)

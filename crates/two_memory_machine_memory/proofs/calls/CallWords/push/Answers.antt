@@ -1,4 +1,5 @@
-use Rattle.std.proofs.Common.{◌≡◌, ◌+◌, ◌-◌, ◌<◌, ◌≤◌, ◌∷◌, length, drop, nat_lt, true, false, refl, sym, ap, ◌∙◌, arith}
+use Rattle.std.proofs.lemmas.Grind.{elements, common_steps}
+use Rattle.std.proofs.Common.{◌≡◌, ◌+◌, ◌-◌, ◌<◌, ◌≤◌, ◌∷◌, length, drop, nat_lt, true, false, refl, sym, ap, ◌∙◌, arith, rules}
 use Rattle.std.proofs.lemmas.Bool.Decides.{nat_tests}
 use Rattle.std.specs.Prelude.{slice_set}
 use Rattle.two_memory_machine_memory.specs.CallInsides.{window, call_stack, behind_rows}
@@ -52,3 +53,12 @@ returns-clause-after c =
     let behind : behind_rows (slice_set words (top - 1) w) i.rows.items i.count ≡ behind_rows words i.rows.items i.count =
     rows_same i.funs.now i.stride i.rows.items i.count i.extent.base _ words h.behind (same_set i.extent.base (top - 1) w words (omega (arith, h.order.slots, above))) in
     rw (← c.self.view_is, slots, stack, behind) refl
+
+pub overflow_add-top : goal.overflow_add-top
+overflow_add-top c = grind (arith, elements)
+
+pub overflow_sub-top : goal.overflow_sub-top
+overflow_sub-top c = search rules
+
+pub invariant_of-self : goal.invariant_of-self
+invariant_of-self c = grind (arith, common_steps)

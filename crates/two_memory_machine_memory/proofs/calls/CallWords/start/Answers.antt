@@ -1,3 +1,4 @@
+use Rattle.std.proofs.lemmas.Grind.{elements}
 use Rattle.std.proofs.Common.{◌≡◌, ◌+◌, ◌-◌, ◌*◌, ◌≤◌, [], length, take, replicate, refl, sym, ap, ◌∙◌, arith, rules}
 use Rattle.std.proofs.Math.Nat.{sub-zero}
 use Rattle.std.proofs.lemmas.List.{drop_all, length-take-le, length-replicate, take-replicate}
@@ -19,3 +20,18 @@ returns c = λ f found.
     let len : length words ≡ widest * 1000 = ap length zeros ∙ length-replicate (widest * 1000) 0 in
     let stack : window (g.slots + g.stack) (g.slots + g.stack) words ≡ [] = drop_all (g.slots + g.stack) (take (g.slots + g.stack) words) (omega (arith, length-take-le (g.slots + g.stack) words (omega (arith, fits, len)))) in
     rw (c.slots-room.ensures.slots, c.stack.ensures.stack, slots, stack, f_is) refl
+
+pub overflow_mul-stride : goal.overflow_mul-stride
+overflow_mul-stride c = search rules
+
+pub returns-in_err-vec : goal.returns-in_err-vec
+returns-in_err-vec c = search rules
+
+pub from_residual-requires-in_err-vec-2 : goal.from_residual-requires-in_err-vec-2
+from_residual-requires-in_err-vec-2 c κs = search rules
+
+pub returns-in_err-vec-2 : goal.returns-in_err-vec-2
+returns-in_err-vec-2 c = search rules
+
+pub invariant_of-result : goal.invariant_of-result
+invariant_of-result c = grind (arith, elements)

@@ -1,4 +1,5 @@
-use Rattle.std.proofs.Common.{◌≡◌, ◌≤◌, Some, take, refl, sym, ap, ◌∙◌, arith}
+use Rattle.std.proofs.lemmas.Grind.{elements}
+use Rattle.std.proofs.Common.{◌≡◌, ◌≤◌, Some, take, refl, sym, ap, ◌∙◌, arith, rules}
 use Rattle.std.specs.Prelude.{slice_get}
 use Rattle.std.proofs.lemmas.List.{length-take}
 use Rattle.std.proofs.lemmas.List.Elements.{All-take}
@@ -34,3 +35,9 @@ returns-clause-block c =
     let b = (goal.at.returns-clause-block c).In_ok-block in
     let i = c.self.inside in
     rw (c.placed.ensures, ← c.self.view_is, slice_get-map block_row (take i.made i.blocks.items) c.args.k c.in_ok-block.block.now (there b), c.self.invariant.base) refl
+
+pub slice_bounds-get-end : goal.slice_bounds-get-end
+slice_bounds-get-end c = search rules
+
+pub returns-in_err-block-clause-block : goal.returns-in_err-block-clause-block
+returns-in_err-block-clause-block c = grind (arith, elements)

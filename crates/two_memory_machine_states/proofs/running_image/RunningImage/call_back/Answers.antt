@@ -1,4 +1,4 @@
-use Rattle.std.proofs.Common.{◌≡◌, Some, None, true, false, nat_lt, length, suc, ◌+◌, refl, sym, ap, subst, ◌∙◌, arith}
+use Rattle.std.proofs.Common.{◌≡◌, Some, None, true, false, nat_lt, length, suc, ◌+◌, refl, sym, ap, subst, ◌∙◌, arith, rules}
 use Rattle.std.specs.Prelude.{slice_get, ◌==◌}
 use Rattle.std.proofs.lemmas.Bool.Decides.{nat_tests}
 use Rattle.marshalling.specs.Crossing.{arguments_fault}
@@ -85,3 +85,27 @@ returns-then-not-may_call c = rw (← c.self.view_is)
     let deep : nat_lt (suc (length (callers_in (doing_of i.phase) i.calls.frame (callers_of i.calls.behind)))) 1000 ≡ false =
     rw a.is (grind (arith, nat_tests, c.self.invariant.depth, sym c.may_call-may_call.ensures ∙ c.if-not-may_call.true)) in
     rw (named (goal.at.returns-then-not-may_call c).In-Some, same, soon, deep) ((rw (c.set_ticks.ensures, ← c.self.view_is) at c.end_move-then-not-may_call.ensures.line) acts inputs events))
+
+pub overflow_add-self-inside : goal.overflow_add-self-inside
+overflow_add-self-inside c = search rules
+
+pub len-size-requires : goal.len-size-requires
+len-size-requires c κs = search rules
+
+pub overflow_cast-size : goal.overflow_cast-size
+overflow_cast-size c = search rules
+
+pub overflow_add-spent : goal.overflow_add-spent
+overflow_add-spent c = search rules
+
+pub set_ticks-requires : goal.set_ticks-requires
+set_ticks-requires c = search rules
+
+pub run_callback-requires-clause-going : goal.run_callback-requires-clause-going
+run_callback-requires-clause-going c = search rules
+
+pub run_callback-requires-clause-suspended : goal.run_callback-requires-clause-suspended
+run_callback-requires-clause-suspended c = search rules
+
+pub run_callback-requires-clause-few : goal.run_callback-requires-clause-few
+run_callback-requires-clause-few c = grind (arith, nat_tests)

@@ -1,4 +1,4 @@
-use Rattle.std.proofs.Common.{◌≡◌, Some, None, true, false, nat_le, nat_lt, length, suc, refl, sym, ap, ◌∙◌, arith}
+use Rattle.std.proofs.Common.{◌≡◌, Some, None, true, false, nat_le, nat_lt, length, suc, refl, sym, ap, ◌∙◌, arith, rules}
 use Rattle.std.specs.Prelude.{slice_get}
 use Rattle.std.proofs.lemmas.Bool.Decides.{nat_tests}
 use Rattle.code_words.specs.Table.{Passes}
@@ -48,3 +48,9 @@ returns c = λ f here acts inputs events.
     let going : i.over ≡ None = ap (λ (m : Machine). m.over) c.self.view_is ∙ c.requires.going in
     let deep : nat_lt (suc (length (callers_of i.calls.behind))) 1000 ≡ true = grind (arith, nat_tests, c.self.invariant.depth, sym c.may_call.ensures ∙ c.if-not-may_call.false) in
     rw (← c.self.view_is, there b, p, (top b).enough, ← (top b).same, deep, c.pop.ensures, c.args-args.ensures.args) (refl, (Passes c.args.import c.in-Some-top_words.words c.args.place, refl), going, (refl, refl))
+
+pub pop-requires : goal.pop-requires
+pop-requires c = search rules
+
+pub invariant_of-self : goal.invariant_of-self
+invariant_of-self c = grind (arith, nat_tests)

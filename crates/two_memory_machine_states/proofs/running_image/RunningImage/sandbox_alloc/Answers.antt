@@ -1,3 +1,5 @@
+use Rattle.std.proofs.lemmas.Bool.Decides.{nat_tests}
+use Rattle.std.proofs.lemmas.Grind.{elements}
 use Rattle.std.proofs.Common.{◌≡◌, ◌*◌, true, length, drop, refl, ap, ◌∙◌, arith, rules}
 use Rattle.std.specs.Prelude.{FitsSigned}
 use Rattle.std.proofs.lemmas.Int.{to_z-of_z}
@@ -23,3 +25,15 @@ returns c = λ f here acts inputs events.
     let pushes : IsIn after f → GoesBy (push f (offset_unless (is_refused size m.room bytes) m.room) (drop 1 m.frame.stack) m.frame) after c.push-2.result c.push-2.new.self =
     (rw (c.make_sandbox_block-offset.ensures.offset, c.make_sandbox_block-offset.ensures.after, same) at c.push-2.ensures) f in
     rw (pop_found m.frame.stack c.in-Some.count _ _ c.in-Some.ensures, positive) (brings_at acts inputs events _ m after c.push-2.new.self c.push-2.result refl refl (pushes here acts inputs events))
+
+pub returns-in_default : goal.returns-in_default
+returns-in_default c = search rules
+
+pub push-requires-clause-there : goal.push-requires-clause-there
+push-requires-clause-there c = grind (arith, elements)
+
+pub returns-then-cast_signed-le0 : goal.returns-then-cast_signed-le0
+returns-then-cast_signed-le0 c = grind (arith, nat_tests)
+
+pub push-requires-2-clause-there : goal.push-requires-2-clause-there
+push-requires-2-clause-there c = grind (arith, elements)

@@ -1,4 +1,5 @@
-use Rattle.std.proofs.Common.{◌≡◌, ℕ, ◌+◌, Some, [], length, map, take, refl, sym, ap, ◌∙◌, arith}
+use Rattle.std.proofs.lemmas.Bool.Decides.{nat_tests}
+use Rattle.std.proofs.Common.{◌≡◌, ℕ, ◌+◌, Some, [], length, map, take, refl, sym, ap, ◌∙◌, arith, rules}
 use Rattle.std.specs.Prelude.{slice_get}
 use Rattle.std.proofs.lemmas.Option.{slice_get_within}
 use Rattle.act_words.specs.declared.settings.Settings.{Settings}
@@ -108,3 +109,84 @@ returns c =
       runs = refl;
       over = refl;
     }
+
+pub unwrap-function-requires : goal.unwrap-function-requires
+unwrap-function-requires c = search rules
+
+pub returns-in_err-bytes : goal.returns-in_err-bytes
+returns-in_err-bytes c = search rules
+
+pub from_bytes-requires-clause-not_null : goal.from_bytes-requires-clause-not_null
+from_bytes-requires-clause-not_null c = search rules
+
+pub from_bytes-requires-clause-addresses : goal.from_bytes-requires-clause-addresses
+from_bytes-requires-clause-addresses c = search rules
+
+pub from_bytes-requires-clause-counted : goal.from_bytes-requires-clause-counted
+from_bytes-requires-clause-counted c = search rules
+
+pub branch-rows_with-requires : goal.branch-rows_with-requires
+branch-rows_with-requires c κs = search rules
+
+pub drop-from_bytes-requires : goal.drop-from_bytes-requires
+drop-from_bytes-requires c κs = search rules
+
+pub returns-in_err-rows_with : goal.returns-in_err-rows_with
+returns-in_err-rows_with c = grind (arith, nat_tests)
+
+pub overflow_add-settings : goal.overflow_add-settings
+overflow_add-settings c = search rules
+
+pub branch-offsets_with-requires : goal.branch-offsets_with-requires
+branch-offsets_with-requires c κs = search rules
+
+pub drop-branch-requires : goal.drop-branch-requires
+drop-branch-requires c κs = search rules
+
+pub returns-in_err-offsets_with : goal.returns-in_err-offsets_with
+returns-in_err-offsets_with c = search rules
+
+pub branch-offsets_with-requires-2 : goal.branch-offsets_with-requires-2
+branch-offsets_with-requires-2 c κs = search rules
+
+pub drop-branch-requires-in_err-offsets_with-2 : goal.drop-branch-requires-in_err-offsets_with-2
+drop-branch-requires-in_err-offsets_with-2 c κs = search rules
+
+pub returns-in_err-offsets_with-2 : goal.returns-in_err-offsets_with-2
+returns-in_err-offsets_with-2 c = search rules
+
+pub drop-branch-requires-in_err-start : goal.drop-branch-requires-in_err-start
+drop-branch-requires-in_err-start c κs = search rules
+
+pub drop-branch-requires-in_err-start-2 : goal.drop-branch-requires-in_err-start-2
+drop-branch-requires-in_err-start-2 c κs = search rules
+
+pub drop-from_bytes-requires-in_err-start : goal.drop-from_bytes-requires-in_err-start
+drop-from_bytes-requires-in_err-start c κs = search rules
+
+pub returns-in_err-start : goal.returns-in_err-start
+returns-in_err-start c = grind (arith, nat_tests)
+
+pub branch-memory_with-requires : goal.branch-memory_with-requires
+branch-memory_with-requires c κs = search rules
+
+pub drop-branch-requires-in_err-memory_with : goal.drop-branch-requires-in_err-memory_with
+drop-branch-requires-in_err-memory_with c κs = search rules
+
+pub drop-branch-requires-in_err-memory_with-2 : goal.drop-branch-requires-in_err-memory_with-2
+drop-branch-requires-in_err-memory_with-2 c κs = search rules
+
+pub drop-branch-requires-in_err-memory_with-3 : goal.drop-branch-requires-in_err-memory_with-3
+drop-branch-requires-in_err-memory_with-3 c κs = search rules
+
+pub drop-branch-requires-in_err-memory_with-4 : goal.drop-branch-requires-in_err-memory_with-4
+drop-branch-requires-in_err-memory_with-4 c κs = search rules
+
+pub drop-branch-requires-in_err-memory_with-5 : goal.drop-branch-requires-in_err-memory_with-5
+drop-branch-requires-in_err-memory_with-5 c κs = search rules
+
+pub drop-from_bytes-requires-in_err-memory_with : goal.drop-from_bytes-requires-in_err-memory_with
+drop-from_bytes-requires-in_err-memory_with c κs = search rules
+
+pub returns-in_err-memory_with : goal.returns-in_err-memory_with
+returns-in_err-memory_with c = grind (arith, nat_tests)

@@ -1,0 +1,15 @@
+use Rattle.std.proofs.lemmas.Grind.{common_steps}
+use Rattle.std.proofs.Common.{arith}
+use Rattle.two_memory_machine_memory.proofs.bounds.scaled.Goals as goal
+
+pub overflow_mul-result : goal.overflow_mul-result
+overflow_mul-result c = grind (arith, common_steps)
+
+pub returns-clause-value : goal.returns-clause-value
+returns-clause-value c = grind (arith, common_steps)
+
+pub returns-clause-low : goal.returns-clause-low
+returns-clause-low c = grind (arith, common_steps)
+
+pub returns-clause-high : goal.returns-clause-high
+returns-clause-high c = grind (arith, common_steps)
