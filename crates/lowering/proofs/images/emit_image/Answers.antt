@@ -1,4 +1,6 @@
-use Rattle.std.proofs.Common.{map, ap, subst, ◌∙◌}
+use Rattle.std.proofs.lemmas.Bool.Decides.{nat_tests}
+use Rattle.std.proofs.lemmas.Grind.{elements, common_steps}
+use Rattle.std.proofs.Common.{map, ap, subst, ◌∙◌, rules, arith}
 use Rattle.std.proofs.lemmas.List.Elements.{All-nil}
 use Rattle.std.specs.Prelude.{All}
 use Rattle.code_words.specs.Formats.{IsFunc, IsImport}
@@ -19,3 +21,54 @@ invariant_of-result c =
       format = keeps_format (erased c.args.program.now) c.requires;
       names = record { functions = λ k d low. (funs k d low).named; bodies = All-nil _; imports = λ k d low. (imports k d low).named };
     })
+
+pub branch-blocks-requires : goal.branch-blocks-requires
+branch-blocks-requires c κs = search rules
+
+pub from_residual-requires : goal.from_residual-requires
+from_residual-requires c κs = search rules
+
+pub returns-in_err-blocks : goal.returns-in_err-blocks
+returns-in_err-blocks c = search rules
+
+pub as_slice-requires-2 : goal.as_slice-requires-2
+as_slice-requires-2 c κs = search rules
+
+pub emit_functions-requires-clause-small : goal.emit_functions-requires-clause-small
+emit_functions-requires-clause-small c = search rules
+
+pub emit_functions-requires-clause-few : goal.emit_functions-requires-clause-few
+emit_functions-requires-clause-few c = grind (arith, elements)
+
+pub branch-funs-requires : goal.branch-funs-requires
+branch-funs-requires c κs = search rules
+
+pub drop-blocks-inside-requires : goal.drop-blocks-inside-requires
+drop-blocks-inside-requires c κs = search rules
+
+pub returns-in_err-funs : goal.returns-in_err-funs
+returns-in_err-funs c = grind (arith, nat_tests)
+
+pub as_slice-requires-3 : goal.as_slice-requires-3
+as_slice-requires-3 c κs = search rules
+
+pub tainted_imports-requires-clause-small : goal.tainted_imports-requires-clause-small
+tainted_imports-requires-clause-small c = grind (arith, nat_tests)
+
+pub tainted_imports-requires-clause-few : goal.tainted_imports-requires-clause-few
+tainted_imports-requires-clause-few c = grind (arith, common_steps)
+
+pub branch-imports-requires : goal.branch-imports-requires
+branch-imports-requires c κs = search rules
+
+pub from_residual-requires-in_err-imports : goal.from_residual-requires-in_err-imports
+from_residual-requires-in_err-imports c κs = search rules
+
+pub drop-funs-inside-requires : goal.drop-funs-inside-requires
+drop-funs-inside-requires c κs = search rules
+
+pub returns-in_err-imports : goal.returns-in_err-imports
+returns-in_err-imports c = search rules
+
+pub returns : goal.returns
+returns c = grind (arith, elements)

@@ -1,4 +1,5 @@
-use Rattle.std.proofs.Common.{◌≡◌, length, sym, ap, subst, arith}
+use Rattle.std.proofs.lemmas.Grind.{common_steps, elements}
+use Rattle.std.proofs.Common.{◌≡◌, length, sym, ap, subst, arith, rules}
 use Rattle.std.proofs.lemmas.List.{length-map}
 use Rattle.pointer_modes.specs.Types.{ctype}
 use Rattle.check_insertion.specs.Erased.{function, statements_of}
@@ -27,3 +28,15 @@ emit_statements-requires-clause-sized c =
     let slots : c.len.result ≡ length (function c.args.f.now).locals = omega (arith, c.len.ensures, c.args.f.now.locals.ok.0, length-map c.args.f.now.locals.items ctype) in
     subst (λ xs. SizedStatements c.len.result (statements_of xs)) (sym c.as_slice-body.ensures.value)
     (subst (λ k. SizedStatements k (statements_of c.args.f.now.body.items)) (sym slots) c.requires.sized)
+
+pub overflow_cast-targets : goal.overflow_cast-targets
+overflow_cast-targets c = grind (arith, common_steps)
+
+pub returns-in_err-emit_statements : goal.returns-in_err-emit_statements
+returns-in_err-emit_statements c = grind (arith, elements)
+
+pub returns-in_err-emit_ending : goal.returns-in_err-emit_ending
+returns-in_err-emit_ending c = search rules
+
+pub returns : goal.returns
+returns c = grind (arith, elements)
