@@ -1,86 +1,18 @@
-// Files and the output of the operating system, and calls whose files or outputs fail.
+// Calls whose files or outputs fail.
 
 use crate::calls::{Call, answers, answers_over, files, words_of};
-use crate::lines::{add, add_number};
+use crate::lines::add;
 use crate::rows::expect;
 use act_recorder::endings::answer_text;
 use act_words::ending::Ending;
 use ccbox_call::call::ccbox;
 use ckc_io::blank_sink::BlankSink;
-use ckc_io::file_shelf::FileShelf;
 use ckc_io::mem_shelf::MemShelf;
-use ckc_io::out_sink::OutSink;
 use ckc_io::shelf::{Shelf, ShelfFault};
 use ckc_io::sink::Sink;
 use ckc_io::sure_sink::SureSink;
-use ckc_io::whole::read_whole;
 use std::alloc::Global;
 use std::test::Fail;
-use std::{fs, process};
-
-// Whether the bytes from the eighth on are the last two, of a file with ten.
-fn reads(rt: &HostRuntime, name: &str) -> bool {
-    let mut into = [0u8; 4];
-    let read = FileShelf::new(rt).read_at(name, 8, &mut into);
-    matches!(read, Ok(2)) && into.as_slice() == b"89\0\0".as_slice()
-}
-
-// Why a file can't be read, if it can't.
-fn fault(rt: &HostRuntime, name: &str, from: u64) -> Option<ShelfFault> {
-    let mut into = [0u8; 4];
-    FileShelf::new(rt).read_at(name, from, &mut into).err()
-}
-
-// Whether a file that is written is read, and removed.
-fn reads_written(rt: &HostRuntime, path: &str) -> bool {
-    let written = fs::write(rt, path, "0123456789").is_ok();
-    let read = reads(rt, path);
-    let removed = fs::remove_file(rt, path).is_ok();
-    written && read && removed
-}
-
-// Whether files that can't be read are told apart.
-fn has_faults(rt: &HostRuntime, missing: &str) -> bool {
-    matches!(fault(rt, missing, 8), Some(ShelfFault::Missing))
-        && matches!(fault(rt, "/", 0), Some(ShelfFault::Failed))
-}
-
-// Whether a file of ten thousand bytes, each of its pieces another one, is read whole.
-fn reads_large(rt: &HostRuntime, path: &str) -> bool {
-    let mut text = String::new(rt.alloc());
-    for number in 10_000..12_000 {
-        add_number(&mut text, "", number);
-    }
-    let written = fs::write(rt, path, text.as_str()).is_ok();
-    let read = match read_whole(rt.alloc(), &mut FileShelf::new(rt), path, 20_000) {
-        Ok(bytes) => bytes.as_slice() == text.as_bytes(),
-        Err(_) => false,
-    };
-    let removed = fs::remove_file(rt, path).is_ok();
-    written && read && removed
-}
-
-// Whether a file of the system is read while it is there. A blank at the end of its name is a part of the name.
-fn reads_file_of_system(rt: &HostRuntime) -> bool {
-    let mut path = String::new(rt.alloc());
-    add_number(&mut path, "/tmp/file_shelf_", process::id(rt.process()));
-    let mut other = String::new(rt.alloc());
-    add(&mut other, path.as_str());
-    add(&mut other, " ");
-    reads_written(rt, path.as_str())
-        && has_faults(rt, path.as_str())
-        && reads_large(rt, path.as_str())
-        && fs::write(rt, other.as_str(), "0123456789").is_ok()
-        && has_faults(rt, path.as_str())
-        && reads(rt, other.as_str())
-        && fs::remove_file(rt, other.as_str()).is_ok()
-}
-
-// Whether the output of the system takes a piece.
-fn takes_piece(rt: &HostRuntime) -> bool {
-    let mut sink = OutSink::new(rt);
-    matches!(sink.put(b""), Ok(0)) && matches!(sink.put(b"a"), Ok(1))
-}
 
 // A shelf that gives one byte a call, and tells nothing of its files.
 #[derive(Drop)]
@@ -308,13 +240,9 @@ fn drops(alloc: Global) -> bool {
 }
 
 /// Fails unless files and outputs that fail are answered as they must be.
-pub fn files_and_outputs(rt: &HostRuntime) -> Result<(), Fail> {
+pub fn files_and_outputs(alloc: Global) -> Result<(), Fail> {
     expect(
         "files and outputs",
-        reads_file_of_system(rt)
-            && takes_piece(rt)
-            && answers_so(rt.alloc())
-            && collects(rt.alloc())
-            && drops(rt.alloc()),
+        answers_so(alloc) && collects(alloc) && drops(alloc),
     )
 }

@@ -10,15 +10,11 @@ mod bounds;
 #[cfg(test)]
 mod calls;
 #[cfg(test)]
-mod cores;
-#[cfg(test)]
 mod exec;
 #[cfg(test)]
 mod facts;
 #[cfg(test)]
 mod files;
-#[cfg(test)]
-mod layouts;
 #[cfg(test)]
 mod lines;
 #[cfg(test)]
@@ -39,8 +35,6 @@ mod random_facts;
 mod recordings;
 #[cfg(test)]
 mod rows;
-#[cfg(test)]
-mod rules;
 #[cfg(test)]
 mod shapes;
 #[cfg(test)]

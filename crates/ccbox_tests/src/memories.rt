@@ -2,7 +2,6 @@
 
 ghost use Rattle.std.specs.Prelude.{◌≡◌, ◌<◌, ◌≤◌, ◌%◌};
 
-use crate::layouts::{declares_all, lays_out_all, refuses_all};
 use crate::rows::expect;
 use ckc_text::listed::Listed;
 use flat_bytes::words::{fits, get1, get4, put1, put4};
@@ -174,15 +173,11 @@ fn lists_vector(alloc: Global) -> bool {
     }
 }
 
-/// Fails unless memories and layouts are as they must be.
-pub fn memories_and_layouts(alloc: Global) -> Result<(), Fail> {
+/// Fails unless words of bytes and memories are as they must be.
+pub fn memories(alloc: Global) -> Result<(), Fail> {
     expect(
         "words and lists",
         has_words() && fits_so() && lists_vector(alloc),
     )?;
-    expect("blocks", makes_blocks(alloc) && stores_at_both_ends(alloc))?;
-    expect(
-        "layouts",
-        lays_out_all(alloc) && refuses_all(alloc) && declares_all(alloc),
-    )
+    expect("blocks", makes_blocks(alloc) && stores_at_both_ends(alloc))
 }

@@ -5,12 +5,11 @@ use crate::exec::runs_of_printed;
 use crate::facts::entailment;
 use crate::files::files_and_outputs;
 use crate::listings::{listings, printed_listings};
-use crate::memories::memories_and_layouts;
+use crate::memories::memories;
 use crate::options::many_inputs;
 use crate::printing::printing;
 use crate::recordings::keeps_acts;
 use crate::rows::expect;
-use crate::rules::codes_and_cores;
 use crate::tokens::lexing;
 use crate::trees::parsing;
 use std::alloc::Global;
@@ -19,21 +18,20 @@ use std::test::Fail;
 fn front_end(alloc: Global) -> Result<(), Fail> {
     lexing(alloc)?;
     parsing(alloc)?;
-    printing(alloc)?;
-    codes_and_cores(alloc)
+    printing(alloc)
 }
 
-fn calls(rt: &HostRuntime) -> Result<(), Fail> {
-    many_inputs(rt.alloc())?;
-    runs_of_printed(rt.alloc())?;
-    files_and_outputs(rt)
+fn calls(alloc: Global) -> Result<(), Fail> {
+    many_inputs(alloc)?;
+    runs_of_printed(alloc)?;
+    files_and_outputs(alloc)
 }
 
 fn libraries(alloc: Global) -> Result<(), Fail> {
     acts(alloc)?;
     expect("kept acts", keeps_acts(alloc))?;
     entailment(alloc)?;
-    memories_and_layouts(alloc)?;
+    memories(alloc)?;
     listings(alloc)?;
     printed_listings(alloc)
 }
@@ -42,5 +40,5 @@ fn libraries(alloc: Global) -> Result<(), Fail> {
 fn all(rt: HostRuntime) -> Result<(), Fail> {
     front_end(rt.alloc())?;
     libraries(rt.alloc())?;
-    calls(&rt)
+    calls(rt.alloc())
 }
