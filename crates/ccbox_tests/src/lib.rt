@@ -40,6 +40,8 @@ mod shapes;
 #[cfg(test)]
 mod sources;
 #[cfg(test)]
+mod structs;
+#[cfg(test)]
 mod tokens;
 #[cfg(test)]
 mod topics;

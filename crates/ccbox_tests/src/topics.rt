@@ -10,6 +10,7 @@ use crate::options::many_inputs;
 use crate::printing::printing;
 use crate::recordings::keeps_acts;
 use crate::rows::expect;
+use crate::structs::takes_members;
 use crate::tokens::lexing;
 use crate::trees::parsing;
 use std::alloc::Global;
@@ -30,6 +31,7 @@ fn calls(alloc: Global) -> Result<(), Fail> {
 fn libraries(alloc: Global) -> Result<(), Fail> {
     acts(alloc)?;
     expect("kept acts", keeps_acts(alloc))?;
+    expect("members", takes_members(alloc))?;
     entailment(alloc)?;
     memories(alloc)?;
     listings(alloc)?;
