@@ -10,15 +10,11 @@ mod bounds;
 #[cfg(test)]
 mod calls;
 #[cfg(test)]
-mod exec;
-#[cfg(test)]
 mod facts;
 #[cfg(test)]
 mod files;
 #[cfg(test)]
 mod lines;
-#[cfg(test)]
-mod listings;
 #[cfg(test)]
 mod memories;
 #[cfg(test)]
@@ -30,13 +26,9 @@ mod printing;
 #[cfg(test)]
 mod questions;
 #[cfg(test)]
-mod random_facts;
-#[cfg(test)]
 mod recordings;
 #[cfg(test)]
 mod rows;
-#[cfg(test)]
-mod shapes;
 #[cfg(test)]
 mod sources;
 #[cfg(test)]

@@ -7,7 +7,7 @@ use std::test::Fail;
 // A source, and what it is printed as.
 struct Row(&'static str, &'static str);
 
-static ROWS: [Row; 8] = [
+static ROWS: [Row; 12] = [
     Row("", "\n"),
     Row(
         "int g = 1; int main(void) { ptr<int> p = &g; *p = 41; return g + 1; }\n",
@@ -21,6 +21,22 @@ static ROWS: [Row; 8] = [
     Row(
         "#pragma CHECKED_SCOPE ON\nint x;\n#pragma CHECKED_SCOPE off\n",
         "#pragma CHECKED_SCOPE on\nint x ;\n#pragma CHECKED_SCOPE off\n",
+    ),
+    Row(
+        "#pragma CHECKED_SCOPE Off\n#pragma CHECKED_SCOPE PUSH\n# pragma  CHECKED_SCOPE on // c\n#pragma CHECKED_SCOPE pop\nint x;",
+        "#pragma CHECKED_SCOPE off\n#pragma CHECKED_SCOPE off\n#pragma CHECKED_SCOPE on\n#pragma CHECKED_SCOPE off\nint x ;\n",
+    ),
+    Row(
+        "int a=0x0;int b=0XfF;int c=2147483647;int d=0x7fffffff;",
+        "int a = 0 ; int b = 255 ; int c = 2147483647 ; int d = 2147483647 ;\n",
+    ),
+    Row(
+        "char a='a';char b='\\n';char c='\\t';char d='\\r';char e='\\0';char f='\\'';char g='\\\"';char h='\"';char i='\\xfF';",
+        "char a = 'a' ; char b = '\\x0a' ; char c = '\\x09' ; char d = '\\x0d' ; char e = '\\x00' ; char f = '\\x27' ; char g = '\\x22' ; char h = '\\x22' ; char i = '\\xff' ;\n",
+    ),
+    Row(
+        "int a=b^c;int d=~e;int f=!g;int h=i%j;int k=l/m;int n=o|p;int q=r||s;int t=u<<v;int w=x!=y;int z=a<=b;int c=d>=e;",
+        "int a = b ^ c ; int d = ~ e ; int f = ! g ; int h = i % j ; int k = l / m ; int n = o | p ; int q = r || s ; int t = u << v ; int w = x != y ; int z = a <= b ; int c = d >= e ;\n",
     ),
     Row("_Array_ptr<_Ptr<int>>p;", "array_ptr < ptr < int > > p ;\n"),
     Row(

@@ -4,9 +4,7 @@ use crate::actors::gives_all;
 use crate::acts::is_act;
 use crate::calls::call_prints;
 use crate::lines::is_number;
-use crate::shapes::has_shape;
 use crate::sources::tree_of;
-use crate::tokens::has_tokens;
 use ckc_lexer::lexer::lex;
 use ckc_text::fault::{Refused, SourceFault};
 use std::alloc::Global;
@@ -14,14 +12,10 @@ use std::alloc::Global;
 /// What is asked about a case.
 #[derive(Clone, Copy)]
 pub enum Question {
-    /// The line of its tokens.
-    Tokens,
     /// How many tokens it has.
     Count,
     /// Whether it has a tree.
     Tree,
-    /// The shape of its first variable's value.
-    Shape,
     /// The line that the act of this line is written as.
     Act,
     /// The lines of the acts that a file gives, and why no more come.
@@ -33,18 +27,16 @@ pub enum Question {
 /// Whether a case has this answer. What is printed stands without its last line feed.
 pub fn is_answer(alloc: Global, question: Question, case: &str, expected: &str) -> bool {
     match question {
-        Question::Tokens => has_tokens(alloc, case.as_bytes(), expected),
         Question::Count => has_count(alloc, case.as_bytes(), expected),
         Question::Tree => has_tree(alloc, case.as_bytes(), expected),
-        Question::Shape => has_shape(alloc, case.as_bytes(), expected),
         Question::Act => is_act(alloc, case.as_bytes(), expected),
         Question::ActFile => gives_all(alloc, case.as_bytes(), expected),
         Question::Call => call_prints(alloc, case, expected),
     }
 }
 
-// Whether a text has so many tokens, or this fault.
-fn has_count(alloc: Global, text: &[u8], expected: &str) -> bool {
+/// Whether a text has so many tokens, or this fault.
+pub fn has_count(alloc: Global, text: &[u8], expected: &str) -> bool {
     match lex(alloc, text) {
         Ok(tokens) => is_number(expected, tokens.len() as u64),
         Err(refused) => is_refusal(&refused, expected),
@@ -59,8 +51,8 @@ fn has_tree(alloc: Global, text: &[u8], expected: &str) -> bool {
     }
 }
 
-/// Whether a refusal has this code and byte.
-pub fn is_refusal(refused: &Refused, expected: &str) -> bool {
+// Whether a refusal has this code and byte.
+fn is_refusal(refused: &Refused, expected: &str) -> bool {
     match refused {
         Refused::Source(fault) => is_fault(fault, expected),
         Refused::NoMemory => false,

@@ -1,14 +1,13 @@
 // Tables of rows, and how a test ends.
 
-use crate::lines::{add, add_number};
+use crate::lines::add;
 use crate::questions::{Question, is_answer};
 use std::alloc::{AllocError, Global};
 use std::test::Fail;
 
 // A row of a table is an answer and a case, which may have more fields, with an `@` between two of them. A `¶` stands
-// for a line feed, and a count, a `×` and a piece between two backticks for so many of the piece; each `#` of the piece
-// stands for its number, from 0 on. No field but the last has one of these characters. Where the answer is `=` it is the
-// case.
+// for a line feed, and a count, a `×` and a piece between two backticks for so many of the piece. No field but the last has
+// one of these characters. Where the answer is `=` it is the case.
 
 /// What is asked, and the rows that answer it.
 pub struct Table(pub Question, pub &'static str);
@@ -27,28 +26,9 @@ fn add_part(text: &mut String, alloc: Global, part: &str) {
 }
 
 fn add_pieces(text: &mut String, alloc: Global, piece: &str, times: &str) {
-    let times = times.parse::<u32>().unwrap_or(0);
-    if piece.split_once('#').is_some() {
-        add_numbered(text, piece, times);
-    } else if let Ok(pieces) = piece.repeat(alloc, times as usize) {
+    let times = times.parse::<usize>().unwrap_or(0);
+    if let Ok(pieces) = piece.repeat(alloc, times) {
         add(text, pieces.as_str());
-    }
-}
-
-fn add_numbered(text: &mut String, piece: &str, times: u32) {
-    for number in 0..times {
-        add_piece(text, piece, number);
-    }
-}
-
-// Puts a piece with this number in place of each `#` at the end of a text.
-fn add_piece(text: &mut String, piece: &str, number: u32) {
-    for c in piece.chars() {
-        if c == '#' {
-            add_number(text, "", number);
-        } else {
-            let _ = text.push(c);
-        }
     }
 }
 

@@ -1,10 +1,8 @@
 // All topics in one test, since each test is a program of its own, and is built as one.
 
 use crate::acts::acts;
-use crate::exec::runs_of_printed;
 use crate::facts::entailment;
 use crate::files::files_and_outputs;
-use crate::listings::{listings, printed_listings};
 use crate::memories::memories;
 use crate::options::many_inputs;
 use crate::printing::printing;
@@ -22,20 +20,17 @@ fn front_end(alloc: Global) -> Result<(), Fail> {
     printing(alloc)
 }
 
-fn calls(alloc: Global) -> Result<(), Fail> {
-    many_inputs(alloc)?;
-    runs_of_printed(alloc)?;
-    files_and_outputs(alloc)
-}
-
 fn libraries(alloc: Global) -> Result<(), Fail> {
     acts(alloc)?;
     expect("kept acts", keeps_acts(alloc))?;
     expect("members", takes_members(alloc))?;
     entailment(alloc)?;
-    memories(alloc)?;
-    listings(alloc)?;
-    printed_listings(alloc)
+    memories(alloc)
+}
+
+fn calls(alloc: Global) -> Result<(), Fail> {
+    many_inputs(alloc)?;
+    files_and_outputs(alloc)
 }
 
 #[test]

@@ -1,4 +1,4 @@
-// Small sources, with the place of their refusal or the shape of their tree.
+// Small sources, with the place of their refusal.
 
 use crate::questions::Question;
 use crate::rows::{Table, expect_tables};
@@ -64,18 +64,7 @@ E07 800@`200×ptr<`int`200×>` x;
 ok@int x = `199×y[`7`199×]`;
 E07 406@int x = `200×y[`7`200×]`;";
 
-const SHAPES: &str = "[6-11 [6-9 n6 n8] n10]@int x=a-b-c;
-[6-11 [6-9 n6 n8] n10]@int x=a*b+c;
-[6-11 n6 [8-11 n8 n10]]@int x=a+b*c;
-[6-13 [7-10 n7 n9] n12]@int x=(a+b)*c;
-n8@int x=((a));
-[6-13 [7-13 n8 at 7]]@int x=-(a)[7];
-[6-12 [6-10 n6 n9] n11]@int x=a>>b<c;
-[6-20 [6-14 [6-11 [6-8 n7] [9-11 n10]] n13] [16-20 n16 n19]]@int x=-a*!b==c||d&&e;
-[6-13 n7 n11]@int x=(a)+(b);
-[6-9 n6 n8]@int x=a&b;";
-
-static TABLES: [Table; 2] = [Table(Question::Tree, TREES), Table(Question::Shape, SHAPES)];
+static TABLES: [Table; 1] = [Table(Question::Tree, TREES)];
 
 /// Fails unless each form is read as its tree.
 pub fn parsing(alloc: Global) -> Result<(), Fail> {
