@@ -3,6 +3,7 @@
 ghost use Rattle.std.specs.Prelude.{◌≡◌, ◌≤◌, ◌<◌, Some};
 
 use crate::bounds::{counts_elements, limits_constants};
+use crate::random_facts::random_questions;
 use crate::rows::expect;
 use bounds_exprs::term::Term;
 use std::alloc::Global;
@@ -240,6 +241,7 @@ pub fn entailment(alloc: Global) -> Result<(), Fail> {
         "facts",
         entails_so(alloc) && chain_joins_copy(alloc) && follows_chain(alloc),
     )?;
+    expect("random facts", random_questions(alloc))?;
     expect(
         "elements and constants",
         counts_elements(alloc) && limits_constants(),

@@ -26,6 +26,8 @@ mod printing;
 #[cfg(test)]
 mod questions;
 #[cfg(test)]
+mod random_facts;
+#[cfg(test)]
 mod recordings;
 #[cfg(test)]
 mod rows;

@@ -1,0 +1,5 @@
+use Rattle.std.proofs.Common.{◌≡◌}
+use Rattle.speed.proofs.facts.add_facts.Given as goal
+
+abbrev pub invariant-loop : goal.invariant-loop
+invariant-loop l = l.facts.vars ≡ l.vars
