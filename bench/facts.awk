@@ -1,8 +1,8 @@
 # Prints a source whose one function has so many `int` locals (`-v variables=N`; 190 where it isn't given), of which two
 # conditions tell how far each is from the next one, so that something is known of each two of them, and so many statements
 # behind these conditions (`-v statements=N`; 1,000 where it isn't given): one in three adds to a local, one forgets what is
-# known of a local and links it again, and one is an `if` that compares two and assigns a pointer that counts over one of the
-# last ten locals, which follow from the conditions.
+# known of a local and links it again, and one is an `if` that compares two and assigns a pointer, which counts over one of
+# the last ten locals, another one, whose bounds are enough by the conditions.
 function draw(below) {
     seed = (seed * 16807) % 2147483647
     return int(seed / 2147483647 * below)
