@@ -8,9 +8,7 @@ ghost use Rattle.code_words.specs.Fitting.{BlocksFit, Fits, HasMain};
 use crate::image::Image;
 use act_words::settings::Settings;
 use ckc_text::listed::Listed;
-
-// The offset of the first block of a memory.
-const FIRST_OFFSET: u32 = 16;
+use flat_bytes::blocks::{self, FIRST_OFFSET};
 
 impl Image {
     /// Whether the image may run under the settings: they lie within their limits, its static blocks aren't empty and lie in
@@ -63,25 +61,25 @@ fn blocks_fit(size: u32, blocks: &[Listed<u8>]) -> bool
 {
     let mut offset = FIRST_OFFSET;
     for block in blocks {
-        match offset_behind(size, offset, block.as_slice().len()) {
-            Some(behind) => offset = behind,
+        match block_end(size, offset, block.as_slice().len()) {
+            Some(end) => offset = end,
             None => return false,
         }
     }
     true
 }
 
-// The offset behind a block, if the block isn't empty and lies in a memory of a size.
-fn offset_behind(size: u32, offset: u32, bytes: usize) -> Option<u32>
-    ensures behind { IfSome result (λ behind. (0 < bytes) × (behind ≡ grown offset bytes) × (behind ≤ size)) }
+// Where a block and its zeros end, if it isn't empty and lies in a memory of a size.
+fn block_end(size: u32, offset: u32, bytes: usize) -> Option<u32>
+    ensures end { IfSome result (λ end. (0 < bytes) × (end ≡ grown offset bytes) × (end ≤ size)) }
     ensures none { IfNone result (0 < bytes → grown offset bytes ≤ size → ⊥) }
 {
     if bytes == 0 || bytes > size as usize {
         return None;
     }
-    let behind = offset as usize + bytes.div_ceil(16) * 16 + 16;
-    if behind > size as usize {
+    let end = blocks::grown(u64::from(offset), bytes as u64);
+    if end > u64::from(size) {
         return None;
     }
-    Some(behind as u32)
+    Some(end as u32)
 }

@@ -12,6 +12,7 @@ use crate::strings::Strings;
 use ckc_text::code::Code;
 use ckc_text::place::Span;
 use ckc_tree::text::Text;
+use flat_bytes::blocks;
 use std::alloc::Global;
 
 /// How many bytes the blocks of variables and strings may take, with the gaps behind them.
@@ -23,7 +24,7 @@ pub fn block_bytes(size: u32) -> u32
     ensures bytes { result ≡ rounded_up size + 16 }
     ensures few { result ≤ 2097168 }
 {
-    (size + 15) / 16 * 16 + 16
+    blocks::grown(0, u64::from(size)) as u32
 }
 
 // The bytes that are left of so many behind the block of a string.

@@ -1,7 +1,7 @@
 // Making an actor of an image's code.
 
-ghost use Rattle.std.specs.Prelude.{◌≡◌, ◌<◌, ◌≤◌, ◌^◌, All, IfOk, IfSome, IsTrue};
-ghost use Rattle.flat_bytes.specs.Blocks.{first_offset, grown};
+ghost use Rattle.std.specs.Prelude.{◌≡◌, ◌<◌, ◌≤◌, ◌^◌, All, IfOk, IsTrue};
+ghost use Rattle.flat_bytes.specs.Blocks.{first_offset};
 ghost use Rattle.code_words.specs.Runs.{counter_behind};
 ghost use Rattle.sandbox_actor_code.specs.Answering.{code_at_start};
 ghost use Rattle.sandbox_actor_code.specs.CallFrames.{IsRoomFor};
@@ -13,8 +13,9 @@ use crate::waiting_calls::WaitingCalls;
 use ckc_text::fault::NoMemory;
 use ckc_text::listed::Listed;
 use code_words::image::{Func, Image};
+use flat_bytes::blocks::{self, FIRST_OFFSET};
 use std::alloc::Global;
-use two_memory_machine_memory::memory::{FIRST_OFFSET, offsets_with};
+use two_memory_machine_memory::memory::offsets_with;
 
 impl<'a> CodeActor<'a> {
     /// An actor that runs the sandbox's functions of an image, and spends as many ticks at most. It takes all its memory. There
@@ -44,24 +45,18 @@ impl<'a> CodeActor<'a> {
 fn lie_in_memory(blocks: &[Listed<u8>]) -> bool
     ensures { IsTrue result → counter_behind first_offset blocks.now < 2 ^ 32 }
 {
-    let mut offset = FIRST_OFFSET;
+    let mut end = u64::from(FIRST_OFFSET);
     for block in blocks {
-        match offset_behind(offset, block.as_slice().len()) {
-            Some(behind) => offset = behind,
-            None => return false,
+        let bytes = block.as_slice().len() as u64;
+        if bytes > u64::from(u32::MAX) {
+            return false;
+        }
+        end = blocks::grown(end, bytes);
+        if end > u64::from(u32::MAX) {
+            return false;
         }
     }
     true
-}
-
-// The offset behind a block, if it has 32 bits.
-fn offset_behind(offset: u32, bytes: usize) -> Option<u32>
-    ensures { IfSome result (λ behind. (behind ≡ grown offset bytes) × (behind < 2 ^ 32)) }
-{
-    if bytes > u32::MAX as usize {
-        return None;
-    }
-    u32::try_from(offset as usize + bytes.div_ceil(16) * 16 + 16).ok()
 }
 
 // The room that the frame of each function has.

@@ -5,6 +5,7 @@ ghost use Rattle.flat_bytes.specs.Words.{word_at, with_word};
 ghost use Rattle.trusted_memory.specs.Memories.{AreAllowed, Refuses, Holds, started, made, address_made, byte_of};
 
 use ckc_text::fault::NoMemory;
+use flat_bytes::blocks::{self, FIRST_OFFSET};
 use flat_bytes::words;
 use std::alloc::Global;
 use std::marker::Model;
@@ -40,7 +41,7 @@ impl Trusted {
         Ok(Trusted {
             bytes,
             base,
-            counter: 16,
+            counter: FIRST_OFFSET,
         })
     }
 
@@ -88,7 +89,7 @@ impl Trusted {
         ensures after { self.new ≡ made self.old bytes }
         ensures refused { (result ≡ 0) ↔ Refuses self.old bytes }
     {
-        let grown = u64::from(self.counter) + u64::from(bytes).div_ceil(16) * 16 + 16;
+        let grown = blocks::grown(u64::from(self.counter), u64::from(bytes));
         if bytes == 0 || grown > self.bytes.len() as u64 {
             return 0;
         }

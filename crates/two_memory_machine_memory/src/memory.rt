@@ -8,10 +8,8 @@ ghost use Rattle.two_memory_machine_memory.specs.Places.{offsets_from, block_row
 use crate::blocks::BlockRow;
 use ckc_text::fault::NoMemory;
 use ckc_text::listed::Listed;
+use flat_bytes::blocks::{self, FIRST_OFFSET};
 use std::alloc::Global;
-
-/// The offset of the first block.
-pub const FIRST_OFFSET: u32 = 16;
 
 /// A memory of a size in which the blocks stand, with zeros elsewhere.
 pub fn memory_with(alloc: Global, size: u32, blocks: &[Listed<u8>]) -> Result<Vec<u8>, NoMemory>
@@ -37,10 +35,18 @@ fn place_block(memory: &mut Vec<u8>, block: &[u8]) -> Result<(), NoMemory>
         ++ replicate (rounded_up (length block.now) - length block.now + 16) 0) }
     ensures len { OnOk result (vec_len memory.new ≡ grown (vec_len memory.old) (length block.now)) }
 {
-    let end = memory.len() + block.len().div_ceil(16) * 16 + 16;
+    let end = blocks::grown(memory.len() as u64, block.len() as u64) as usize;
     memory.extend_from_slice(block)?;
     memory.resize(end, 0)?;
     Ok(())
+}
+
+// The offset behind a block and its zeros.
+fn next_offset(offset: u32, block: &[u8]) -> u32
+    requires { grown offset (length block.now) < 2 ^ 32 }
+    ensures { result ≡ grown offset (length block.now) }
+{
+    blocks::grown(u64::from(offset), block.len() as u64) as u32
 }
 
 /// Where the blocks stand, of which the first stands at an offset.
@@ -52,17 +58,9 @@ pub fn offsets_with(alloc: Global, first: u32, blocks: &[Listed<u8>]) -> Result<
     let mut offset = first;
     for block in blocks {
         offsets.push(offset)?;
-        offset = offset_behind(offset, block.as_slice());
+        offset = next_offset(offset, block.as_slice());
     }
     Ok(offsets)
-}
-
-/// The offset behind a block and its zeros.
-fn offset_behind(offset: u32, block: &[u8]) -> u32
-    requires { grown offset (length block.now) < 2 ^ 32 }
-    ensures { result ≡ grown offset (length block.now) }
-{
-    offset + (block.len().div_ceil(16) * 16 + 16) as u32
 }
 
 /// The blocks, and room behind them for all that a memory of a size can have.
@@ -86,7 +84,7 @@ pub fn rows_with(alloc: Global, size: u32, blocks: &[Listed<u8>]) -> Result<Vec<
             offset,
             bytes: block.len() as u32,
         };
-        offset = offset_behind(offset, block);
+        offset = next_offset(offset, block);
     }
     Ok(rows)
 }
@@ -98,7 +96,7 @@ pub fn counter_of(blocks: &[Listed<u8>]) -> u32
 {
     let mut offset = FIRST_OFFSET;
     for block in blocks {
-        offset = offset_behind(offset, block.as_slice());
+        offset = next_offset(offset, block.as_slice());
     }
     offset
 }

@@ -17,6 +17,7 @@ use act_words::ending::Ending;
 use act_words::row::Octets;
 use ckc_text::code::Code;
 use code_words::op::Op;
+use flat_bytes::blocks;
 use itoa::Buffer;
 use two_memory_machine_memory::blocks::BlockRow;
 use two_memory_machine_memory::limits::WILD;
@@ -184,7 +185,7 @@ impl<'a> RunningImage<'a> {
         ensures offset { result ≡ offset_unless (is_refused (length self.old.sandbox) self.old.room bytes) self.old.room }
         ensures after { self.new ≡ record self.old { room = counter_after (length self.old.sandbox) self.old.room bytes } }
     {
-        let grown = u64::from(self.room) + bytes.div_ceil(16) * 16 + 16;
+        let grown = blocks::grown(u64::from(self.room), bytes);
         if bytes == 0 || grown > self.sandbox.len() as u64 {
             return 0;
         }

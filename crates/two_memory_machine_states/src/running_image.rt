@@ -23,6 +23,7 @@ use ckc_text::fault::NoMemory;
 use ckc_text::place::Place;
 use code_words::image::Image;
 use code_words::op::Op;
+use flat_bytes::blocks::FIRST_OFFSET;
 use marshalling::arguments::pack;
 use std::alloc::Global;
 use std::marker::Model;
@@ -121,8 +122,8 @@ impl<'a> RunningImage<'a> {
             memory: Trusted::from_bytes(bytes, settings.base, counter),
             blocks: memory::rows_with(alloc, settings.trusted, blocks)?,
             made: blocks.len(),
-            addresses: memory::offsets_with(alloc, settings.base + memory::FIRST_OFFSET, blocks)?,
-            offsets: memory::offsets_with(alloc, memory::FIRST_OFFSET, statics)?,
+            addresses: memory::offsets_with(alloc, settings.base + FIRST_OFFSET, blocks)?,
+            offsets: memory::offsets_with(alloc, FIRST_OFFSET, statics)?,
             calls: CallWords::start(alloc, image.functions(), function)?,
             phase: Phase::Running,
             depth: 1,

@@ -30,11 +30,11 @@ pub loop-block-preserved : goal.loop-block-preserved
 loop-block-preserved c =
     let b = (goal.at.loop-block-preserved c).After-as_slice in
     let len = ap length c.as_slice.ensures in
-    let behind = c.in-Some.ensures.behind in
-    let some : 0 < length c.block-item.result = omega (arith, behind.0, len) in
-    let same : c.in-Some.behind ≡ grown c.loop-block.offset (length c.block-item.result) = behind.1 ∙ ap (grown c.loop-block.offset) len in
+    let end = c.in-Some.ensures.end in
+    let some : 0 < length c.block-item.result = omega (arith, end.0, len) in
+    let same : c.in-Some.end ≡ grown c.loop-block.offset (length c.block-item.result) = end.1 ∙ ap (grown c.loop-block.offset) len in
     record {
-      low = behind.2;
+      low = end.2;
       all = λ fits. c.loop-block.invariant.all (subst (λ blocks. BlocksFit c.args.size c.loop-block.offset blocks) (sym (split b))
           (with_first c.args.size c.loop-block.offset c.block-item.result (rest b) some (subst (λ offset. BlocksFit c.args.size offset (rest b)) same fits)));
       left = λ fits. subst (λ offset. BlocksFit c.args.size offset (rest b)) (sym same)

@@ -7,4 +7,4 @@ pub returns : goal.returns
 returns c = λ yes.
     let at = c.loop-block.invariant in
     let none : drop c.loop-block.block-index c.args.blocks.now ≡ [] = drop_all c.loop-block.block-index c.args.blocks.now (omega (arith, c.loop-block-test.false)) in
-    omega (arith, at.low, sym at.all ∙ ap (counter_behind c.loop-block.offset) none)
+    omega (arith, at.low, sym at.all ∙ ap (counter_behind c.loop-block.end) none)

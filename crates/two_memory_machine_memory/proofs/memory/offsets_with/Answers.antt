@@ -3,8 +3,8 @@ use Rattle.std.proofs.Common.{length, ap, arith, rules}
 use Rattle.two_memory_machine_memory.proofs.Statics.{next_within}
 use Rattle.two_memory_machine_memory.proofs.memory.offsets_with.Goals as goal
 
-pub offset_behind-offset-requires : goal.offset_behind-offset-requires
-offset_behind-offset-requires c =
+pub next_offset-offset-requires : goal.next_offset-offset-requires
+next_offset-offset-requires c =
     omega (arith, next_within c.args.blocks.now c.loop-block.offset c.loop-block.block-index c.block-item.result c.loop-block-test.true c.block-item.is, ap length c.as_slice.ensures, c.loop-block.invariant.counter)
 
 pub returns-in_err-push : goal.returns-in_err-push

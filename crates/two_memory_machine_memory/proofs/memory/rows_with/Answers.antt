@@ -32,8 +32,8 @@ index_mut-requires c =
     let a = (goal.at.index_mut-requires c).After-as_slice-block in
     omega (arith, within a, some a, c.loop-i.invariant.room, c.loop-i.invariant.len, c.loop-i.rows.ok.0)
 
-pub offset_behind-offset-requires : goal.offset_behind-offset-requires
-offset_behind-offset-requires c = omega (arith, within (goal.at.offset_behind-offset-requires c).After-as_slice-block)
+pub next_offset-offset-requires : goal.next_offset-offset-requires
+next_offset-offset-requires c = omega (arith, within (goal.at.next_offset-offset-requires c).After-as_slice-block)
 
 pub loop-i-preserved : goal.loop-i-preserved
 loop-i-preserved c =
@@ -45,18 +45,18 @@ loop-i-preserved c =
     let row : BlockRow = record { offset = c.loop-i.offset; bytes = length c.as_slice-block.result.now } in
     let rows = c.loop-i.rows.items in
     let inside : i < length rows = omega (arith, within a, some a, c.loop-i.invariant.room, c.loop-i.invariant.len) in
-    let next : c.offset_behind-offset.result ≡ grown c.loop-i.offset (length b) = c.offset_behind-offset.ensures ∙ ap (grown c.loop-i.offset) len in
+    let next : c.next_offset-offset.result ≡ grown c.loop-i.offset (length b) = c.next_offset-offset.ensures ∙ ap (grown c.loop-i.offset) len in
     let left : drop i blocks ≡ b ∷ drop (i + 1) blocks = drop_more blocks i b c.loop-i-test.true ∙ ap (λ x. x ∷ drop (i + 1) blocks) (sym c.index-blocks-i.is) in
     let some_b : 0 < length b = omega (arith, some a, len) in
     let fits : grown c.loop-i.offset (length b) ≤ c.args.size = omega (arith, within a, len) in
     let more : map block_row (take (i + 1) (slice_set rows i row)) ≡ map block_row (take i rows) ++ (record { offset = c.loop-i.offset; bytes = length b }) ∷ [] =
     ap (map block_row) (take_more_set rows i row inside) ∙ map-append block_row (take i rows) (row ∷ []) ∙ ap (λ n. map block_row (take i rows) ++ (record { offset = c.loop-i.offset; bytes = n }) ∷ []) len in
-    let rest : blocks_from c.args.size c.loop-i.offset (map length (drop i blocks)) ≡ (record { offset = c.loop-i.offset; bytes = length b }) ∷ blocks_from c.args.size c.offset_behind-offset.result (map length (drop (i + 1) blocks)) =
+    let rest : blocks_from c.args.size c.loop-i.offset (map length (drop i blocks)) ≡ (record { offset = c.loop-i.offset; bytes = length b }) ∷ blocks_from c.args.size c.next_offset-offset.result (map length (drop (i + 1) blocks)) =
     ap (λ bs. blocks_from c.args.size c.loop-i.offset (map length bs)) left ∙ blocks_from-block c.args.size c.loop-i.offset b (map length (drop (i + 1) blocks)) some_b fits
     ∙ ap (λ n. (record { offset = c.loop-i.offset; bytes = length b }) ∷ blocks_from c.args.size n (map length (drop (i + 1) blocks))) (sym next) in
     record {
-      all = ap (λ xs. xs ++ blocks_from c.args.size c.offset_behind-offset.result (map length (drop (i + 1) blocks))) more
-          ∙ append_assoc (map block_row (take i rows)) ((record { offset = c.loop-i.offset; bytes = length b }) ∷ []) (blocks_from c.args.size c.offset_behind-offset.result (map length (drop (i + 1) blocks)))
+      all = ap (λ xs. xs ++ blocks_from c.args.size c.next_offset-offset.result (map length (drop (i + 1) blocks))) more
+          ∙ append_assoc (map block_row (take i rows)) ((record { offset = c.loop-i.offset; bytes = length b }) ∷ []) (blocks_from c.args.size c.next_offset-offset.result (map length (drop (i + 1) blocks)))
           ∙ ap (λ xs. map block_row (take i rows) ++ xs) (sym rest) ∙ c.loop-i.invariant.all;
       counter = ap (λ n. counter_behind n (drop (i + 1) blocks)) next ∙ sym (ap (counter_behind c.loop-i.offset) left) ∙ c.loop-i.invariant.counter;
       len = length-set rows i row ∙ c.loop-i.invariant.len;
