@@ -10,7 +10,6 @@ ghost use Rattle.ckc_names_rules.specs.Meanings.{meaning as meaning_in};
 ghost use Rattle.ckc_names.specs.Insides.{meaning_at as meaning_found, within, HasRoom};
 
 use crate::name_list::NameList;
-use ckc_names_rules::hiding::{hide, restore};
 use ckc_names_rules::meaning::Meaning;
 use ckc_text::fault::NoMemory;
 use std::alloc::Global;
@@ -130,7 +129,7 @@ impl Table {
                     self.block = outer;
                     return;
                 }
-                Held::Name { number, hides, .. } => restore(&mut self.current, number, hides),
+                Held::Name { number, hides, .. } => self.current[number] = hides,
             }
         }
     }
@@ -167,7 +166,7 @@ impl Table {
             meaning,
             hides,
         })?;
-        hide(&mut self.current, number, place);
+        self.current[number] = Some(place);
         Ok(())
     }
 

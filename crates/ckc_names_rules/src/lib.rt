@@ -2,6 +2,5 @@
 #![tactic(auto)]
 
 pub mod given;
-pub mod hiding;
 pub mod meaning;
 pub mod refusals;

@@ -7,7 +7,7 @@ use ckc_text::code::Code;
 use ckc_text::place::Place;
 use code_words::op::Op;
 use marshalling::ends::Ends;
-use two_memory_machine_memory::{bounds, limits};
+use two_memory_machine_memory::bounds;
 use two_memory_machine_states::outcome::Outcome;
 use two_memory_machine_states::running_image::RunningImage;
 
@@ -20,7 +20,7 @@ pub fn non_null(machine: &mut RunningImage, place: Place) -> Outcome
     let Some(word) = machine.word() else {
         return machine.end_wild();
     };
-    stack::check(machine, 0, limits::is_not_null(word), Code::C1, place)
+    stack::check(machine, 0, word != 0, Code::C1, place)
 }
 
 /// Goes on if an element lies between ends (C2).

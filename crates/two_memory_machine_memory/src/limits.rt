@@ -1,6 +1,6 @@
 // What words, places, open calls and acts may be, and stops.
 
-ghost use Rattle.std.specs.Prelude.{◌≡◌, ◌==◌, ◌≤◌, ◌+◌, not, nat_lt, nat_le, Some};
+ghost use Rattle.std.specs.Prelude.{◌≡◌, ◌≤◌, ◌+◌, nat_lt, nat_le, Some};
 ghost use Rattle.act_words.specs.declared.ending.Ending.TheVariants as endings;
 
 use act_words::ending::Ending;
@@ -14,13 +14,6 @@ pub const WILD: Ending = Ending::Stop {
     code: Code::S6,
     act: None,
 };
-
-/// Whether a word is the address of something: it isn't null (C1).
-pub fn is_not_null(word: u32) -> bool
-    ensures { result ≡ not (word == 0) }
-{
-    word != 0
-}
 
 /// Whether so many bytes from a place on lie in a memory of a size.
 pub fn lie_in(at: u32, len: usize, size: usize) -> bool

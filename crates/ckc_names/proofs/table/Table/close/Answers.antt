@@ -1,4 +1,5 @@
-use Rattle.std.proofs.Common.{sym, ◌∙◌}
+use Rattle.std.proofs.Common.{refl, sym, ◌∙◌}
+use Rattle.std.specs.Prelude.{slice_set}
 use Rattle.ckc_names.proofs.Tables.{restored_table, outside_restored, none_left}
 use Rattle.ckc_names.proofs.table.Table.close.Goals as goal
 
@@ -8,7 +9,7 @@ loop-held-preserved c =
     let name = c.in-Name in
     let pops = rw name.is at c.in-Some.ensures.items in
     record {
-      table = restored_table inside.names inside.current.items c.restore.new.places.items inside.held.items c.pop.new.self.items inside.block name.number name.meaning name.hides c.loop-held.invariant.table pops c.restore.ensures;
+      table = restored_table inside.names inside.current.items (slice_set inside.current.items name.number name.hides) inside.held.items c.pop.new.self.items inside.block name.number name.meaning name.hides c.loop-held.invariant.table pops refl;
       names = c.loop-held.invariant.names;
       tags = c.loop-held.invariant.tags;
       blocks = outside_restored inside.names inside.held.items c.pop.new.self.items name.number name.meaning name.hides pops ∙ c.loop-held.invariant.blocks;

@@ -1,4 +1,5 @@
-use Rattle.std.proofs.Common.{ap, ◌∙◌, not}
+use Rattle.std.proofs.Common.{Some, ap, ◌∙◌, not}
+use Rattle.std.specs.Prelude.{slice_set}
 use Rattle.ckc_names.specs.NameLists.{name_at}
 use Rattle.ckc_names_rules.specs.Meanings.{meaning}
 use Rattle.ckc_names.proofs.Tables.{no_entry, declared_table}
@@ -13,5 +14,5 @@ pub invariant_of-self-2 : goal.invariant_of-self-2
 invariant_of-self-2 c =
     let inside = c.self.inside in
     let less = rw (← c.self.view_is) at c.requires in
-    let sets = rw (c.len-place.ensures ∙ inside.held.ok.0) at c.hide.ensures in
-    declared_table inside.names inside.current.items c.hide.new.places.items inside.held.items c.push.new.self.items inside.block c.args.number c.args.meaning c.index-hides.result.now c.self.invariant less (c.is_none.ensures ∙ ap not c.if-is_none.false) c.index-hides.ensures sets c.in_ok-push.ensures.items
+    let sets = ap (λ place. slice_set inside.current.items c.args.number (Some place)) (c.len-place.ensures ∙ inside.held.ok.0) in
+    declared_table inside.names inside.current.items (slice_set inside.current.items c.args.number (Some c.len-place.result)) inside.held.items c.push.new.self.items inside.block c.args.number c.args.meaning c.index-hides.result.now c.self.invariant less (c.is_none.ensures ∙ ap not c.if-is_none.false) c.index-hides.ensures sets c.in_ok-push.ensures.items
