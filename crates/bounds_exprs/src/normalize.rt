@@ -1,6 +1,6 @@
 // Normal bounds of what is written.
 
-ghost use Rattle.std.specs.Prelude.{◌≡◌, ◌*ℤ◌, ◌<◌, ◌^◌, option_map};
+ghost use Rattle.std.specs.Prelude.{◌≡◌, ◌<◌, ◌^◌, option_map};
 ghost use Rattle.bounds_exprs.specs.Normal.{NormalAnswers, how, elements_in, elements_of, is_element_size, negated, end_of, pointer_of, end_at, counted, paired, bounds_within, bounds_of};
 ghost use Rattle.bounds_exprs.specs.Places.{end_here};
 ghost use Rattle.bounds_exprs.specs.Terms.{is_within};

@@ -3,7 +3,7 @@
 ghost use Rattle.std.specs.Prelude.{◌≡◌, IfOk};
 ghost use Rattle.subsumption.specs.Facts.{IsBelow};
 ghost use Rattle.bounds_flow.specs.Conditions.{AreBoundsBelow, IsHeldBelow};
-ghost use Rattle.bounds_flow.specs.Flows.{are_equal, count_to, measured, variable, wider};
+ghost use Rattle.bounds_flow.specs.Flows.{are_equal, measured, variable, wider};
 ghost use Rattle.bounds_flow.specs.Pointers.{is_own, one_further, with_bounds as with_bounds_of};
 
 use crate::held::{Held, Mark};

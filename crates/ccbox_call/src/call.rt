@@ -1,6 +1,6 @@
 // The top call: words, files and an output to a status.
 
-ghost use Rattle.std.specs.Prelude.{◌≡◌, ◌⊎◌, ℕ, List, map, None};
+ghost use Rattle.std.specs.Prelude.{◌≡◌, ◌⊎◌, map, None};
 ghost use Rattle.ckc_io.specs.Files.{Told};
 ghost use Rattle.ccbox_call_words.specs.Requests.{request_of};
 ghost use Rattle.ccbox_call.specs.Answers.{GivesFront, GivesWhole, IsCutShort, IsFailure, IsStatus, Exactly, Tells, SourceIsRefused, FileIsMissing, Succeeds, CheckFails, RunStops, LineIsRefused, ListingFails, PrintedRun, PrintedImageRun, PrintedAccepted, IsComplete, IsQuiet, IsUntouched};

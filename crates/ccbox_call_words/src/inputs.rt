@@ -1,6 +1,6 @@
 // The list of input numbers.
 
-ghost use Rattle.std.specs.Prelude.{◌≡◌, ◌∷◌, [], ◌++◌, true, Some, OnOk, suc, length, option_map, IfOk, IfSome};
+ghost use Rattle.std.specs.Prelude.{◌≡◌, ◌∷◌, true, Some, suc, length, option_map, IfOk, IfSome};
 ghost use Rattle.std.specs.Option.{option_and_then};
 ghost use Rattle.ccbox_call_words.specs.Requests.{input_list, numbers_in, pieces_of};
 ghost use Rattle.ccbox_call_words.specs.Pieces.{is_some, pieces_behind};

@@ -1,6 +1,5 @@
 // The names in declarations and assignments.
 
-ghost use Rattle.std.specs.Prelude.{◌≡◌, map};
 ghost use Rattle.std.specs.Option.{option_map};
 ghost use Rattle.std.specs.List.{flat_map};
 ghost use Rattle.ckc_tree.specs.Expressions.{bounds as bounds_of};

@@ -1,6 +1,5 @@
 // The names in types, expressions and bounds.
 
-ghost use Rattle.std.specs.Prelude.{◌≡◌};
 ghost use Rattle.ckc_tree.specs.Types.{type_tree};
 ghost use Rattle.ckc_tree.specs.Expressions.{expression as expression_of, bounds as bounds_of};
 ghost use Rattle.ckc_names_rules.specs.Mentions.{type_mentions, expression_mentions, bounds_mentions};

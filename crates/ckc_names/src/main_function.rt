@@ -2,7 +2,6 @@
 
 ghost use Rattle.std.specs.Prelude.{◌≡◌};
 ghost use Rattle.std.specs.List.{list_any};
-ghost use Rattle.ckc_tree.specs.Types.{type_tree};
 ghost use Rattle.ckc_tree.specs.Items.{result_form as result_of, parameters as parameters_of, function as function_of, item as item_of, tree};
 ghost use Rattle.ckc_names_rules.specs.Naming as naming;
 

@@ -1,10 +1,9 @@
 // What each mention of a name does to a table, and what it is refused for.
 
-ghost use Rattle.std.specs.Prelude.{◌≡◌, ◌||◌, ◌<◌, ◌∷◌, [], length, bytes_eq, Ok};
+ghost use Rattle.std.specs.Prelude.{◌≡◌, ◌||◌, ◌<◌, ◌∷◌, [], bytes_eq, Ok};
 ghost use Rattle.ckc_names_rules.specs.Mentions as m;
 ghost use Rattle.ckc_names_rules.specs.Given as given;
 ghost use Rattle.ckc_names_rules.specs.Scopes as scopes;
-ghost use Rattle.ckc_names.specs.NameLists.{name_at};
 ghost use Rattle.ckc_names.specs.State.{Goes};
 
 use crate::table::Table;

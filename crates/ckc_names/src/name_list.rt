@@ -1,6 +1,6 @@
 // Names by number: a list in which each name stands once, and is found by its bytes.
 
-ghost use Rattle.std.specs.Prelude.{◌≡◌, ◌<◌, ◌++◌, ◌∷◌, [], length, IfOk, OnOk, OnErr};
+ghost use Rattle.std.specs.Prelude.{◌≡◌, ◌<◌, [], length, IfOk, OnOk, OnErr};
 ghost use Rattle.ckc_names_rules.specs.Scopes.{is_among};
 ghost use Rattle.ckc_names_rules.specs.Given.{number_in};
 ghost use Rattle.ckc_names_rules.specs.Naming.{with_new};

@@ -1,6 +1,5 @@
 // Naming: whether each name of a program is visible where it stands, and none stands twice; each gets a number.
 
-ghost use Rattle.std.specs.Prelude.{◌≡◌};
 ghost use Rattle.ckc_tree.specs.Items.{tree};
 ghost use Rattle.ckc_tree.specs.Numbers.{numbered};
 ghost use Rattle.ckc_names_rules.specs.Given.{number_in};

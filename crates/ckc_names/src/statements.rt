@@ -1,6 +1,6 @@
 // The names in statements.
 
-ghost use Rattle.std.specs.Prelude.{◌≡◌, ◌++◌};
+ghost use Rattle.std.specs.Prelude.{◌++◌};
 ghost use Rattle.std.specs.Option.{option_map};
 ghost use Rattle.ckc_tree.specs.Statements.{assignment as assignment_of, for_initial as initial_of, on_heap, statement as statement_of};
 ghost use Rattle.ckc_names_rules.specs.Mentions.{optional_mentions, expression_mentions, assignment_mentions, for_initial_mentions, in_block, statement_mentions};

@@ -10,7 +10,7 @@ ghost use Rattle.ckc_parser_grammar.specs.StatementGrammar.{SpellsOptionalBounds
 ghost use Rattle.ckc_parser_grammar.specs.Failures.{IsLow};
 ghost use Rattle.ckc_parser_grammar.specs.Answers.{Reads};
 ghost use Rattle.ckc_parser_grammar.specs.StuckTypes.{type_word};
-ghost use Rattle.ckc_parser_grammar.specs.StuckStatements.{step_word, assignment_word, StuckOptionalBounds, StuckOptionalArray, StuckSigned, StuckConstants, StuckOptionalInitializer, StuckDeclarator, StuckDeclarators, StuckDeclaration, StuckAssignment};
+ghost use Rattle.ckc_parser_grammar.specs.StuckStatements.{assignment_word, StuckOptionalBounds, StuckOptionalArray, StuckSigned, StuckConstants, StuckOptionalInitializer, StuckDeclarator, StuckDeclarators, StuckDeclaration, StuckAssignment};
 ghost use Rattle.ckc_parser.specs.StatementReadings.{SpellsAssigned, StuckAssigned};
 
 use crate::bounds::bounds;

@@ -1,6 +1,6 @@
 // Reading statements.
 
-ghost use Rattle.std.specs.Prelude.{◌≡◌, ℕ, ◌∷◌, ◌≤◌, ◌<◌, suc, true, false, map, None, Some};
+ghost use Rattle.std.specs.Prelude.{◌≡◌, ℕ, ◌∷◌, ◌≤◌, ◌<◌, true, false, map, None, Some};
 ghost use Rattle.std.specs.Option.{option_map};
 ghost use Rattle.ckc_lexer.specs.declared.keyword.Keyword.TheVariants as keywords;
 ghost use Rattle.ckc_lexer.specs.declared.token.TokenKind.TheVariants as kinds;

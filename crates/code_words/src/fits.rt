@@ -1,6 +1,6 @@
 // Whether an image may run under settings.
 
-ghost use Rattle.std.specs.Prelude.{◌≡◌, ◌<◌, ◌≤◌, ◌↔◌, IfNone, IfSome, IsTrue, length};
+ghost use Rattle.std.specs.Prelude.{◌≡◌, ◌<◌, ◌≤◌, ◌↔◌, IfNone, IfSome, IsTrue};
 ghost use Rattle.act_words.specs.Limits.{AreAllowed};
 ghost use Rattle.flat_bytes.specs.Blocks.{first_offset, grown};
 ghost use Rattle.code_words.specs.Fitting.{BlocksFit, Fits, HasMain};

@@ -1,10 +1,10 @@
 // The words of a line, and how they are written.
 
-ghost use Rattle.std.specs.Prelude.{◌≡◌, ◌++◌, ◌∷◌, [], decimal, flat_map, map, OnOk};
+ghost use Rattle.std.specs.Prelude.{◌≡◌, ◌++◌, ◌∷◌, [], decimal, map, OnOk};
 ghost use Rattle.std.specs.Fmt.{signed_decimal};
 ghost use Rattle.std.specs.List.{join_with_byte};
 ghost use Rattle.hex.specs.Hex.{encode_lower};
-ghost use Rattle.code_words_listing.specs.Fields.{optional_text, place_text};
+ghost use Rattle.code_words_listing.specs.Fields.{place_text};
 ghost use Rattle.code_words_listing.specs.Shown.{shown, behind_spaces};
 
 use ckc_text::fault::NoMemory;

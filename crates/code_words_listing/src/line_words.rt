@@ -1,6 +1,6 @@
 // The words of a line, one behind the other.
 
-ghost use Rattle.std.specs.Prelude.{◌≡◌, ◌∷◌, [], ◌==◌, ℕ, List, Option, option_map, option_and_then, position, MatchOption, IfSome, FitsSigned};
+ghost use Rattle.std.specs.Prelude.{◌≡◌, ◌∷◌, [], ◌==◌, ℕ, List, Option, option_map, option_and_then, MatchOption, IfSome, FitsSigned};
 ghost use Rattle.std.proofs.Common.{ℤ};
 ghost use Rattle.std.specs.Int.{w32, w64};
 ghost use Rattle.std.specs.List.{slice_split};

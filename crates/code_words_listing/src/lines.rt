@@ -1,7 +1,7 @@
 // Each form of a line, as it is written.
 
 ghost use Rattle.std.specs.Prelude.{◌≡◌, ◌++◌, ◌∷◌, [], map, length, OnOk};
-ghost use Rattle.code_words_listing.specs.Lines.{StaticBlock, TaintedFunction, Entry, Parameter, Begin, Instruction, Heading, TrustedSide, End, Main, SandboxSide, Close};
+ghost use Rattle.code_words_listing.specs.Lines.{StaticBlock, TaintedFunction, Entry, Parameter, Begin, Instruction};
 ghost use Rattle.code_words_listing.specs.Listings.{lines_text};
 ghost use Rattle.code_words_listing.specs.Lines as words;
 ghost use Rattle.code_words_listing.specs.Fields.{Signed64, Size, At, word_of};

@@ -1,7 +1,7 @@
 // The listing of an image.
 
-ghost use Rattle.std.specs.Prelude.{◌≡◌, ◌++◌, ◌∷◌, [], map, flat_map, IfOk, OnOk};
-ghost use Rattle.code_words_listing.specs.Lines.{TaintedFunction, Parameter, Instruction, End};
+ghost use Rattle.std.specs.Prelude.{◌≡◌, ◌++◌, [], map, flat_map, IfOk, OnOk};
+ghost use Rattle.code_words_listing.specs.Lines.{TaintedFunction, Parameter, Instruction};
 ghost use Rattle.code_words_listing.specs.Listings.{listing, lines_text, block_lines, callback_lines, function_lines, main_lines};
 
 use crate::field::{Field, put_line};

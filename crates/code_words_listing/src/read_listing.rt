@@ -1,6 +1,6 @@
 // The image of which a text is the listing.
 
-ghost use Rattle.std.specs.Prelude.{◌≡◌, ◌<◌, ◌^◌, ◌==◌, suc, [], length, Some, None, IfOk, IfErr, MatchOption, MatchResult, IsTrue, position};
+ghost use Rattle.std.specs.Prelude.{◌≡◌, ◌<◌, ◌^◌, suc, [], length, Some, None, IfOk, IfErr, MatchOption, MatchResult, IsTrue};
 ghost use Rattle.code_words.specs.Images as images;
 ghost use Rattle.code_words.specs.Paced.{is_paced};
 ghost use Rattle.code_words_listing.specs.Listings.{listing, InFormat};

@@ -1,6 +1,6 @@
 // The values that single words spell.
 
-ghost use Rattle.std.specs.Prelude.{◌≡◌, ◌==◌, ◌&&◌, length, option_map, IfOk, IsUtf8, MatchOption, position, Some, None};
+ghost use Rattle.std.specs.Prelude.{◌≡◌, ◌==◌, ◌&&◌, length, IfOk, MatchOption, Some, None};
 ghost use Rattle.std.specs.List.{prefix_len, list_all};
 ghost use Rattle.std.specs.Int.{w32, w64};
 ghost use Rattle.ckc_text.specs.Names as names;

@@ -1,6 +1,6 @@
 // What is read after a write, for words of every width.
 
-ghost use Rattle.std.specs.Prelude.{◌≡◌, ℕ, ◌+◌, ◌*◌, ◌%◌, ◌^◌, ◌<◌, ◌≤◌, ◌⊎◌, List, [], ◌∷◌, length, replicate};
+ghost use Rattle.std.specs.Prelude.{◌≡◌, ℕ, ◌+◌, ◌%◌, ◌^◌, ◌≤◌, ◌⊎◌, List, [], ◌∷◌, length, replicate};
 ghost use Rattle.flat_bytes.specs.Words.{word_at, with_word};
 
 /// A word that was stored is read again, modulo 256 to the power of its width. Words that share no byte with it are

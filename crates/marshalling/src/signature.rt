@@ -1,6 +1,6 @@
 // The parameters of callbacks.
 
-ghost use Rattle.std.specs.Prelude.{◌≡◌, ◌↔◌, IsSome, IfSome, IsTrue, length};
+ghost use Rattle.std.specs.Prelude.{◌≡◌, ◌↔◌, IsSome, IfSome, IsTrue};
 ghost use Rattle.marshalling.specs.Signatures.{IsParameterOf, IsRegionAmong, IsBelow, IsSignature};
 
 use crate::kind::WordKind;

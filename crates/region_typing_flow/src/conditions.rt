@@ -9,7 +9,7 @@ ghost use Rattle.ckc_core.specs.declared.program.Direction.TheVariants.{Forward}
 ghost use Rattle.ckc_core.specs.declared.program.PointerBounds.{PointerBounds};
 ghost use Rattle.ckc_core.specs.declared.program.Site.{Site};
 ghost use Rattle.ckc_core.specs.Core.{Sum, expression as expression_of, place as place_of};
-ghost use Rattle.region_typing_rules.specs.Readings.{term as term_of, pointer_local as pointer_local_of, compared as compared_by, element_told as element_told_of, elements_told as elements_told_of, is_ended_local as is_ended_local_of, is_null as is_null_at, null_told as null_told_of, place_told as place_told_of, same_told as same_told_of, told as told_of};
+ghost use Rattle.region_typing_rules.specs.Readings.{compared as compared_by, element_told as element_told_of, elements_told as elements_told_of, is_ended_local as is_ended_local_of, is_null as is_null_at, null_told as null_told_of, place_told as place_told_of, same_told as same_told_of, told as told_of};
 ghost use Rattle.region_typing_flow.specs.Conditions.{IsLocalBelow, IsTermSmall};
 
 use crate::readings::{pointer_local, term};

@@ -4,7 +4,7 @@ ghost use Rattle.std.specs.Prelude.{◌≡◌, ◌+◌, ◌-◌, ◌<◌, ◌≤
 ghost use Rattle.pointer_modes.specs.Types.{ctype as ctype_of};
 ghost use Rattle.ckc_core.specs.declared.program.Site.{Site};
 ghost use Rattle.ckc_core.specs.Core.{Arithmetic, Local, expression as expression_of, statement as statement_of};
-ghost use Rattle.region_typing_rules.specs.Readings.{behind_local as behind_local_of, is_not_null as is_not_null_in, term as term_of};
+ghost use Rattle.region_typing_rules.specs.Readings.{is_not_null as is_not_null_in, term as term_of};
 ghost use Rattle.region_typing_rules.specs.Knowing.{assigned_by, count_assigned, measured_local as measured_local_of, moved_from, value_assigned, without_locals};
 ghost use Rattle.region_typing_flow.specs.Conditions.{IsLocalBelow};
 ghost use Rattle.region_typing_flow.specs.Views.{behind, tracked as tracked_by};

@@ -1,6 +1,6 @@
 // The bounds at the nodes of values that are checked pointers.
 
-ghost use Rattle.std.specs.Prelude.{◌≡◌, ℕ, ◌-◌, Bool, true, false, IfOk, map};
+ghost use Rattle.std.specs.Prelude.{◌≡◌, ℕ, ◌-◌, true, false, IfOk, map};
 ghost use Rattle.std.specs.Option.{option_map};
 ghost use Rattle.pointer_modes.specs.Types.{CType as TypeTree, ctype as ctype_of};
 ghost use Rattle.pointer_modes.specs.Layout.{size_of};

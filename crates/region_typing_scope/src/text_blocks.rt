@@ -1,6 +1,6 @@
 // What the blocks of strings take, and where each of them is.
 
-ghost use Rattle.std.specs.Prelude.{◌≡◌, ◌+◌, ◌-◌, ◌≤◌, [], cond, nat_le, map, Some, None};
+ghost use Rattle.std.specs.Prelude.{◌≡◌, ◌+◌, ◌-◌, ◌≤◌, [], cond, nat_le, Some, None};
 ghost use Rattle.flat_bytes.specs.Blocks.{rounded_up};
 ghost use Rattle.ckc_tree.specs.Texts.{text};
 ghost use Rattle.region_typing_rules.specs.Strings.{text_size, texts_size, text_at};

@@ -7,7 +7,7 @@ ghost use Rattle.act_words.specs.Acts.{act_view};
 ghost use Rattle.code_words.specs.declared.image.Image.{Image as ImageData};
 ghost use Rattle.code_words.specs.Fitting.{Fits};
 ghost use Rattle.code_words.specs.Left.{LeavesTurn};
-ghost use Rattle.two_memory_machine.specs.Machines.{IsStart, waiting_of, turn_of, moves_left};
+ghost use Rattle.two_memory_machine.specs.Machines.{IsStart, waiting_of, turn_of};
 ghost use Rattle.run_core.specs.Texts.{dump_text};
 ghost use Rattle.run_core.specs.Asked.{AskAnswers, AskLowers, PlayCounts};
 ghost use Rattle.run_core.specs.Inputs.{TakesInput};

@@ -1,7 +1,6 @@
 // Running an image with an actor.
 
 ghost use Rattle.std.specs.Prelude.{◌≡◌, false};
-ghost use Rattle.ckc_io.specs.Files.{Files};
 ghost use Rattle.code_words.specs.Fitting.{Fits};
 ghost use Rattle.run_core.specs.Runs.{RunWrites, RunCounts};
 ghost use Rattle.run_core.specs.Finishes.{Finishes};

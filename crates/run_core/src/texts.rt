@@ -1,6 +1,6 @@
 // The lines of a run.
 
-ghost use Rattle.std.specs.Prelude.{◌≡◌, ◌++◌, ◌∷◌, [], if◌then◌else◌, OnOk};
+ghost use Rattle.std.specs.Prelude.{◌≡◌, ◌∷◌, [], if◌then◌else◌, OnOk};
 ghost use Rattle.run_core.specs.Texts.{missing_feed, with_last_line};
 
 use ckc_text::fault::NoMemory;

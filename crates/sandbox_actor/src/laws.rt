@@ -1,6 +1,6 @@
 // What the definitions say of small files, by computation, and what they say together.
 
-ghost use Rattle.std.specs.Prelude.{◌≡◌, ◌++◌, ◌∷◌, [], codes, flat_map, replicate, take, List, Option, Some, None, ℕ};
+ghost use Rattle.std.specs.Prelude.{◌≡◌, ◌++◌, [], codes, flat_map, replicate, take, List, Option, Some, None, ℕ};
 ghost use Rattle.ckc_text.specs.declared.code.Code.{Code};
 ghost use Rattle.ckc_text.specs.declared.code.Code.TheVariants.{A2, A4};
 ghost use Rattle.ckc_io.specs.Files.{Files};

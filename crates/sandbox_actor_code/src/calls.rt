@@ -6,7 +6,6 @@ ghost use Rattle.code_words.specs.Formats.{HasSmallFrame};
 ghost use Rattle.code_words.specs.Functions.{Func as FuncData};
 ghost use Rattle.code_words.specs.Paced.{is_paced};
 ghost use Rattle.code_words.specs.SandboxCode.{Entered, enter, function_of};
-ghost use Rattle.sandbox_actor_code.specs.CallFrames.{IsRoomFor};
 ghost use Rattle.sandbox_actor_code.specs.Codes.{Does, IsIn, IsReady, Leads, at_rest, resume_step, return_step, running};
 ghost use Rattle.sandbox_actor_code.specs.declared.code_actor.Phase.TheVariants as phases;
 

@@ -1,9 +1,8 @@
 // The sandbox's code as an actor: its fields, and what its steps are made of.
 
-ghost use Rattle.std.specs.Prelude.{◌≡◌, ℕ, ◌≤◌, drop, length, slice_get, IfOk};
+ghost use Rattle.std.specs.Prelude.{◌≡◌, ℕ, ◌≤◌, drop, length, slice_get};
 ghost use Rattle.code_words.specs.Functions.{Func as FuncData};
 ghost use Rattle.code_words.specs.SandboxCode.{act, on_with, push};
-ghost use Rattle.code_words.specs.Table.{offset_of};
 ghost use Rattle.sandbox_actor_code.specs.Codes.{Does, IsIn, IsReady, Leads, Stops, running, two_topmost, top_words_of};
 
 use crate::call_frame::CallFrame;

@@ -1,6 +1,6 @@
 // What the code does with what the sandbox was shown.
 
-ghost use Rattle.std.specs.Prelude.{◌≡◌, ℕ, Some, length, option_map, slice_get};
+ghost use Rattle.std.specs.Prelude.{◌≡◌, Some, length, option_map, slice_get};
 ghost use Rattle.act_words.specs.Acts.{SeenCall, SeenReply, seen_view};
 ghost use Rattle.sandbox_actor_code.specs.Answering.{is_load_size, taken_of};
 ghost use Rattle.sandbox_actor_code.specs.Codes.{Shows, ShowsFrom, at_rest, looking, reply_of, state_in, word_if, word_of};

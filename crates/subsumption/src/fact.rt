@@ -1,7 +1,5 @@
 // Facts, and the answers to a question about them.
 
-ghost use Rattle.std.specs.Prelude.{◌≡◌};
-
 /// `left` is at most `right` plus a constant. `None` is zero.
 #[derive(Clone, Copy)]
 pub struct Fact {

@@ -1,6 +1,6 @@
 // Distances by rounds in which all facts are relaxed, after Bellman and Ford.
 
-ghost use Rattle.std.specs.Prelude.{◌≡◌, ◌<◌, ◌^◌, ◌+ℤ◌, ◌||◌, None, length, replicate, IfOk, OnOk};
+ghost use Rattle.std.specs.Prelude.{◌≡◌, ◌<◌, ◌^◌, ◌+ℤ◌, None, length, replicate, IfOk, OnOk};
 ghost use Rattle.std.specs.List.{All};
 ghost use Rattle.subsumption.specs.Graphs.{node_of, at, IsEdge, IsWithin};
 ghost use Rattle.subsumption.specs.Models.{AreEdges};

@@ -1,6 +1,6 @@
 // The steps from one node.
 
-ghost use Rattle.std.specs.Prelude.{◌≡◌, ◌≤◌, ◌<◌, ◌==◌, None, Some, cond, pos, true, length, IfOk};
+ghost use Rattle.std.specs.Prelude.{◌≡◌, ◌≤◌, ◌<◌, ◌==◌, None, Some, true, length, IfOk};
 ghost use Rattle.subsumption.specs.Squares.{is_open, no_line};
 ghost use Rattle.subsumption.specs.Matrices.{alone, cleared, line_cell, line_with};
 

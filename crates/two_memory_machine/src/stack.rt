@@ -1,6 +1,6 @@
 // Steps that pop words, push what is checked, jump, or spend a tick.
 
-ghost use Rattle.std.specs.Prelude.{◌≡◌, ◌≤◌, drop, length};
+ghost use Rattle.std.specs.Prelude.{◌≤◌, drop, length};
 ghost use Rattle.code_words.specs.Table.{push_checked, check as check_line};
 ghost use Rattle.code_words.specs.Functions.{Func as FuncData};
 ghost use Rattle.two_memory_machine_memory.specs.CheckedNumbers.{checked_of};

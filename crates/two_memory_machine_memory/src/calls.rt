@@ -1,10 +1,10 @@
 // The open calls of the trusted side: the words of their frames lie one behind the other.
 
-ghost use Rattle.std.specs.Prelude.{◌≡◌, ◌+◌, ◌-◌, ◌^◌, ◌<◌, ◌≤◌, ◌++◌, ◌∷◌, List, length, take, drop, replicate, nat_lt, if◌then◌else◌, IfOk, IfSome, IfNone, Some, [], slice_get, slice_set, All};
+ghost use Rattle.std.specs.Prelude.{◌≡◌, ◌+◌, ◌-◌, ◌^◌, ◌<◌, ◌≤◌, ◌++◌, ◌∷◌, List, length, take, drop, replicate, nat_lt, if◌then◌else◌, IfOk, IfSome, IfNone, Some, slice_get, All};
 ghost use Rattle.std.specs.Option.{option_copied};
 ghost use Rattle.code_words.specs.Functions.{Func as FuncData};
 ghost use Rattle.two_memory_machine_memory.specs.CallInsides.{window};
-ghost use Rattle.two_memory_machine_memory.specs.CallStacks.{Behind, CallStack, framed, with_stack, pushed_if, slot_set_if, at_next, link_of, entered, IsFirstCall};
+ghost use Rattle.two_memory_machine_memory.specs.CallStacks.{Behind, CallStack, with_stack, pushed_if, slot_set_if, at_next, link_of, entered, IsFirstCall};
 
 use crate::limits::MAX_DEPTH;
 use ckc_text::fault::NoMemory;

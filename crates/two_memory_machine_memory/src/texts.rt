@@ -1,6 +1,6 @@
 // The length of texts in trusted memory.
 
-ghost use Rattle.std.specs.Prelude.{◌≡◌, ◌+◌, ◌≤◌, ◌<◌, ◌^◌, length};
+ghost use Rattle.std.specs.Prelude.{◌+◌, ◌≤◌, ◌<◌, length};
 ghost use Rattle.two_memory_machine_memory.specs.Texts.{IsWalked, IsEarly};
 
 use trusted_memory::memory::Trusted;

@@ -1,6 +1,6 @@
 // Calls of the trusted side's functions, and returns.
 
-ghost use Rattle.std.specs.Prelude.{◌≡◌, ◌≤◌, drop, length, slice_get, IfSome};
+ghost use Rattle.std.specs.Prelude.{◌≡◌, ◌≤◌, drop, length, slice_get};
 ghost use Rattle.code_words.specs.Table.{return_to, reply_of, exit_with};
 ghost use Rattle.two_memory_machine_states.specs.Steps.{Acts, IsReady, GoesBy};
 
