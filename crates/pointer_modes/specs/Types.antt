@@ -1,8 +1,9 @@
 -- Types as plain data, which definitions speak of, and the view from the types of the code to them.
-use Rattle.std.specs.Prelude.{ℕ, Bool, false, List, [], Option, Some, None, slice_get}
+use Rattle.std.specs.Prelude.{ℕ, Bool, true, false, List, [], Option, Some, None, slice_get}
 use Rattle.ckc_text.specs.declared.place.Span.{Span}
 use Rattle.pointer_modes.specs.declared.ctype as code
 use Rattle.pointer_modes.specs.declared.ctype.Mode.{Mode}
+use Rattle.pointer_modes.specs.declared.ctype.Mode.TheVariants as modes
 use Rattle.pointer_modes.specs.declared.ctype.Kind.{Kind}
 use Rattle.pointer_modes.specs.declared.ctype.CType.TheVariants as ctypes
 
@@ -12,6 +13,15 @@ pub data CType : Type 0 where
   Char : CType
   Struct : (number : ℕ) → CType
   Pointer : (mode : Mode) (kind : Kind) (target : CType) → CType
+
+-- a pointer into trusted memory
+abbrev pub is_checked_pointer : CType → Bool
+is_checked_pointer (Pointer modes.Checked kind target) = true
+is_checked_pointer (Pointer modes.Tainted kind target) = false
+is_checked_pointer (Pointer modes.Raw kind target) = false
+is_checked_pointer Int = false
+is_checked_pointer Char = false
+is_checked_pointer (Struct number) = false
 
 -- a member of a struct
 pub record Member : Type 0 where

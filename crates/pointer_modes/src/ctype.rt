@@ -1,7 +1,7 @@
 // The types of the language.
 
 ghost use Rattle.std.specs.Prelude.{◌≡◌, IfOk};
-ghost use Rattle.pointer_modes.specs.Types.{ctype as ctype_of};
+ghost use Rattle.pointer_modes.specs.Types.{ctype as ctype_of, is_checked_pointer as checked_pointer};
 
 use ckc_text::fault::NoMemory;
 use ckc_text::name::Name;
@@ -35,6 +35,16 @@ pub enum CType {
 }
 
 impl CType {
+    /// Whether the type is that of pointers into trusted memory.
+    pub fn is_checked_pointer(&self) -> bool
+        ensures { result ≡ checked_pointer (ctype_of self.now) }
+    {
+        match self {
+            CType::Pointer(mode, ..) => matches!(mode, Mode::Checked),
+            CType::Int | CType::Char | CType::Struct(_) => false,
+        }
+    }
+
     /// A copy of the type.
     pub fn copy(&self, alloc: Global) -> Result<CType, NoMemory>
         ensures { IfOk result (λ t. ctype_of t ≡ ctype_of self.now) }

@@ -36,7 +36,7 @@ use region_typing_scope::scope::Scope;
 use region_typing_scope::sides::is_import;
 use region_typing_scope::signature::Signature;
 use region_typing_scope::typed::Typed;
-use region_typing_scope::types::{copied, is_checked_pointer};
+use region_typing_scope::types::copied;
 use std::collections::VecDeque;
 
 /// What a call is: a value of a type, or a statement where it has no result.
@@ -312,7 +312,7 @@ fn is_checked_argument(t: &Typed) -> bool
         | Typed::Cell { ctype, .. }
         | Typed::Bounded { ctype, .. }
         | Typed::Unknown { ctype, .. }
-        | Typed::Array { ctype, .. } => is_checked_pointer(ctype),
+        | Typed::Array { ctype, .. } => ctype.is_checked_pointer(),
         Typed::Struct { .. } => false,
     }
 }

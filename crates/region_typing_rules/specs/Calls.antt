@@ -8,7 +8,7 @@ use Rattle.ckc_tree.specs.declared.item.FunctionKind.TheVariants as function_kin
 use Rattle.pointer_modes.specs.declared.ctype.Mode.{Mode}
 use Rattle.pointer_modes.specs.declared.ctype.Mode.TheVariants as modes
 use Rattle.pointer_modes.specs.declared.ctype.Kind.TheVariants as kinds
-use Rattle.pointer_modes.specs.Types.{CType, Int, Char, Struct, Pointer, Structure}
+use Rattle.pointer_modes.specs.Types.{CType, Int, Char, Struct, Pointer, Structure, is_checked_pointer}
 use Rattle.pointer_modes.specs.Layout.{size_of}
 use Rattle.ckc_core.specs.declared.program.Site.{Site}
 use Rattle.ckc_core.specs.declared.program.Callee.{Callee}
@@ -24,7 +24,6 @@ use Rattle.bounds_flow.specs.Flows.{Knowledge}
 use Rattle.region_typing_rules.specs.Verdicts.{Verdict, Passes, Unnamed, passing, needs, breaks, picked}
 use Rattle.region_typing_rules.specs.Scopes.{Scope, Signature, WrittenBounds, bounds_in}
 use Rattle.region_typing_rules.specs.Readings.{term, pointer_local, is_null}
-use Rattle.region_typing_rules.specs.Types.{is_checked_pointer}
 use Rattle.region_typing_rules.specs.Operands.{AStruct, Called, Gives, GivesNothing, Typed, Value, asked_of, bounds_at, converted, meets, number, plain}
 
 -- the arguments of a call with the types of its parameters: each converts, at the argument (E13)

@@ -62,15 +62,6 @@ is_pointer Int = false
 is_pointer Char = false
 is_pointer (Struct number) = false
 
--- a pointer into trusted memory
-abbrev pub is_checked_pointer : CType → Bool
-is_checked_pointer (Pointer modes.Checked kind target) = true
-is_checked_pointer (Pointer modes.Tainted kind target) = false
-is_checked_pointer (Pointer modes.Raw kind target) = false
-is_checked_pointer Int = false
-is_checked_pointer Char = false
-is_checked_pointer (Struct number) = false
-
 -- a pointer without bounds of its own
 abbrev pub is_single : CType → Bool
 is_single (Pointer mode kinds.One target) = true

@@ -4,7 +4,7 @@ ghost use Rattle.std.specs.Prelude.{◌≡◌, ◌&&◌, IfOk};
 ghost use Rattle.pointer_modes.specs.Types.{ctype};
 ghost use Rattle.ckc_core.specs.States.{same_mode as same_mode_of, same_kind as same_kind_of, same_type as same_type_of};
 ghost use Rattle.ckc_tree.specs.Types.{type_tree, type_name};
-ghost use Rattle.region_typing_rules.specs.Types.{mode_of as mode_from, kind_of as kind_from, may_lead_to as may_lead, without_stars as starless, base_type as base_from, starred_type as starred_from, type_named as named_from, is_number as number_type, is_pointer as pointer_type, is_checked_pointer as checked_pointer, is_scalar as scalar_type, are_comparable as comparable_types, kind_converts as kind_converts_to, pointer_converts as pointer_converts_to, converts as converts_to};
+ghost use Rattle.region_typing_rules.specs.Types.{mode_of as mode_from, kind_of as kind_from, may_lead_to as may_lead, without_stars as starless, base_type as base_from, starred_type as starred_from, type_named as named_from, is_number as number_type, is_pointer as pointer_type, is_scalar as scalar_type, are_comparable as comparable_types, kind_converts as kind_converts_to, pointer_converts as pointer_converts_to, converts as converts_to};
 ghost use Rattle.region_typing_scope.specs.Answering.{Answers};
 ghost use Rattle.region_typing_scope.specs.Views.{scope as scope_of};
 
@@ -93,16 +93,6 @@ pub fn is_pointer(t: &CType) -> bool
 {
     match t {
         CType::Pointer(..) => true,
-        CType::Int | CType::Char | CType::Struct(_) => false,
-    }
-}
-
-/// Whether a type is that of pointers into trusted memory.
-pub fn is_checked_pointer(t: &CType) -> bool
-    ensures { result ≡ checked_pointer (ctype t.now) }
-{
-    match t {
-        CType::Pointer(mode, ..) => matches!(mode, Mode::Checked),
         CType::Int | CType::Char | CType::Struct(_) => false,
     }
 }
