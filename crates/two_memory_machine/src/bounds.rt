@@ -169,7 +169,6 @@ pub fn check_range(machine: &mut RunningImage, offset: u32, len: u32, place: Pla
     let Some(word) = machine.word() else {
         return machine.end_wild();
     };
-    let end = u64::from(word) + u64::from(offset) + u64::from(len);
-    let holds = end <= u64::from(machine.sandbox_size());
+    let holds = bounds::lie_behind(word, offset, len, machine.sandbox_size());
     stack::check(machine, 0, holds, Code::C4, place)
 }

@@ -1,6 +1,6 @@
-// Checks of elements and of ends against bounds, over whole numbers.
+// Checks of elements, of ends and of words, over whole numbers.
 
-ghost use Rattle.std.specs.Prelude.{◌≡◌, ◌==◌, ◌||◌, ◌<◌, ◌^◌, not, pos, negsuc, ◌≤ℤ◌, IsTrue};
+ghost use Rattle.std.specs.Prelude.{◌≡◌, ◌==◌, ◌||◌, ◌<◌, ◌^◌, ◌+◌, not, nat_le, pos, negsuc, ◌≤ℤ◌, IsTrue};
 ghost use Rattle.std.proofs.Common.{◌+ℤ◌, ◌*ℤ◌};
 ghost use Rattle.act_words.specs.Numbers.{signed};
 ghost use Rattle.code_words.specs.Table.{place_at, end_of, is_in, is_up_to, same_number, contains};
@@ -133,4 +133,12 @@ pub fn contains(old: &Ends, pointer: u32, new: &Ends) -> bool
     let low = new.low();
     let high = new.high();
     pointer == 0 || high < low || (old.low() <= low && high <= old.high())
+}
+
+/// Whether so many bytes, from an offset behind a word on, lie in a memory of a size.
+#[inline(always)]
+pub fn lie_behind(word: u32, offset: u32, len: u32, size: u32) -> bool
+    ensures { result ≡ nat_le (word + offset + len) size }
+{
+    u64::from(word) + u64::from(offset) + u64::from(len) <= u64::from(size)
 }
