@@ -4,4 +4,6 @@ pub mod Rows
 pub mod Ticks
 pub mod Budgets
 pub mod Audits
+pub mod FailedChecks
+pub mod Sites
 pub mod Locals

@@ -7,6 +7,8 @@ pub mod Steps
 pub mod Pointers
 pub mod Meaning
 pub mod Audits
+pub mod FailedChecks
+pub mod Sites
 pub mod Stacks
 pub mod Weights
 pub mod Examples

@@ -7,6 +7,7 @@ ghost use Rattle.ckc_core.specs.Outcome.{Short};
 ghost use Rattle.ckc_core.specs.Core.{Core};
 ghost use Rattle.ckc_core.specs.Meaning.{run_of};
 ghost use Rattle.ckc_core.specs.Audits.{AuditChangesNothing};
+ghost use Rattle.ckc_core.specs.FailedChecks.{FailedChecks};
 ghost use Rattle.ckc_core.specs.Examples as examples;
 
 /// Small programs with what they mean, and pointers with whether they are valid.
@@ -40,4 +41,9 @@ pub fn never_short()
 /// Where the audit finds nothing, the meaning is the same without it.
 pub fn audit_changes_nothing()
     ensures { (program : Core) → AuditChangesNothing program }
+{}
+
+/// Where a run ends with a check, it came to a part of the program whose operands gave values of which that check's condition is false.
+pub fn failed_checks()
+    ensures { (program : Core) → FailedChecks program }
 {}

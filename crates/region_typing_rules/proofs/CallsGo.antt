@@ -16,7 +16,7 @@ use Rattle.ckc_core.specs.States.{Value, State}
 use Rattle.ckc_core.specs.Programs.{Import}
 use Rattle.bounds_exprs.specs.declared.term.Bounds.{Bounds}
 use Rattle.ckc_core.specs.Steps.{locals_for, asked, words_of, reply_as, back, passed, cross, cross_if, call_tainted, takes, parameters_of, enter_if, call_trusted, called}
-use Rattle.ckc_core.specs.Meaning.{Knot, Setting, value}
+use Rattle.ckc_core.specs.Meaning.{Knot, Setting}
 use Rattle.region_typing_rules.specs.Scopes.{Scope}
 use Rattle.region_typing_rules.specs.KnownIsSo.{HasLocals, IsKnown}
 use Rattle.region_typing_rules.specs.Typed as typed

@@ -59,6 +59,9 @@ pub mod NamedItems
 pub mod Kept
 pub mod Counts
 pub mod Weights
+pub mod Sites
+pub mod StatementSites
+pub mod CheckPlaces
 pub mod StatementWeights
 pub mod BodyWeights
 pub mod Keeping

@@ -1,5 +1,5 @@
 -- What has types is never stuck and never unsound: what expressions do with the values of their operands.
-use Rattle.std.proofs.Common.{◌≡◌, ◌+ℤ◌, ℕ, suc, ◌+◌, ◌<◌, ◌≤◌, Bool, true, false, ℤ, List, length, cond, Option, Some, None, refl, sym, ap, ◌∙◌, subst, arith}
+use Rattle.std.proofs.Common.{◌≡◌, ◌+ℤ◌, ℕ, suc, ◌<◌, ◌≤◌, Bool, true, false, ℤ, List, length, cond, Option, Some, None, refl, sym, ap, ◌∙◌, subst, arith}
 use Rattle.std.specs.Prelude.{◌==◌, is_some, slice_get, option_map, pos}
 use Rattle.std.proofs.lemmas.Int.{ints}
 use Rattle.std.proofs.lemmas.Bool.Decides.{nat_tests}
@@ -26,7 +26,7 @@ use Rattle.ckc_core.specs.declared.program.Direction.{Direction}
 use Rattle.bounds_exprs.specs.declared.term.Bounds.{Bounds}
 use Rattle.ckc_core.specs.Bounds.{Ends as EndsOf, base_byte, ends_at, term_value, with_ends}
 use Rattle.ckc_core.specs.Pointers.{allocated, is_terminated, are_within, not_null, ordered, ordered_if, number_given, checked_if}
-use Rattle.ckc_core.specs.Steps.{Result, given, truth, number_of_test, asked, back, passed, takes, result_given, choose, called}
+use Rattle.ckc_core.specs.Steps.{Result, given, truth, number_of_test, asked, passed, result_given, choose, called}
 use Rattle.ckc_core.specs.Meaning.{Knot, Setting, audit, bounds_of, cast_if, cast_to, cast_within, element, summed, value, values, place}
 use Rattle.region_typing_rules.specs.Scopes.{Scope}
 use Rattle.region_typing_rules.specs.Knowing.{when}

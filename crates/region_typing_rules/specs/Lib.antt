@@ -14,6 +14,7 @@ pub mod Items
 pub mod Cores
 pub mod Examples
 pub mod NeverStuck
+pub mod CheckPlaces
 pub mod KnownIsSo
 pub mod Readings
 pub mod ReadingExamples

@@ -12,6 +12,7 @@ ghost use Rattle.ckc_core.specs.Weights.{statements_weight};
 ghost use Rattle.region_typing_rules.specs.Verdicts.{Unnamed};
 ghost use Rattle.region_typing_rules.specs.Operands.{Places};
 ghost use Rattle.region_typing_rules.specs.Cores.{checked};
+ghost use Rattle.region_typing_rules.specs.CheckPlaces.{ChecksAreNamed};
 ghost use Rattle.region_typing_rules.specs.NeverStuck.{HasCore, NeverStuck, NeverUnsound, AlwaysEnds};
 ghost use Rattle.region_typing_rules.specs.KnownIsSo.{MarkedAlone};
 ghost use Rattle.region_typing_rules.specs.ConditionsAreSo.{ConditionsAreSo};
@@ -166,4 +167,10 @@ pub fn few_functions()
 /// The body of each function of a program that breaks no rule has at most five nodes for each node of its tree.
 pub fn few_nodes()
     ensures { (at : Places) (t : Tree) (c : Core) → HasCore at t c → All (λ f. statements_weight f.body ≤ 5 * tree_weight t) (parted c).functions }
+{}
+
+/// Where the run of a program that breaks no rule ends with a check, the place that it names is the start of an expression, an assignment or a
+/// declaration of its tree, and the check's condition is false there.
+pub fn named_checks()
+    ensures { (at : Places) (t : Tree) (c : Core) → HasCore at t c → ChecksAreNamed at t c }
 {}
