@@ -1,6 +1,6 @@
 // A text in memory that is written without a failure.
 
-ghost use Rattle.std.specs.Prelude.{◌≡◌, ◌≤◌, length, OnOk, OnErr};
+ghost use Rattle.std.specs.Prelude.{◌≡◌, ◌≤◌, Ok, length, OnOk, OnErr};
 ghost use Rattle.ckc_io.specs.SureSink.{nothing, with_room, with_piece};
 
 use ckc_text::fault::NoMemory;
@@ -46,8 +46,9 @@ impl SureSink {
         self.room
     }
 
-    /// Takes memory until there is room for `more` bytes more.
+    /// Takes memory until there is room for `more` bytes more, and none where there is.
     pub fn reserve(&mut self, more: usize) -> Result<(), NoMemory>
+        ensures there { more ≤ self.old.room → (result ≡ Ok tt) × (self.new ≡ self.old) }
         ensures ok { OnOk result (self.new ≡ with_room self.old more) }
         ensures err { OnErr result (self.new ≡ self.old) }
     {
