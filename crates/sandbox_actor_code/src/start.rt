@@ -1,6 +1,6 @@
 // Making an actor of an image's code.
 
-ghost use Rattle.std.specs.Prelude.{◌≡◌, ◌<◌, ◌≤◌, ◌^◌, All, IfOk, IsTrue};
+ghost use Rattle.std.specs.Prelude.{◌≡◌, ◌<◌, ◌≤◌, ◌^◌, ◌↔◌, All, IfOk, IsTrue};
 ghost use Rattle.flat_bytes.specs.Blocks.{first_offset};
 ghost use Rattle.code_words.specs.Runs.{counter_behind};
 ghost use Rattle.sandbox_actor_code.specs.Answering.{code_at_start};
@@ -43,7 +43,7 @@ impl<'a> CodeActor<'a> {
 
 // Whether static blocks lie in a memory of 2^32 bytes.
 fn lie_in_memory(blocks: &[Listed<u8>]) -> bool
-    ensures { IsTrue result → counter_behind first_offset blocks.now < 2 ^ 32 }
+    ensures { IsTrue result ↔ counter_behind first_offset blocks.now < 2 ^ 32 }
 {
     let mut end = u64::from(FIRST_OFFSET);
     for block in blocks {
