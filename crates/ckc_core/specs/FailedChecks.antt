@@ -34,7 +34,8 @@ use Rattle.ckc_core.specs.Outcome.{Gives, Ends}
 use Rattle.ckc_core.specs.Pointers.{are_within, distance, lies_in, lies_up_to}
 use Rattle.ckc_core.specs.Programs.{Import, Initial, parted}
 use Rattle.ckc_core.specs.States.{Value, Number, Null, At, Local, State, in_world}
-use Rattle.ckc_core.specs.Steps.{Flow, Next, Continued, arithmetic_of, cross, initial, is_char, is_zero, kept_if, load_at, locals_for, setting_of, truth, words_of}
+use Rattle.ckc_core.specs.Steps.{Flow, Next, Continued, arithmetic_of, cross, initial, is_char, is_zero, kept_if, load_at, locals_for}
+use Rattle.ckc_core.specs.Steps.{setting_of, truth, words_of}
 
 -- ---- conditions that are false
 
@@ -206,7 +207,8 @@ pub data Breaks (g : Setting) (k : Knot) : Part → State → Code → Site → 
       → Breaks g k (OfExpression (core.Negate e site)) s C6 site
   sum_of_null : {e f : core.Expression} {direction : Direction} {site : Site} {b : Option PointerBounds} {n : ℤ} {s t u : State}
       → value false g k e s ≡ Gives Null t → value false g k f t ≡ Gives (Number n) u → Breaks g k (OfExpression (core.Sum e direction f site b)) s C1 site
-  sum_outside : {e f : core.Expression} {direction : Direction} {site : Site} {b : Option PointerBounds} {n : ℤ} {block byte : ℕ} {ends : EndsOf} {s t u : State}
+  sum_outside : {e f : core.Expression} {direction : Direction} {site : Site} {b : Option PointerBounds} {n : ℤ} {block byte : ℕ} {ends : EndsOf}
+      {s t u : State}
       → value false g k e s ≡ Gives (At block byte) t → value false g k f t ≡ Gives (Number n) u
       → (with_ends (bounds_of e) (At block byte) t.locals).ends ≡ Some ends → lies_up_to ends (pos byte +ℤ distance direction ends.size n) ≡ false
       → Breaks g k (OfExpression (core.Sum e direction f site b)) s C2 site
@@ -214,7 +216,8 @@ pub data Breaks (g : Setting) (k : Knot) : Part → State → Code → Site → 
       → value false g k f t ≡ Gives v u → Breaks g k (OfExpression (core.Order comparison e f site)) s C1 site
   right_null : {comparison : Comparison} {e f : core.Expression} {site : Site} {v : Value} {s t u : State} → value false g k e s ≡ Gives v t
       → value false g k f t ≡ Gives Null u → Breaks g k (OfExpression (core.Order comparison e f site)) s C1 site
-  length_of_null : {e : core.Expression} {site : Site} {s t : State} → value false g k e s ≡ Gives Null t → Breaks g k (OfExpression (core.Length e site)) s C1 site
+  length_of_null : {e : core.Expression} {site : Site} {s t : State} → value false g k e s ≡ Gives Null t
+      → Breaks g k (OfExpression (core.Length e site)) s C1 site
   length_outside : {e : core.Expression} {site : Site} {block byte : ℕ} {ends : EndsOf} {s t : State} → value false g k e s ≡ Gives (At block byte) t
       → (with_ends (bounds_of e) (At block byte) t.locals).ends ≡ Some ends → lies_up_to ends (pos byte) ≡ false
       → Breaks g k (OfExpression (core.Length e site)) s C2 site
